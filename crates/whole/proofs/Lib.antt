@@ -1,0 +1,4 @@
+-- Laws of the definitions of `whole`, for its own proofs and its callers'.
+pub mod WholeLaws
+pub mod DecimalLaws
+pub mod SetsLaws

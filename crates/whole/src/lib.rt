@@ -1,0 +1,140 @@
+// f64 values that are whole numbers up to TOP, and whole numbers in decimal: what the Rust has `f64`, `parse::<f64>` and `format!` for.
+// Whole numbers are `ofNat` of specs/Whole.antt, decimal text is `decimal` of specs/Decimal.antt.
+ghost use mathlib.Core.Path.{_≡_};
+ghost use mathlib.Core.Bool.{cond};
+ghost use Prim.Native.Nat.{ℕ, _+_, _*_, _≤_};
+ghost use lib.Dec.{ltb};
+ghost use lib.ListN.{length};
+ghost use lib.Seq.{sets};
+ghost use Rattle.whole.specs.Whole.{TOP, ofNat, IsWhole};
+ghost use Rattle.whole.specs.Answers.{value, number, readDigits};
+ghost use Rattle.whole.specs.Decimal.{decimal};
+
+// A product or a sum: the f64 itself, or the answer that it is above TOP (refusal 7).
+pub enum Value {
+    Fits(f64),
+    Above,
+}
+
+// A whole number in decimal digits: the number, or the answer that it is above TOP.
+pub enum Number {
+    Fits(u64),
+    Above,
+}
+
+// What a row of bytes says in decimal: the number; that it is above TOP; or that a byte is no ASCII digit.
+pub enum Row {
+    Fits(u64),
+    Above,
+    NoDigits,
+}
+
+// Whether x is above TOP: exact also where x is a product or a sum that was rounded.
+pub fn above_top(x: f64) -> bool
+    ensures { λ r. ⌜ ((k : ℕ) → x ≡ ofNat k → r ≡ ltb TOP k) ⌝ }
+{
+    x > 9007199254740991.0
+}
+
+fn fit(x: f64) -> Value
+    ensures { λ r. ⌜ ((k : ℕ) → x ≡ ofNat k → r ≡ value k) ⌝ }
+{
+    if above_top(x) {
+        Value::Above
+    } else {
+        Value::Fits(x)
+    }
+}
+
+pub fn product(a: f64, b: f64) -> Value
+    ensures { λ r. ⌜ ((m n : ℕ) → m ≤ TOP → n ≤ TOP → a ≡ ofNat m → b ≡ ofNat n → r ≡ value (m * n)) ⌝ }
+{
+    fit(a * b)
+}
+
+pub fn sum(a: f64, b: f64) -> Value
+    ensures { λ r. ⌜ ((m n : ℕ) → m ≤ TOP → n ≤ TOP → a ≡ ofNat m → b ≡ ofNat n → r ≡ value (m + n)) ⌝ }
+{
+    fit(a + b)
+}
+
+pub fn of_u64(n: u64) -> f64
+    requires { ⌜ n ≤ TOP ⌝ }
+    ensures { λ r. ⌜ r ≡ ofNat n ⌝ }
+{
+    n as f64
+}
+
+pub fn to_u64(x: f64) -> u64
+    requires { ⌜ IsWhole x ⌝ }
+    ensures { λ r. ⌜ ((n : ℕ) → n ≤ TOP → x ≡ ofNat n → r ≡ n) ⌝ }
+{
+    x as u64
+}
+
+// How many bytes the decimal text of n has.
+pub fn decimal_len(n: u64) -> usize
+    ensures { λ r. ⌜ r ≡ length (decimal n) ⌝ }
+{
+    if n < 10 { 1 } else { decimal_len(n / 10) + 1 }
+}
+
+// Writes the decimal text of n at an offset, and answers the offset behind it.
+pub fn put_decimal(out: &mut [u8], at: usize, n: u64) -> usize
+    requires { ⌜ at + length (decimal n) ≤ length (now out) ⌝ }
+    ensures next { λ r. ⌜ r ≡ at + length (decimal n) ⌝ }
+    ensures written { λ _. ⌜ now (out .exit) ≡ sets (now (out .entry)) at (decimal n) ⌝ }
+{
+    if n < 10 {
+        out[at] = (48 + n) as u8;
+        return at + 1;
+    }
+    let last = put_decimal(out, at, n / 10);
+    out[last] = (48 + n % 10) as u8;
+    last + 1
+}
+
+// The number with one digit more.
+pub fn with_digit(n: u64, digit: u8) -> Number
+    requires { ⌜ (n ≤ TOP) × (digit ≤ 9) ⌝ }
+    ensures { λ r. ⌜ r ≡ number (n * 10 + digit) ⌝ }
+{
+    let more = n * 10 + digit as u64;
+    if more > 9007199254740991 {
+        Number::Above
+    } else {
+        Number::Fits(more)
+    }
+}
+
+// The value of a row of digits with one more; a value above TOP stays as it is, so that no row overflows.
+fn row_with(value: u64, digit: u8) -> u64
+    ensures { λ r. ⌜ r ≡ cond (ltb TOP value) value (value * 10 + digit) ⌝ }
+{
+    if value > 9007199254740991 {
+        value
+    } else {
+        value * 10 + digit as u64
+    }
+}
+
+// What a row of ASCII digits says, the first the most significant.
+pub fn read_digits(s: &[u8]) -> Row
+    ensures { λ r. ⌜ r ≡ readDigits (now (s .entry)) ⌝ }
+{
+    let mut value = 0;
+    let mut i = 0;
+    while i < s.len() {
+        let byte = s[i];
+        if byte < 48 || byte > 57 {
+            return Row::NoDigits;
+        }
+        value = row_with(value, byte - 48);
+        i += 1;
+    }
+    if value > 9007199254740991 {
+        Row::Above
+    } else {
+        Row::Fits(value)
+    }
+}
