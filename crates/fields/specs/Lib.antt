@@ -1,0 +1,3 @@
+-- The definitions that the contracts of `fields` cite.
+pub mod Fields
+pub mod Part

@@ -1,0 +1,9 @@
+-- A part of a list of bytes (01: "a part of the listing .. a part of the line"). Definitions only.
+--     part s at n    the n bytes of s from the offset at on; fewer where s ends before
+-- Assumes nothing.
+use mathlib.Core.List.{List}
+use Prim.Native.Nat.{ℕ}
+use lib.ListN.{take, drop}
+
+unfoldable pub part : List ℕ → ℕ → ℕ → List ℕ
+part s at n = take n (drop at s)
