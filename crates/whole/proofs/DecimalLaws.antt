@@ -1,5 +1,5 @@
 -- Laws of `decimal`, `digitsFrom` and `readFrom` (`specs/Decimal.antt`, `specs/Answers.antt`), for this crate's proofs and its callers'. No contract cites this file.
--- In order: the text of one digit and of more; its length; its bytes; the text read back; rows of digits and `readFrom`.
+-- In order: the text of one digit and of more; its length; its stores; rows of digits; the text and its number; bytes that are digits; rows of bytes.
 -- Assumes nothing.
 use mathlib.Core.Path.{_≡_, refl, sym, ap, _∙_}
 use mathlib.Core.Bool.{Bool, true, false, cond}
@@ -11,13 +11,13 @@ use lib.Pow.{pow-add}
 use native.Mathlib.Omega.{arith}
 use native.Mathlib.Decide.{decLt}
 use lib.Dec.{ltb}
-use lib.ListN.{length, length-append, drop, drop-of-length-le, getD, set}
-use lib.Seq.{sets, drop-cons}
+use lib.ListN.{length, length-append, drop, drop-of-length-le, getD, set, replicate, List·getD-append}
+use lib.Seq.{sets, drop-cons, getD-append-seam}
 use borrow.Author.Tests.{lt-ltb, le-ltb, le-leb, lt-leb}
 use Rattle.whole.proofs.SetsLaws.{sets-then}
 use Rattle.whole.specs.declared.Row.{Row}
 use Rattle.whole.specs.declared.Row.the-variants as Row
-use Rattle.whole.specs.Answers.{readFrom, readDigits}
+use Rattle.whole.specs.Answers.{row, readFrom, readDigits}
 use Rattle.whole.specs.Whole.{TOP}
 use Rattle.whole.specs.Decimal.{decimal, decimalWithin, digitsFrom, digitsValue, isDigit, digitOf}
 
@@ -25,11 +25,11 @@ use Rattle.whole.specs.Decimal.{decimal, decimalWithin, digitsFrom, digi
 within-one : (k n : ℕ) → n < 10 → decimalWithin k n ≡ (48 + n) ∷ []
 unfolding decimalWithin
 within-one zero n h = refl
-within-one (suc k) n h = rw (lt-ltb n 10 h)
+within-one (suc k) n h = rw (lt-ltb n 10 h, decimalWithin)
 
 within-more : (k n : ℕ) → 10 ≤ n → decimalWithin (suc k) n ≡ decimalWithin k (n / 10) ++ ((48 + n % 10) ∷ [])
 unfolding decimalWithin
-within-more k n h = rw (le-ltb n 10 h)
+within-more k n h = rw (le-ltb n 10 h, decimalWithin)
 
 -- more divisions than n change nothing
 within-enough : (j k n : ℕ) → n ≤ j → n ≤ k → decimalWithin j n ≡ decimalWithin k n
@@ -51,6 +51,19 @@ unfolding decimal
 decimal-more zero h = absurd (omega arith)
 decimal-more (suc k) h =
     within-more k (suc k) h ∙ ap (λ (t : List ℕ). t ++ ((48 + suc k % 10) ∷ [])) (within-enough k (suc k / 10) (suc k / 10) (omega arith) (le-refl _))
+
+-- a property of every number, by its digits
+module _ (P : ℕ → Type 0) (one : (n : ℕ) → n < 10 → P n) (more : (n : ℕ) → 10 ≤ n → P (n / 10) → P n) where
+  within-ind : (k n : ℕ) → n ≤ k → P n
+  within-ind zero n h = one n (omega arith)
+  within-ind (suc k) n h = go (decLt n 10) (λ l. within-ind k (n / 10) (omega arith))
+    where
+      go : Dec (n < 10) → (10 ≤ n → P (n / 10)) → P n
+      go (yes l) f = one n l
+      go (no l) f = more n (omega arith) (f (omega arith))
+
+  pub decimal-ind : (n : ℕ) → P n
+  decimal-ind n = within-ind n n (le-refl n)
 
 -- ---- its length
 pub length-decimal-one : (n : ℕ) → n < 10 → length (decimal n) ≡ 1
@@ -79,11 +92,7 @@ pub length-decimal-top : (n : ℕ) → n ≤ TOP → length (decimal n) ≤ 16
 length-decimal-top n h = length-decimal-le 15 n (omega arith)
 
 pub length-decimal-pos : (n : ℕ) → 0 < length (decimal n)
-length-decimal-pos n = go (decLt n 10)
-  where
-    go : Dec (n < 10) → 0 < length (decimal n)
-    go (yes l) = omega (arith, length-decimal-one n l)
-    go (no l) = omega (arith, length-decimal-more n (omega arith))
+length-decimal-pos = decimal-ind (λ n. 0 < length (decimal n)) (λ n h. omega (arith, length-decimal-one n h)) (λ n h i. omega (arith, length-decimal-more n h))
 
 -- ---- its stores: the last digit behind those of n / 10
 pub decimal-stored-one : (s : List ℕ) (at n : ℕ) → n < 10 → set s at (48 + n) ≡ sets s at (decimal n)
@@ -92,15 +101,97 @@ decimal-stored-one s at n h = rw (decimal-one n h)
 pub decimal-stored-more : (s : List ℕ) {t : List ℕ} (at n : ℕ) {last : ℕ} → 10 ≤ n → t ≡ sets s at (decimal (n / 10)) → last ≡ at + length (decimal (n / 10)) → set t last (48 + n % 10) ≡ sets s at (decimal n)
 decimal-stored-more s at n {last} h p e = rw (decimal-more n h) (sets-then s at last (decimal (n / 10)) _ p e refl)
 
--- ---- rows of bytes
+-- ---- rows of digits
+pub digitsFrom-append : (v : ℕ) (ds es : List ℕ) → digitsFrom v (ds ++ es) ≡ digitsFrom (digitsFrom v ds) es
+unfolding digitsFrom
+digitsFrom-append v [] es = refl
+digitsFrom-append v (d ∷ ds) es = digitsFrom-append (v * 10 + d) ds es
+
+-- one digit more
+pub digitsFrom-snoc : (v : ℕ) (ds : List ℕ) (d : ℕ) → digitsFrom v (ds ++ (d ∷ [])) ≡ digitsFrom v ds * 10 + d
+unfolding digitsFrom
+digitsFrom-snoc v ds d = digitsFrom-append v ds (d ∷ [])
+
+-- further digits never lower a value: once above TOP, always above
+pub digitsFrom-le : (v : ℕ) (ds : List ℕ) → v ≤ digitsFrom v ds
+unfolding digitsFrom
+digitsFrom-le v [] = le-refl v
+digitsFrom-le v (d ∷ ds) = le-trans (omega arith) (digitsFrom-le (v * 10 + d) ds)
+
+pub digitsFrom-above : (v : ℕ) (ds : List ℕ) → TOP < v → TOP < digitsFrom v ds
+digitsFrom-above v ds h = omega (arith, digitsFrom-le v ds)
+
+-- leading zeros don't count
+pub digitsValue-zeros : (k : ℕ) (ds : List ℕ) → digitsValue (replicate k 0 ++ ds) ≡ digitsValue ds
+unfolding digitsFrom
+digitsValue-zeros zero ds = refl
+digitsValue-zeros (suc k) ds = digitsValue-zeros k ds
+
+-- ---- the text and its number
+pub digitsValue-decimal : (n : ℕ) → digitsValue (map digitOf (decimal n)) ≡ n
+unfolding digitsFrom
+digitsValue-decimal = decimal-ind (λ n. digitsValue (map digitOf (decimal n)) ≡ n) one more
+  where
+    one : (n : ℕ) → n < 10 → digitsValue (map digitOf (decimal n)) ≡ n
+    one n h = rw (decimal-one n h) (omega arith)
+
+    more : (n : ℕ) → 10 ≤ n → digitsValue (map digitOf (decimal (n / 10))) ≡ n / 10 → digitsValue (map digitOf (decimal n)) ≡ n
+    more n h e = rw (decimal-more n h, map-append digitOf (decimal (n / 10)) _, digitsFrom-snoc, e) (omega arith)
+
+pub decimal-injective : {m n : ℕ} → decimal m ≡ decimal n → m ≡ n
+decimal-injective {m} {n} e = sym (digitsValue-decimal m) ∙ ap (λ (t : List ℕ). digitsValue (map digitOf t)) e ∙ digitsValue-decimal n
+
+-- ---- bytes that are digits
 pub isDigit-yes : {b : ℕ} → 48 ≤ b → b ≤ 57 → isDigit b ≡ true
 isDigit-yes h k = rw (le-leb _ _ h, le-leb _ _ k)
+
+pub isDigit-ascii : (d : ℕ) → d ≤ 9 → isDigit (48 + d) ≡ true
+isDigit-ascii d h = isDigit-yes {b = 48 + d} (omega arith) (omega arith)
 
 pub isDigit-below : {b : ℕ} → b < 48 → isDigit b ≡ false
 isDigit-below h = rw (lt-leb _ _ h)
 
 pub isDigit-over : {b : ℕ} → 57 < b → isDigit b ≡ false
 isDigit-over {b} h = rw (lt-leb b 57 h, le-leb 48 b (omega arith))
+
+-- every byte is an ASCII digit
+abbrev pub AllDigits : List ℕ → Type 0
+AllDigits bs = (i : ℕ) → i < length bs → isDigit (getD bs i 0) ≡ true
+
+all-digits-snoc : (bs : List ℕ) (b : ℕ) → AllDigits bs → isDigit b ≡ true → AllDigits (bs ++ (b ∷ []))
+all-digits-snoc bs b f h i k = go (decLt i (length bs))
+  where
+    go : Dec (i < length bs) → isDigit (getD (bs ++ (b ∷ [])) i 0) ≡ true
+    go (yes l) = rw (List·getD-append bs (b ∷ []) 0 i l) (f i l)
+    go (no l) = let e : i ≡ length bs = omega (arith, simp length-append at k) in rw (e, getD-append-seam bs b [] 0) h
+
+pub decimal-digits : (n : ℕ) → AllDigits (decimal n)
+decimal-digits = decimal-ind (λ n. AllDigits (decimal n)) one more
+  where
+    one : (n : ℕ) → n < 10 → AllDigits (decimal n)
+    one n h = rw (decimal-one n h) (all-digits-snoc [] (48 + n) (λ i k. absurd (omega arith)) (isDigit-ascii n (omega arith)))
+
+    more : (n : ℕ) → 10 ≤ n → AllDigits (decimal (n / 10)) → AllDigits (decimal n)
+    more n h f = rw (decimal-more n h) (all-digits-snoc (decimal (n / 10)) (48 + n % 10) f (isDigit-ascii (n % 10) (omega arith)))
+
+-- no leading zero but in "0"
+pub decimal-first : (n : ℕ) → 0 < n → 48 < getD (decimal n) 0 0
+decimal-first = decimal-ind (λ n. 0 < n → 48 < getD (decimal n) 0 0) one more
+  where
+    one : (n : ℕ) → n < 10 → 0 < n → 48 < getD (decimal n) 0 0
+    one n h k = rw (decimal-one n h) (omega arith)
+
+    more : (n : ℕ) → 10 ≤ n → (0 < n / 10 → 48 < getD (decimal (n / 10)) 0 0) → 0 < n → 48 < getD (decimal n) 0 0
+    more n h f k = rw (decimal-more n h, List·getD-append (decimal (n / 10)) ((48 + n % 10) ∷ []) 0 0 (length-decimal-pos (n / 10))) (f (omega arith))
+
+-- ---- rows of bytes
+pub readFrom-digits : (v : ℕ) (bs : List ℕ) → AllDigits bs → readFrom v bs ≡ row (digitsFrom v (map digitOf bs))
+unfolding readFrom digitsFrom
+readFrom-digits v [] f = refl
+readFrom-digits v (b ∷ bs) f = rw (f 0 (omega arith)) (readFrom-digits (v * 10 + digitOf b) bs (λ i h. f (suc i) (omega arith)))
+
+pub readDigits-decimal : (n : ℕ) → n ≤ TOP → readDigits (decimal n) ≡ Row.Fits n
+readDigits-decimal n h = readFrom-digits 0 (decimal n) (decimal-digits n) ∙ rw (digitsValue-decimal n, le-ltb TOP n h)
 
 -- above TOP the value no longer counts
 read-above : (v w : ℕ) (bs : List ℕ) → TOP < v → TOP < w → readFrom v bs ≡ readFrom w bs
@@ -111,7 +202,7 @@ read-above v w (b ∷ bs) h k =
 
 -- a turn of a loop: v is the value of the bytes before i, or both are above TOP
 module _ (s : List ℕ) (v i : ℕ) (so-far : readFrom v (drop i s) ≡ readDigits s) where
-  pub turn-ends : length s ≤ i → readDigits s ≡ cond (ltb TOP v) Row.Above (Row.Fits v)
+  pub turn-ends : length s ≤ i → readDigits s ≡ row v
   unfolding readFrom
   turn-ends h = sym so-far ∙ rw (drop-of-length-le s {i = i} h)
 

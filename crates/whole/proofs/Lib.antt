@@ -2,3 +2,5 @@
 pub mod WholeLaws
 pub mod DecimalLaws
 pub mod SetsLaws
+pub mod Theorems
+pub mod Cases

@@ -1,6 +1,7 @@
 -- What the functions of `whole` answer, case by case. Definitions only.
 --     value n          a product or a sum n: the f64 of n, or Above where n is above TOP
 --     number n         the whole number n, or Above where it is above TOP
+--     row n            the number n that a row of digits says, or Above where it is above TOP
 --     readDigits bs    what the bytes bs say in decimal: NoDigits where one of them is no ASCII digit, else the number, or Above; no bytes say 0
 -- Assumes nothing.
 use mathlib.Core.Bool.{cond}
@@ -22,9 +23,12 @@ value n = cond (ltb TOP n) Value.Above (Value.Fits (ofNat n))
 abbrev pub number : ℕ → Number
 number n = cond (ltb TOP n) Number.Above (Number.Fits n)
 
+abbrev pub row : ℕ → Row
+row n = cond (ltb TOP n) Row.Above (Row.Fits n)
+
 -- a row of digits that goes on with bs, after digits of value v
 unfoldable pub readFrom : ℕ → List ℕ → Row
-readFrom v [] = cond (ltb TOP v) Row.Above (Row.Fits v)
+readFrom v [] = row v
 readFrom v (b ∷ bs) = cond (isDigit b) (readFrom (v * 10 + digitOf b) bs) Row.NoDigits
 
 abbrev pub readDigits : List ℕ → Row

@@ -5,15 +5,15 @@
 --     isDigit b          whether b is an ASCII digit
 --     digitOf b          the value of an ASCII digit
 -- Assumes nothing.
-use mathlib.Core.Bool.{Bool, cond, _&&_}
+use mathlib.Core.Bool.{Bool, true, false, _&&_}
 use mathlib.Core.List.{List, [], _∷_, _++_}
 use Prim.Native.Nat.{ℕ, zero, suc, _+_, _*_, _-_, _/_, _%_}
 use lib.Dec.{ltb, leb}
 
--- the text of n by at most k divisions
+-- the text of n by at most k divisions; `elim`, where `cond` would compute them all
 unfoldable pub decimalWithin : ℕ → ℕ → List ℕ
 decimalWithin zero n = (48 + n) ∷ []
-decimalWithin (suc k) n = cond (ltb n 10) ((48 + n) ∷ []) (decimalWithin k (n / 10) ++ ((48 + n % 10) ∷ []))
+decimalWithin (suc k) n = elim (ltb n 10) [ true ↦ (48 + n) ∷ [] | false ↦ decimalWithin k (n / 10) ++ ((48 + n % 10) ∷ []) ]
 
 -- n divisions are more than enough
 unfoldable pub decimal : ℕ → List ℕ
