@@ -1,0 +1,3 @@
+-- The laws of `text`'s definitions.
+pub mod Rows
+pub mod SequenceLaws

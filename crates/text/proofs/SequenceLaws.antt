@@ -1,0 +1,93 @@
+-- Laws of `trailing` and `seq` (`specs/Sequence.antt`). In order: a sequence that is cut off; one byte more; two, three and four bytes at an offset.
+use mathlib.Core.Path.{_≡_, refl, sym, ap, _∙_}
+use mathlib.Core.Bool.{Bool, true, false, cond, _&&_}
+use mathlib.Core.List.{List, [], _∷_}
+use Prim.Native.Nat.{ℕ, zero, suc, _+_, _%_, _≤_, _<_}
+use native.Mathlib.Numerals.{add-one}
+use native.Mathlib.Omega.{arith}
+use lib.ListN.{length, getD, drop, length-drop, drop-of-length-le}
+use lib.Seq.{drop-cons}
+use borrow.Author.Tests.{ne-eqb}
+use Rattle.text.specs.declared.Row.{Row}
+use Rattle.text.specs.declared.Seq.{Seq}
+use Rattle.text.specs.declared.Seq.the-variants.{Char, Ill, End}
+use Rattle.text.specs.Table.{rowOf, within, trail, six}
+use Rattle.text.specs.Sequence.{trailing, bySize, seq}
+
+cond-same : (b : Bool) (x : Seq) → cond b x x ≡ x
+cond-same true x = refl
+cond-same false x = refl
+
+cond-and : (p q : Bool) (x y : Seq) → cond (p && q) x y ≡ cond p (cond q x y) y
+cond-and true q x y = refl
+cond-and false q x y = refl
+
+-- too few bytes
+pub trailing-cut : (n lo hi c l : ℕ) (s : List ℕ) → length s < n → trailing n lo hi c l s ≡ Ill
+unfolding trailing
+trailing-cut zero lo hi c l s h = absurd (omega arith)
+trailing-cut (suc n) lo hi c l [] h = refl
+trailing-cut (suc n) lo hi c l (x ∷ s) h = rw (trailing-cut n 0x80 0xBF (six c x) (l + 1) s (omega arith)) (cond-same (within lo hi x) Ill)
+
+pub cut-at : (n lo hi c l : ℕ) (s : List ℕ) (at : ℕ) → at ≤ length s → length s < at + n → Ill ≡ trailing n lo hi c l (drop at s)
+cut-at n lo hi c l s at k h = sym (trailing-cut n lo hi c l (drop at s) (rw length-drop (omega arith)))
+
+-- ---- bytes at an offset
+module _ (s : List ℕ) where
+  pub drop-at : (at : ℕ) → at < length s → drop at s ≡ getD s at 0 ∷ drop (at + 1) s
+  drop-at at h = rw (add-one) (drop-cons s at 0 h)
+
+  trailing-at : (n lo hi c l i j : ℕ) → i < length s → j ≡ i + 1
+      → trailing (suc n) lo hi c l (drop i s) ≡ cond (within lo hi (getD s i 0)) (trailing n 0x80 0xBF (six c (getD s i 0)) (l + 1) (drop j s)) Ill
+  unfolding trailing
+  trailing-at n lo hi c l i j h e = rw (drop-at i h, e)
+
+  module _ (lo hi at b : ℕ) where
+    pub two-at : at + 1 < length s
+        → cond (within lo hi (getD s (at + 1) 0)) (Char (six b (getD s (at + 1) 0)) 2) Ill ≡ trailing 1 lo hi b 1 (drop (at + 1) s)
+    unfolding trailing
+    two-at h = rw (trailing-at 0 lo hi b 1 (at + 1) (at + 2) h (omega arith))
+
+    pub three-at : at + 2 < length s
+        → cond (within lo hi (getD s (at + 1) 0) && trail (getD s (at + 2) 0)) (Char (six (six b (getD s (at + 1) 0)) (getD s (at + 2) 0)) 3) Ill
+        ≡ trailing 2 lo hi b 1 (drop (at + 1) s)
+    unfolding trailing
+    three-at h = rw (cond-and, trailing-at 1 lo hi b 1 (at + 1) (at + 2) (omega arith) (omega arith), trailing-at 0 0x80 0xBF _ _ (at + 2) (at + 3) h (omega arith))
+
+    pub four-at : at + 3 < length s
+        → cond (within lo hi (getD s (at + 1) 0) && trail (getD s (at + 2) 0) && trail (getD s (at + 3) 0))
+        (Char (six (six (six b (getD s (at + 1) 0)) (getD s (at + 2) 0)) (getD s (at + 3) 0)) 4)
+        Ill
+        ≡ trailing 3 lo hi b 1 (drop (at + 1) s)
+    unfolding trailing
+    four-at h =
+        rw (cond-and, cond-and, trailing-at 2 lo hi b 1 (at + 1) (at + 2) (omega arith) (omega arith), trailing-at 1 0x80 0xBF _ _ (at + 2) (at + 3) (omega arith) (omega arith), trailing-at 0 0x80 0xBF _ _ (at + 3) (at + 4) h (omega arith))
+
+  pub seq-end : (at : ℕ) → length s ≤ at → End ≡ seq (drop at s)
+  unfolding seq
+  seq-end at h = rw (drop-of-length-le s h)
+
+  module _ (at : ℕ) (h : at < length s) (r : Row) (e : r ≡ rowOf (getD s at 0)) where
+    seq-at : seq (drop at s) ≡ bySize (r .len) (r .lo) (r .hi) (getD s at 0) (drop (at + 1) s)
+    unfolding seq
+    seq-at = rw (drop-at at h, e)
+
+    pub seq-one : r .len ≡ 1 → Char (getD s at 0) 1 ≡ seq (drop at s)
+    unfolding bySize
+    seq-one p = rw (seq-at, p)
+
+    pub seq-two : r .len ≡ 2 → trailing 1 (r .lo) (r .hi) (getD s at 0 % 32) 1 (drop (at + 1) s) ≡ seq (drop at s)
+    unfolding bySize
+    seq-two p = rw (seq-at, p)
+
+    pub seq-three : r .len ≡ 3 → trailing 2 (r .lo) (r .hi) (getD s at 0 % 16) 1 (drop (at + 1) s) ≡ seq (drop at s)
+    unfolding bySize
+    seq-three p = rw (seq-at, p)
+
+    pub seq-four : r .len ≡ 4 → trailing 3 (r .lo) (r .hi) (getD s at 0 % 8) 1 (drop (at + 1) s) ≡ seq (drop at s)
+    unfolding bySize
+    seq-four p = rw (seq-at, p)
+
+    pub seq-none : (r .len ≡ 1 → ⊥) → (r .len ≡ 2 → ⊥) → (r .len ≡ 3 → ⊥) → (r .len ≡ 4 → ⊥) → Ill ≡ seq (drop at s)
+    unfolding bySize
+    seq-none n1 n2 n3 n4 = rw seq-at (simp (ne-eqb (r .len) 1 n1, ne-eqb (r .len) 2 n2, ne-eqb (r .len) 3 n3, ne-eqb (r .len) 4 n4))

@@ -1,0 +1,3 @@
+-- The definitions of `text`.
+pub mod Table
+pub mod Sequence
