@@ -1,3 +1,4 @@
 -- The laws of `text`'s definitions.
 pub mod Rows
 pub mod SequenceLaws
+pub mod EncodeLaws

@@ -1,3 +1,4 @@
 -- The definitions of `text`.
 pub mod Table
 pub mod Sequence
+pub mod Line

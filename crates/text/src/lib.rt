@@ -179,3 +179,10 @@ pub fn seq_at(s: &[u8], at: Offset) -> Seq
         _ => Seq::Ill,
     }
 }
+
+// What a line is: so many characters; ill-formed, with the offset of the first ill-formed sequence; longer than MAX_CHARS, with the offset of the character behind them.
+pub enum LineCheck {
+    Chars(usize),
+    IllFormed(Offset),
+    TooLong(Offset),
+}

@@ -1,0 +1,162 @@
+-- Encoding and decoding agree: what `seq` reads as c is `encode c`, of a scalar value c, and the bytes of a scalar value are read as it.
+-- In order: tests; the rows of table 3-7 by cases; the bytes of a code point by its size; `seq` reads `encode`; `seq` reads nothing else.
+use mathlib.Core.Path.{_≡_, refl, sym, ap, _∙_, subst}
+use mathlib.Core.Bool.{Bool, true, false, cond, _&&_, _||_, true≢false}
+use mathlib.Core.List.{List, [], _∷_, _++_}
+use mathlib.Core.Logic.{inl, inr}
+use Prim.Native.Nat.{ℕ, zero, suc, _+_, _*_, _/_, _%_, _≤_, _<_}
+use native.Mathlib.Omega.{arith}
+use lib.ListN.{length, drop, length-append}
+use lib.Seq.{append-snoc, drop-append-seam}
+use lib.Dec.{leb, ltb, eqb}
+use borrow.Author.Tests.{le-leb, lt-leb, lt-ltb, le-ltb, leb-true, leb-false, ltb-true, ltb-false, eqb-true, eqb-false}
+use Rattle.text.specs.declared.Row.{Row}
+use Rattle.text.specs.declared.Seq.{Seq}
+use Rattle.text.specs.declared.Seq.the-variants.{Char, Ill, End}
+use Rattle.text.specs.Table.{row, rowOf, within, trail, six}
+use Rattle.text.specs.Sequence.{trailing, bySize, seq, scalar, encode, trailByte}
+
+-- ---- tests
+pub cond-cases : {A : Type 0} (P : A → Type 0) (t : Bool) {x y : A} → (t ≡ true → P x) → (t ≡ false → P y) → P (cond t x y)
+cond-cases P true f g = f refl
+cond-cases P false f g = g refl
+
+and-true : (p q : Bool) → (p && q) ≡ true → (p ≡ true) × (q ≡ true)
+and-true true q e = (refl, e)
+and-true false q e = absurd (true≢false (sym e))
+
+within-is : (lo hi x : ℕ) → within lo hi x ≡ true → (lo ≤ x) × (x ≤ hi)
+within-is lo hi x e = let h = and-true (leb lo x) (leb x hi) e in (leb-true lo x (h .0), leb-true x hi (h .1))
+
+is-within : (lo hi x : ℕ) → lo ≤ x → x ≤ hi → within lo hi x ≡ true
+is-within lo hi x h k = simp (le-leb lo x h, le-leb x hi k)
+
+-- ---- the rows
+module _ (b : ℕ) (P : Row → Type 0) where
+  by-row : (b ≤ 0x7F → P (row 1 0 0)) → (0xC2 ≤ b → b ≤ 0xDF → P (row 2 0x80 0xBF))
+      → (b ≡ 0xE0 → P (row 3 0xA0 0xBF)) → (0xE1 ≤ b → b ≤ 0xEC → P (row 3 0x80 0xBF)) → (b ≡ 0xED → P (row 3 0x80 0x9F)) → (0xEE ≤ b → b ≤ 0xEF → P (row 3 0x80 0xBF))
+      → (b ≡ 0xF0 → P (row 4 0x90 0xBF)) → (0xF1 ≤ b → b ≤ 0xF3 → P (row 4 0x80 0xBF)) → (b ≡ 0xF4 → P (row 4 0x80 0x8F))
+      → P (row 0 0 0) → P (rowOf b)
+  unfolding rowOf
+  by-row one two e0 e1 ed ee f0 f1 f4 none =
+      range 0x00 0x7F (λ h k. one k)
+      (range 0xC2 0xDF two
+      (lead 0xE0 e0
+      (range 0xE1 0xEC e1
+      (lead 0xED ed
+      (range 0xEE 0xEF ee
+      (lead 0xF0 f0
+      (range 0xF1 0xF3 f1
+      (lead 0xF4 f4 none))))))))
+    where
+      range : (lo hi : ℕ) {x y : Row} → (lo ≤ b → b ≤ hi → P x) → P y → P (cond (within lo hi b) x y)
+      range lo hi f g = cond-cases P (within lo hi b) (λ t. let h = within-is lo hi b t in f (h .0) (h .1)) (λ t. g)
+      lead : (v : ℕ) {x y : Row} → (b ≡ v → P x) → P y → P (cond (eqb b v) x y)
+      lead v f g = cond-cases P (eqb b v) (λ t. f (eqb-true b v t)) (λ t. g)
+
+-- ---- the bytes of a code point, by its size
+module _ (c : ℕ) where
+  encode-one : c < 0x80 → encode c ≡ c ∷ []
+  unfolding encode
+  encode-one h = simp (lt-ltb c 0x80 h)
+
+  encode-two : 0x80 ≤ c → c < 0x800 → encode c ≡ (0xC0 + c / 64) ∷ trailByte c ∷ []
+  unfolding encode
+  encode-two h k = simp (le-ltb c 0x80 h, lt-ltb c 0x800 k)
+
+  encode-three : 0x800 ≤ c → c < 0x10000 → encode c ≡ (0xE0 + c / 4096) ∷ trailByte (c / 64) ∷ trailByte c ∷ []
+  unfolding encode
+  encode-three h k = simp (le-ltb c 0x80 (omega arith), le-ltb c 0x800 h, lt-ltb c 0x10000 k)
+
+  encode-four : 0x10000 ≤ c → encode c ≡ (0xF0 + c / 262144) ∷ trailByte (c / 4096) ∷ trailByte (c / 64) ∷ trailByte c ∷ []
+  unfolding encode
+  encode-four h = simp (le-ltb c 0x80 (omega arith), le-ltb c 0x800 (omega arith), le-ltb c 0x10000 h)
+
+  scalar-low : c ≤ 0xD7FF → scalar c ≡ true
+  scalar-low h = simp (is-within 0 0xD7FF c (omega arith) h)
+
+  scalar-high : 0xE000 ≤ c → c ≤ 0x10FFFF → scalar c ≡ true
+  scalar-high h k = simp (le-leb 0 c (omega arith), lt-leb c 0xD7FF (omega arith), is-within 0xE000 0x10FFFF c h k)
+
+-- ---- what is read at the start of s: a character's own bytes
+pub data Sound (s : List ℕ) : Seq → Type 0 where
+  char : {c l : ℕ} → s ≡ encode c ++ drop l s → length (encode c) ≡ l → scalar c ≡ true → Sound s (Char c l)
+  ill : Sound s Ill
+  end : s ≡ [] → Sound s End
+
+-- n bytes more, the first from lo to hi, complete the bytes bs with the bits c to those of a scalar value
+abbrev Good : ℕ → ℕ → ℕ → ℕ → List ℕ → Type 0
+Good zero lo hi c bs = (encode c ≡ bs) × (scalar c ≡ true)
+Good (suc n) lo hi c bs = (x : ℕ) → lo ≤ x → x ≤ hi → Good n 0x80 0xBF (six c x) (bs ++ (x ∷ []))
+
+trailing-sound : (n lo hi c : ℕ) (bs s : List ℕ) → Good n lo hi c bs → Sound (bs ++ s) (trailing n lo hi c (length bs) s)
+unfolding trailing
+trailing-sound zero lo hi c bs s g = char {c = c} {l = length bs} (rw (drop-append-seam bs s, g .0)) (ap length (g .0)) (g .1)
+trailing-sound (suc n) lo hi c bs [] g = ill
+trailing-sound (suc n) lo hi c bs (x ∷ s) g =
+    cond-cases (Sound (bs ++ x ∷ s)) (within lo hi x)
+    (λ t. let h = within-is lo hi x t in
+      let r = trailing-sound n 0x80 0xBF (six c x) (bs ++ (x ∷ [])) s (g x (h .0) (h .1)) in
+      rw (append-snoc bs x s, length-append) at r)
+    (λ t. ill)
+
+module _ (b x y z : ℕ) where
+  two-bytes : 0xC2 ≤ b → b ≤ 0xDF → 0x80 ≤ x → x ≤ 0xBF → encode (six (b % 32) x) ≡ b ∷ x ∷ []
+  two-bytes h1 h2 h3 h4 =
+      let c : ℕ = six (b % 32) x in
+      let p : 0xC0 + c / 64 ≡ b = omega arith in
+      let q : trailByte c ≡ x = omega arith in
+      encode-two c (omega arith) (omega arith) ∙ cc
+
+  three-bytes : 0xE0 ≤ b → b ≤ 0xEF → 0x80 ≤ x → x ≤ 0xBF → 0x80 ≤ y → y ≤ 0xBF → 0x800 ≤ six (six (b % 16) x) y → encode (six (six (b % 16) x) y) ≡ b ∷ x ∷ y ∷ []
+  three-bytes h1 h2 h3 h4 h5 h6 long =
+      let c : ℕ = six (six (b % 16) x) y in
+      let p : 0xE0 + c / 4096 ≡ b = omega arith in
+      let q : trailByte (c / 64) ≡ x = omega arith in
+      let r : trailByte c ≡ y = omega arith in
+      encode-three c long (omega arith) ∙ cc
+
+  four-bytes : 0xF0 ≤ b → b ≤ 0xF4 → 0x80 ≤ x → x ≤ 0xBF → 0x80 ≤ y → y ≤ 0xBF → 0x80 ≤ z → z ≤ 0xBF → 0x10000 ≤ six (six (six (b % 8) x) y) z
+      → encode (six (six (six (b % 8) x) y) z) ≡ b ∷ x ∷ y ∷ z ∷ []
+  four-bytes h1 h2 h3 h4 h5 h6 h7 h8 long =
+      let c : ℕ = six (six (six (b % 8) x) y) z in
+      let p : 0xF0 + c / 262144 ≡ b = omega arith in
+      let q : trailByte (c / 4096) ≡ x = omega arith in
+      let r : trailByte (c / 64) ≡ y = omega arith in
+      let t : trailByte c ≡ z = omega arith in
+      encode-four c long ∙ cc
+
+-- the rows of three and of four bytes, by what their limits rule out: overlong forms, surrogates and what is above 0x10FFFF
+module _ (b lo hi : ℕ) (s : List ℕ) where
+  three-sound : 0xE0 ≤ b → b ≤ 0xEF → 0x80 ≤ lo → hi ≤ 0xBF
+      → ((x y : ℕ) → lo ≤ x → x ≤ hi → 0x80 ≤ y → y ≤ 0xBF → let c = six (six (b % 16) x) y in (0x800 ≤ c) × (scalar c ≡ true))
+      → Sound (b ∷ s) (trailing 2 lo hi (b % 16) 1 s)
+  three-sound h k l m f =
+      trailing-sound 2 lo hi (b % 16) (b ∷ []) s
+      (λ x p q y r t. let g = f x y p q r t in (three-bytes b x y 0 h k (omega arith) (omega arith) r t (g .0), g .1))
+
+  four-sound : 0xF0 ≤ b → b ≤ 0xF4 → 0x80 ≤ lo → hi ≤ 0xBF
+      → ((x y z : ℕ) → lo ≤ x → x ≤ hi → 0x80 ≤ y → y ≤ 0xBF → 0x80 ≤ z → z ≤ 0xBF
+      → let c = six (six (six (b % 8) x) y) z in (0x10000 ≤ c) × (c ≤ 0x10FFFF))
+      → Sound (b ∷ s) (trailing 3 lo hi (b % 8) 1 s)
+  four-sound h k l m f =
+      trailing-sound 3 lo hi (b % 8) (b ∷ []) s
+      (λ x p q y r t z u v. let g = f x y z p q r t u v in
+        (four-bytes b x y z h k (omega arith) (omega arith) r t u v (g .0), scalar-high (six (six (six (b % 8) x) y) z) (omega arith) (g .1)))
+
+pub seq-sound : (s : List ℕ) → Sound s (seq s)
+unfolding seq bySize
+seq-sound [] = end refl
+seq-sound (b ∷ s) =
+    by-row b (λ r. Sound (b ∷ s) (bySize (r .len) (r .lo) (r .hi) b s))
+    (λ h. trailing-sound 0 0 0 b (b ∷ []) s (encode-one b (omega arith), scalar-low b (omega arith)))
+    (λ h k. trailing-sound 1 0x80 0xBF (b % 32) (b ∷ []) s (λ x p q. (two-bytes b x 0 0 h k p q, scalar-low (six (b % 32) x) (omega arith))))
+    (λ e. three-sound b 0xA0 0xBF s (omega arith) (omega arith) (omega arith) (omega arith) (λ x y p q r t. (omega arith, scalar-low (six (six (b % 16) x) y) (omega arith))))
+    (λ h k. three-sound b 0x80 0xBF s (omega arith) (omega arith) (omega arith) (omega arith) (λ x y p q r t. (omega arith, scalar-low (six (six (b % 16) x) y) (omega arith))))
+    (λ e. three-sound b 0x80 0x9F s (omega arith) (omega arith) (omega arith) (omega arith) (λ x y p q r t. (omega arith, scalar-low (six (six (b % 16) x) y) (omega arith))))
+    (λ h k. three-sound b 0x80 0xBF s (omega arith) (omega arith) (omega arith) (omega arith)
+      (λ x y p q r t. (omega arith, scalar-high (six (six (b % 16) x) y) (omega arith) (omega arith))))
+    (λ e. four-sound b 0x90 0xBF s (omega arith) (omega arith) (omega arith) (omega arith) (λ x y z p q r t u v. (omega arith, omega arith)))
+    (λ h k. four-sound b 0x80 0xBF s (omega arith) (omega arith) (omega arith) (omega arith) (λ x y z p q r t u v. (omega arith, omega arith)))
+    (λ e. four-sound b 0x80 0x8F s (omega arith) (omega arith) (omega arith) (omega arith) (λ x y z p q r t u v. (omega arith, omega arith)))
+    ill
