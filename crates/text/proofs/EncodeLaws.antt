@@ -3,13 +3,14 @@
 use mathlib.Core.Path.{_≡_, refl, sym, ap, _∙_, subst}
 use mathlib.Core.Bool.{Bool, true, false, cond, _&&_, _||_, true≢false}
 use mathlib.Core.List.{List, [], _∷_, _++_}
-use mathlib.Core.Logic.{inl, inr}
+use mathlib.Core.Logic.{_⊎_, inl, inr, ⊎-elim}
 use Prim.Native.Nat.{ℕ, zero, suc, _+_, _*_, _/_, _%_, _≤_, _<_}
 use native.Mathlib.Omega.{arith}
 use lib.ListN.{length, drop, length-append}
 use lib.Seq.{append-snoc, drop-append-seam}
 use lib.Dec.{leb, ltb, eqb}
 use borrow.Author.Tests.{le-leb, lt-leb, lt-ltb, le-ltb, leb-true, leb-false, ltb-true, ltb-false, eqb-true, eqb-false}
+use Rattle.text.proofs.Rows.{row-at}
 use Rattle.text.specs.declared.Row.{Row}
 use Rattle.text.specs.declared.Seq.{Seq}
 use Rattle.text.specs.declared.Seq.the-variants.{Char, Ill, End}
@@ -25,8 +26,15 @@ and-true : (p q : Bool) → (p && q) ≡ true → (p ≡ true) × (q ≡ true)
 and-true true q e = (refl, e)
 and-true false q e = absurd (true≢false (sym e))
 
+or-true : (p q : Bool) → (p || q) ≡ true → (p ≡ true) ⊎ (q ≡ true)
+or-true true q e = inl refl
+or-true false q e = inr e
+
 within-is : (lo hi x : ℕ) → within lo hi x ≡ true → (lo ≤ x) × (x ≤ hi)
 within-is lo hi x e = let h = and-true (leb lo x) (leb x hi) e in (leb-true lo x (h .0), leb-true x hi (h .1))
+
+not-within : (lo hi x : ℕ) → within lo hi x ≡ false → lo ≤ x → hi < x
+not-within lo hi x e h = leb-false x hi (rw (le-leb lo x h) at e)
 
 is-within : (lo hi x : ℕ) → lo ≤ x → x ≤ hi → within lo hi x ≡ true
 is-within lo hi x h k = simp (le-leb lo x h, le-leb x hi k)
@@ -36,26 +44,54 @@ module _ (b : ℕ) (P : Row → Type 0) where
   by-row : (b ≤ 0x7F → P (row 1 0 0)) → (0xC2 ≤ b → b ≤ 0xDF → P (row 2 0x80 0xBF))
       → (b ≡ 0xE0 → P (row 3 0xA0 0xBF)) → (0xE1 ≤ b → b ≤ 0xEC → P (row 3 0x80 0xBF)) → (b ≡ 0xED → P (row 3 0x80 0x9F)) → (0xEE ≤ b → b ≤ 0xEF → P (row 3 0x80 0xBF))
       → (b ≡ 0xF0 → P (row 4 0x90 0xBF)) → (0xF1 ≤ b → b ≤ 0xF3 → P (row 4 0x80 0xBF)) → (b ≡ 0xF4 → P (row 4 0x80 0x8F))
-      → P (row 0 0 0) → P (rowOf b)
+      → (0x7F < b → (0xC2 ≤ b → 0xF4 < b) → P (row 0 0 0)) → P (rowOf b)
   unfolding rowOf
   by-row one two e0 e1 ed ee f0 f1 f4 none =
       range 0x00 0x7F (λ h k. one k)
-      (range 0xC2 0xDF two
-      (lead 0xE0 e0
-      (range 0xE1 0xEC e1
-      (lead 0xED ed
-      (range 0xEE 0xEF ee
-      (lead 0xF0 f0
-      (range 0xF1 0xF3 f1
-      (lead 0xF4 f4 none))))))))
+      (λ n1. range 0xC2 0xDF two
+      (λ n2. lead 0xE0 e0
+      (λ n3. range 0xE1 0xEC e1
+      (λ n4. lead 0xED ed
+      (λ n5. range 0xEE 0xEF ee
+      (λ n6. lead 0xF0 f0
+      (λ n7. range 0xF1 0xF3 f1
+      (λ n8. lead 0xF4 f4
+      (λ n9. none (n1 (omega arith)) (λ h. let a = n2 h in let d = n4 (omega arith) in let g = n6 (omega arith) in let i = n8 (omega arith) in omega arith))))))))))
     where
-      range : (lo hi : ℕ) {x y : Row} → (lo ≤ b → b ≤ hi → P x) → P y → P (cond (within lo hi b) x y)
-      range lo hi f g = cond-cases P (within lo hi b) (λ t. let h = within-is lo hi b t in f (h .0) (h .1)) (λ t. g)
-      lead : (v : ℕ) {x y : Row} → (b ≡ v → P x) → P y → P (cond (eqb b v) x y)
-      lead v f g = cond-cases P (eqb b v) (λ t. f (eqb-true b v t)) (λ t. g)
+      range : (lo hi : ℕ) {x y : Row} → (lo ≤ b → b ≤ hi → P x) → ((lo ≤ b → hi < b) → P y) → P (cond (within lo hi b) x y)
+      range lo hi f g = cond-cases P (within lo hi b) (λ t. let h = within-is lo hi b t in f (h .0) (h .1)) (λ t. g (not-within lo hi b t))
+
+      lead : (v : ℕ) {x y : Row} → (b ≡ v → P x) → ((b ≡ v → ⊥) → P y) → P (cond (eqb b v) x y)
+      lead v f g = cond-cases P (eqb b v) (λ t. f (eqb-true b v t)) (λ t. g (eqb-false b v t))
+
+-- the rows of three and of four bytes
+module _ (b : ℕ) (P : Row → Type 0) where
+  by-three : 0xE0 ≤ b → b ≤ 0xEF
+      → (b ≡ 0xE0 → P (row 3 0xA0 0xBF)) → (0xE1 ≤ b → b ≤ 0xEC → P (row 3 0x80 0xBF)) → (b ≡ 0xED → P (row 3 0x80 0x9F)) → (0xEE ≤ b → b ≤ 0xEF → P (row 3 0x80 0xBF))
+      → P (rowOf b)
+  by-three h k e0 e1 ed ee =
+      by-row b P (λ l. absurd (omega arith)) (λ l g. absurd (omega arith)) e0 e1 ed ee
+      (λ e. absurd (omega arith)) (λ l g. absurd (omega arith)) (λ e. absurd (omega arith)) (λ l g. absurd (omega (arith, g (omega arith))))
+
+  by-four : 0xF0 ≤ b → b ≤ 0xF4
+      → (b ≡ 0xF0 → P (row 4 0x90 0xBF)) → (0xF1 ≤ b → b ≤ 0xF3 → P (row 4 0x80 0xBF)) → (b ≡ 0xF4 → P (row 4 0x80 0x8F)) → P (rowOf b)
+  by-four h k f0 f1 f4 =
+      by-row b P (λ l. absurd (omega arith)) (λ l g. absurd (omega arith))
+      (λ e. absurd (omega arith)) (λ l g. absurd (omega arith)) (λ e. absurd (omega arith)) (λ l g. absurd (omega arith))
+      f0 f1 f4 (λ l g. absurd (omega (arith, g (omega arith))))
 
 -- ---- the bytes of a code point, by its size
 module _ (c : ℕ) where
+  by-size : (P : List ℕ → Type 0) → (c < 0x80 → P (c ∷ [])) → (0x80 ≤ c → c < 0x800 → P ((0xC0 + c / 64) ∷ trailByte c ∷ []))
+      → (0x800 ≤ c → c < 0x10000 → P ((0xE0 + c / 64 / 64) ∷ trailByte (c / 64) ∷ trailByte c ∷ []))
+      → (0x10000 ≤ c → P ((0xF0 + c / 64 / 64 / 64) ∷ trailByte (c / 64 / 64) ∷ trailByte (c / 64) ∷ trailByte c ∷ []))
+      → P (encode c)
+  unfolding encode
+  by-size P one two three four =
+      cond-cases P (ltb c 0x80) (λ t. one (ltb-true c 0x80 t))
+      (λ f. cond-cases P (ltb c 0x800) (λ t. two (ltb-false c 0x80 f) (ltb-true c 0x800 t))
+      (λ f. cond-cases P (ltb c 0x10000) (λ t. three (ltb-false c 0x800 f) (ltb-true c 0x10000 t)) (λ f. four (ltb-false c 0x10000 f))))
+
   encode-one : c < 0x80 → encode c ≡ c ∷ []
   unfolding encode
   encode-one h = simp (lt-ltb c 0x80 h)
@@ -64,11 +100,11 @@ module _ (c : ℕ) where
   unfolding encode
   encode-two h k = simp (le-ltb c 0x80 h, lt-ltb c 0x800 k)
 
-  encode-three : 0x800 ≤ c → c < 0x10000 → encode c ≡ (0xE0 + c / 4096) ∷ trailByte (c / 64) ∷ trailByte c ∷ []
+  encode-three : 0x800 ≤ c → c < 0x10000 → encode c ≡ (0xE0 + c / 64 / 64) ∷ trailByte (c / 64) ∷ trailByte c ∷ []
   unfolding encode
   encode-three h k = simp (le-ltb c 0x80 (omega arith), le-ltb c 0x800 h, lt-ltb c 0x10000 k)
 
-  encode-four : 0x10000 ≤ c → encode c ≡ (0xF0 + c / 262144) ∷ trailByte (c / 4096) ∷ trailByte (c / 64) ∷ trailByte c ∷ []
+  encode-four : 0x10000 ≤ c → encode c ≡ (0xF0 + c / 64 / 64 / 64) ∷ trailByte (c / 64 / 64) ∷ trailByte (c / 64) ∷ trailByte c ∷ []
   unfolding encode
   encode-four h = simp (le-ltb c 0x80 (omega arith), le-ltb c 0x800 (omega arith), le-ltb c 0x10000 h)
 
@@ -96,8 +132,8 @@ trailing-sound (suc n) lo hi c bs [] g = ill
 trailing-sound (suc n) lo hi c bs (x ∷ s) g =
     cond-cases (Sound (bs ++ x ∷ s)) (within lo hi x)
     (λ t. let h = within-is lo hi x t in
-      let r = trailing-sound n 0x80 0xBF (six c x) (bs ++ (x ∷ [])) s (g x (h .0) (h .1)) in
-      rw (append-snoc bs x s, length-append) at r)
+    let r = trailing-sound n 0x80 0xBF (six c x) (bs ++ (x ∷ [])) s (g x (h .0) (h .1)) in
+    rw (append-snoc bs x s, length-append) at r)
     (λ t. ill)
 
 module _ (b x y z : ℕ) where
@@ -111,7 +147,7 @@ module _ (b x y z : ℕ) where
   three-bytes : 0xE0 ≤ b → b ≤ 0xEF → 0x80 ≤ x → x ≤ 0xBF → 0x80 ≤ y → y ≤ 0xBF → 0x800 ≤ six (six (b % 16) x) y → encode (six (six (b % 16) x) y) ≡ b ∷ x ∷ y ∷ []
   three-bytes h1 h2 h3 h4 h5 h6 long =
       let c : ℕ = six (six (b % 16) x) y in
-      let p : 0xE0 + c / 4096 ≡ b = omega arith in
+      let p : 0xE0 + c / 64 / 64 ≡ b = omega arith in
       let q : trailByte (c / 64) ≡ x = omega arith in
       let r : trailByte c ≡ y = omega arith in
       encode-three c long (omega arith) ∙ cc
@@ -120,8 +156,8 @@ module _ (b x y z : ℕ) where
       → encode (six (six (six (b % 8) x) y) z) ≡ b ∷ x ∷ y ∷ z ∷ []
   four-bytes h1 h2 h3 h4 h5 h6 h7 h8 long =
       let c : ℕ = six (six (six (b % 8) x) y) z in
-      let p : 0xF0 + c / 262144 ≡ b = omega arith in
-      let q : trailByte (c / 4096) ≡ x = omega arith in
+      let p : 0xF0 + c / 64 / 64 / 64 ≡ b = omega arith in
+      let q : trailByte (c / 64 / 64) ≡ x = omega arith in
       let r : trailByte (c / 64) ≡ y = omega arith in
       let t : trailByte c ≡ z = omega arith in
       encode-four c long ∙ cc
@@ -142,7 +178,7 @@ module _ (b lo hi : ℕ) (s : List ℕ) where
   four-sound h k l m f =
       trailing-sound 3 lo hi (b % 8) (b ∷ []) s
       (λ x p q y r t z u v. let g = f x y z p q r t u v in
-        (four-bytes b x y z h k (omega arith) (omega arith) r t u v (g .0), scalar-high (six (six (six (b % 8) x) y) z) (omega arith) (g .1)))
+      (four-bytes b x y z h k (omega arith) (omega arith) r t u v (g .0), scalar-high (six (six (six (b % 8) x) y) z) (omega arith) (g .1)))
 
 pub seq-sound : (s : List ℕ) → Sound s (seq s)
 unfolding seq bySize
@@ -155,8 +191,75 @@ seq-sound (b ∷ s) =
     (λ h k. three-sound b 0x80 0xBF s (omega arith) (omega arith) (omega arith) (omega arith) (λ x y p q r t. (omega arith, scalar-low (six (six (b % 16) x) y) (omega arith))))
     (λ e. three-sound b 0x80 0x9F s (omega arith) (omega arith) (omega arith) (omega arith) (λ x y p q r t. (omega arith, scalar-low (six (six (b % 16) x) y) (omega arith))))
     (λ h k. three-sound b 0x80 0xBF s (omega arith) (omega arith) (omega arith) (omega arith)
-      (λ x y p q r t. (omega arith, scalar-high (six (six (b % 16) x) y) (omega arith) (omega arith))))
+    (λ x y p q r t. (omega arith, scalar-high (six (six (b % 16) x) y) (omega arith) (omega arith))))
     (λ e. four-sound b 0x90 0xBF s (omega arith) (omega arith) (omega arith) (omega arith) (λ x y z p q r t u v. (omega arith, omega arith)))
     (λ h k. four-sound b 0x80 0xBF s (omega arith) (omega arith) (omega arith) (omega arith) (λ x y z p q r t u v. (omega arith, omega arith)))
     (λ e. four-sound b 0x80 0x8F s (omega arith) (omega arith) (omega arith) (omega arith) (λ x y z p q r t u v. (omega arith, omega arith)))
-    ill
+    (λ h k. ill)
+
+-- ---- the bytes of a scalar value are read as it
+scalar-is : (c : ℕ) → scalar c ≡ true → (c ≤ 0xD7FF) ⊎ ((0xE000 ≤ c) × (c ≤ 0x10FFFF))
+scalar-is c e = ⊎-elim (λ p. inl (within-is 0 0xD7FF c p .1)) (λ q. inr (within-is 0xE000 0x10FFFF c q)) (or-true (within 0 0xD7FF c) _ e)
+
+scalar-top : (c : ℕ) → scalar c ≡ true → c ≤ 0x10FFFF
+scalar-top c e = ⊎-elim (λ l. omega arith) (λ g. g .1) (scalar-is c e)
+
+six-back : (c : ℕ) → six (c / 64) (trailByte c) ≡ c
+six-back c = omega arith
+
+is-trail : (c : ℕ) → trail (trailByte c) ≡ true
+is-trail c = is-within 0x80 0xBF (trailByte c) (omega arith) (omega arith)
+
+module _ (c : ℕ) (s : List ℕ) where
+  read-two : c < 0x800 → trailing 1 0x80 0xBF ((0xC0 + c / 64) % 32) 1 (trailByte c ∷ s) ≡ Char c 2
+  unfolding trailing
+  read-two h =
+      let e : (0xC0 + c / 64) % 32 ≡ c / 64 = omega arith in
+      rw (is-trail c, e, six-back c)
+
+  module _ (lo hi : ℕ) where
+    read-three : c < 0x10000 → lo ≤ trailByte (c / 64) → trailByte (c / 64) ≤ hi
+        → trailing 2 lo hi ((0xE0 + c / 64 / 64) % 16) 1 (trailByte (c / 64) ∷ trailByte c ∷ s) ≡ Char c 3
+    unfolding trailing
+    read-three h l g =
+        let e : (0xE0 + c / 64 / 64) % 16 ≡ c / 64 / 64 = omega arith in
+        rw (is-within lo hi (trailByte (c / 64)) l g, is-trail c, e, six-back (c / 64), six-back c)
+
+    read-four : c ≤ 0x10FFFF → lo ≤ trailByte (c / 64 / 64) → trailByte (c / 64 / 64) ≤ hi
+        → trailing 3 lo hi ((0xF0 + c / 64 / 64 / 64) % 8) 1 (trailByte (c / 64 / 64) ∷ trailByte (c / 64) ∷ trailByte c ∷ s) ≡ Char c 4
+    unfolding trailing
+    read-four h l g =
+        let e : (0xF0 + c / 64 / 64 / 64) % 8 ≡ c / 64 / 64 / 64 = omega arith in
+        rw (is-within lo hi (trailByte (c / 64 / 64)) l g, is-trail (c / 64), is-trail c, e, six-back (c / 64 / 64), six-back (c / 64), six-back c)
+
+  -- the lead byte b and the bytes t behind it are read as c
+  abbrev ReadAs : ℕ → List ℕ → ℕ → Row → Type 0
+  ReadAs b t n r = bySize (r .len) (r .lo) (r .hi) b t ≡ Char c n
+
+  lead-three : 0x800 ≤ c → c < 0x10000 → scalar c ≡ true
+      → ReadAs (0xE0 + c / 64 / 64) (trailByte (c / 64) ∷ trailByte c ∷ s) 3 (rowOf (0xE0 + c / 64 / 64))
+  unfolding bySize
+  lead-three h k sc =
+      by-three (0xE0 + c / 64 / 64) (ReadAs (0xE0 + c / 64 / 64) (trailByte (c / 64) ∷ trailByte c ∷ s) 3) (omega arith) (omega arith)
+      (λ e. read-three 0xA0 0xBF k (omega arith) (omega arith))
+      (λ l g. read-three 0x80 0xBF k (omega arith) (omega arith))
+      (λ e. read-three 0x80 0x9F k (omega arith) (⊎-elim (λ l. omega arith) (λ g. omega arith) (scalar-is c sc)))
+      (λ l g. read-three 0x80 0xBF k (omega arith) (omega arith))
+
+  lead-four : 0x10000 ≤ c → c ≤ 0x10FFFF
+      → ReadAs (0xF0 + c / 64 / 64 / 64) (trailByte (c / 64 / 64) ∷ trailByte (c / 64) ∷ trailByte c ∷ s) 4 (rowOf (0xF0 + c / 64 / 64 / 64))
+  unfolding bySize
+  lead-four h k =
+      by-four (0xF0 + c / 64 / 64 / 64) (ReadAs (0xF0 + c / 64 / 64 / 64) (trailByte (c / 64 / 64) ∷ trailByte (c / 64) ∷ trailByte c ∷ s) 4) (omega arith) (omega arith)
+      (λ e. read-four 0x90 0xBF k (omega arith) (omega arith))
+      (λ l g. read-four 0x80 0xBF k (omega arith) (omega arith))
+      (λ e. read-four 0x80 0x8F k (omega arith) (omega arith))
+
+  pub seq-encode : scalar c ≡ true → seq (encode c ++ s) ≡ Char c (length (encode c))
+  unfolding seq bySize rowOf
+  seq-encode sc =
+      by-size c (λ bs. seq (bs ++ s) ≡ Char c (length bs))
+      (λ h. rw (← row-at 0 0x80 (row 1 0 0) tt c (omega arith) h))
+      (λ h k. rw (← row-at 0xC2 30 (row 2 0x80 0xBF) tt (0xC0 + c / 64) (omega arith) (omega arith)) (read-two k))
+      (λ h k. lead-three h k sc)
+      (λ h. lead-four h (scalar-top c sc))

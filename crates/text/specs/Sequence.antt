@@ -43,5 +43,5 @@ unfoldable pub encode : ℕ → List ℕ
 encode c =
     cond (ltb c 0x80) (c ∷ [])
     (cond (ltb c 0x800) ((0xC0 + c / 64) ∷ trailByte c ∷ [])
-    (cond (ltb c 0x10000) ((0xE0 + c / 4096) ∷ trailByte (c / 64) ∷ trailByte c ∷ [])
-    ((0xF0 + c / 262144) ∷ trailByte (c / 4096) ∷ trailByte (c / 64) ∷ trailByte c ∷ [])))
+    (cond (ltb c 0x10000) ((0xE0 + c / 64 / 64) ∷ trailByte (c / 64) ∷ trailByte c ∷ [])
+    ((0xF0 + c / 64 / 64 / 64) ∷ trailByte (c / 64 / 64) ∷ trailByte (c / 64) ∷ trailByte c ∷ [])))
