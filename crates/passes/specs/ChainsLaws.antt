@@ -1,0 +1,35 @@
+-- Laws of `from` and `chains` (specs/Chains.antt), for the proofs of a pass's loop and of the theorems on passes. No contract cites this file.
+use mathlib.Core.Path.{_≡_, refl}
+use mathlib.Core.List.{List, [], _∷_, _++_, append-assoc}
+use mathlib.Core.Option.{Option, none, some}
+use Rattle.passes.specs.Chains.{from, chains}
+
+module _ {A S : Type 0} (begin : A → S) (next : S → A → Option S) where
+  -- the list begins a chain
+  pub chains-cons : (a : A) (l : List A) → chains begin next (a ∷ l) ≡ from begin next (begin a) l
+  unfolding chains
+  chains-cons a l = refl
+
+  -- nothing is left
+  pub from-nil : (s : S) → from begin next s [] ≡ s ∷ []
+  unfolding from
+  from-nil s = refl
+
+  -- the chain ends before a
+  pub from-none : (s : S) (a : A) (l : List A) → next s a ≡ none → from begin next s (a ∷ l) ≡ s ∷ from begin next (begin a) l
+  unfolding from
+  from-none s a l e = rw (e, from)
+
+  -- the chain takes a
+  pub from-some : (s t : S) (a : A) (l : List A) → next s a ≡ some t → from begin next s (a ∷ l) ≡ from begin next t l
+  unfolding from
+  from-some s t a l e = rw (e, from)
+
+  -- ---- a turn of a pass's loop: `done` are the chains that ended, s is open, a comes next
+  pub turn-ends : (done : List S) {all : List S} (s : S) (a : A) (l : List A) → next s a ≡ none → done ++ from begin next s (a ∷ l) ≡ all
+      → (done ++ (s ∷ [])) ++ from begin next (begin a) l ≡ all
+  turn-ends done s a l e so-far = rw (append-assoc, ← (from-none s a l e)) so-far
+
+  pub turn-takes : (done : List S) {all : List S} (s t : S) (a : A) (l : List A) → next s a ≡ some t → done ++ from begin next s (a ∷ l) ≡ all
+      → done ++ from begin next t l ≡ all
+  turn-takes done s t a l e so-far = rw (← (from-some s t a l e)) so-far

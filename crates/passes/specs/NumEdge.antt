@@ -1,0 +1,53 @@
+-- A numeric edge with 01's fields, as the passes see it: values are whole numbers, texts are bytes. Definitions only.
+--     NumEdge         the edge; a field that is absent is none
+--     same s t        the texts s and t are equal
+--     orZero o        a number, where a missing one counts as 0
+--     has o           the number is there
+--     above e         e has a value, and it is above TOP
+--     firstAbove es   the start of the first edge of es whose value is above TOP, where there is one
+--     Assumes nothing.
+use Prim.Native.Nat.{ℕ}
+use mathlib.Core.Bool.{Bool, true, false, cond, _&&_}
+use mathlib.Core.List.{List, [], _∷_}
+use mathlib.Core.Option.{Option, none, some}
+use lib.Dec.{eqb, ltb}
+use Rattle.dicts.specs.Table.{Text}
+use Rattle.passes.specs.Given.{TOP}
+
+pub record NumEdge : Type 0 where
+  -- places: characters of the line
+  pub start : ℕ
+  pub end : ℕ
+  pub type : Text
+  pub txt : Text
+  pub orig-txt : Text
+  pub value : Option ℕ
+  -- numerator and denominator
+  pub fraction : Option (ℕ × ℕ)
+  pub base : Option ℕ
+  pub mult : Option ℕ
+  pub script : Option Text
+  pub large-power : Bool
+  pub active : Bool
+  pub value-s : Option Text
+
+unfoldable pub same : Text → Text → Bool
+same [] [] = true
+same [] (b ∷ t) = false
+same (a ∷ s) [] = false
+same (a ∷ s) (b ∷ t) = eqb a b && same s t
+
+abbrev pub orZero : Option ℕ → ℕ
+orZero none = 0
+orZero (some n) = n
+
+abbrev pub has : Option ℕ → Bool
+has none = false
+has (some n) = true
+
+abbrev pub above : NumEdge → Bool
+above e = ltb TOP (orZero (e .value))
+
+unfoldable pub firstAbove : List NumEdge → Option ℕ
+firstAbove [] = none
+firstAbove (e ∷ es) = cond (above e) (some (e .start)) (firstAbove es)
