@@ -1,0 +1,58 @@
+-- The edges of a line of plain characters, as `charEdges` makes them of the plain records.
+use Prim.Native.Nat.{ℕ, suc}
+use mathlib.Core.Path.{_≡_, refl, ap, _∙_}
+use mathlib.Core.Bool.{true}
+use mathlib.Core.List.{List, [], _∷_, map}
+use mathlib.Core.Option.{none, some}
+use Rattle.dicts.specs.Table.{find}
+use Rattle.passes.specs.Given.{decimal, encode}
+use Rattle.passes.specs.NumEdge.{NumEdge}
+use Rattle.passes.specs.Characters.{charEdge, charEdges}
+use Rattle.passes.specs.Passes.{cjk}
+use Rattle.grammar.specs.Plain.{Char, digit, ten, large, codePoint, typeOf, charValue, charBase, isLarge, plainRecord, plainRecords, 零, 一, 二, 三, 四, 五, 六, 七, 八, 九, 十, 百, 千, 万, 億, 兆}
+
+abbrev pub plainEdge : ℕ → Char → NumEdge
+plainEdge i c = record {
+  start = i;
+  end = suc i;
+  type = typeOf c;
+  txt = decimal (charValue c);
+  orig-txt = encode (codePoint c);
+  value = some (charValue c);
+  fraction = none;
+  base = some (charBase c);
+  mult = none;
+  script = some cjk;
+  large-power = isLarge c;
+  active = true;
+  value-s = none;
+}
+
+-- each of the sixteen is found in the table
+find-plain : (c : Char) → find plainRecords (codePoint c) ≡ some (plainRecord c)
+unfolding find plainRecords plainRecord
+find-plain (digit 零) = refl
+find-plain (digit 一) = refl
+find-plain (digit 二) = refl
+find-plain (digit 三) = refl
+find-plain (digit 四) = refl
+find-plain (digit 五) = refl
+find-plain (digit 六) = refl
+find-plain (digit 七) = refl
+find-plain (digit 八) = refl
+find-plain (digit 九) = refl
+find-plain (ten 十) = refl
+find-plain (ten 百) = refl
+find-plain (ten 千) = refl
+find-plain (large 万) = refl
+find-plain (large 億) = refl
+find-plain (large 兆) = refl
+
+abbrev pub plainEdges : ℕ → List Char → List NumEdge
+plainEdges i [] = []
+plainEdges i (c ∷ w) = plainEdge i c ∷ plainEdges (suc i) w
+
+pub char-edges-plain : (w : List Char) (i : ℕ) → charEdges plainRecords i (map codePoint w) ≡ plainEdges i w
+unfolding charEdges charEdge plainRecord
+char-edges-plain [] i = refl
+char-edges-plain (c ∷ w) i = rw (find-plain c, char-edges-plain w (suc i))
