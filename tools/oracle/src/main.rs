@@ -1,0 +1,121 @@
+//! The old program as judge: runs the Rust of the papers, unchanged, on cases in 01's byte forms. See README.md.
+
+mod bytes;
+mod cases;
+mod category;
+mod dicts;
+mod generate;
+mod listing;
+mod reads;
+mod readings;
+mod show;
+mod table;
+
+// The old code. It is not ours to tidy.
+#[allow(dead_code, clippy::all)]
+#[path = "../build/old/edge.rs"]
+mod edge;
+#[allow(dead_code, clippy::all)]
+#[path = "../build/old/lattice/mod.rs"]
+mod lattice;
+
+// numbers.rs names a crate `unicode_properties`; this program stands for it with these two names.
+extern crate self as unicode_properties;
+pub use category::{GeneralCategory, UnicodeGeneralCategory};
+
+use std::io::{self, BufRead, Write};
+use std::time::{Duration, Instant};
+
+use bytes::Refusal;
+use cases::{Answer, Case, Decoder, put_frame};
+use table::Table;
+
+const USAGE: &str = "oracle answer [--passes] [--reads] | gen --family F --seed S --count N [--from K] | show | line TEXT.. | marked | readings | plain-table | time";
+
+fn main() -> io::Result<()> {
+    let arguments: Vec<String> = std::env::args().skip(1).collect();
+    let rest: Vec<&str> = arguments.iter().skip(1).map(String::as_str).collect();
+    let mut input = io::stdin().lock();
+    let mut out = io::BufWriter::new(io::stdout().lock());
+    match arguments.first().map_or("", String::as_str) {
+        "answer" => answers(&mut input, &mut out, rest.contains(&"--passes"), rest.contains(&"--reads"))?,
+        "gen" => generate::write(&rest, &mut out)?,
+        "show" => while let Some(case) = Case::read(&mut input)? { show::show(&case) },
+        "line" => rest.iter().for_each(|line| show::show(&Case::new(line, &Table::plain(), &[]))),
+        "marked" => show::marked(),
+        "readings" => readings::run(),
+        "plain-table" => println!("{}", hex(&Table::plain().encode())),
+        "time" => time(&mut input)?,
+        _ => {
+            eprintln!("{USAGE}");
+            std::process::exit(2);
+        }
+    }
+    out.flush()
+}
+
+fn hex(bytes: &[u8]) -> String {
+    bytes.iter().map(|b| format!("{b:02x}")).collect()
+}
+
+/// A refusal's frame: 5 bytes, which is the length of no listing.
+fn refusal(r: Refusal) -> Vec<u8> {
+    let mut bytes = vec![r.number];
+    bytes.extend((r.at as u32).to_le_bytes());
+    bytes
+}
+
+/// Answers every case. On a refusal the frames that were asked for besides are empty.
+fn answers(input: &mut impl BufRead, out: &mut impl Write, passes: bool, reads: bool) -> io::Result<()> {
+    let mut decoder = Decoder::default();
+    while let Some(case) = Case::read(input)? {
+        let answer = decoder.inputs(&case).and_then(|inputs| {
+            let answer = inputs.answer()?;
+            let listing = answer.listing()?;
+            Ok((inputs.line.chars().count(), answer, listing))
+        });
+        match answer {
+            Err(r) => {
+                put_frame(out, &refusal(r))?;
+                for _ in 0..5 * usize::from(passes) + usize::from(reads) {
+                    put_frame(out, &[])?;
+                }
+            }
+            Ok((length, Answer { mut lattice, lists }, listing)) => {
+                put_frame(out, &listing)?;
+                for list in lists.iter().filter(|_| passes) {
+                    put_frame(out, &listing::encode(list))?;
+                }
+                if reads {
+                    put_frame(out, &reads::encode(&mut lattice, length))?;
+                }
+            }
+        }
+    }
+    Ok(())
+}
+
+/// Mean times a case: reading line, table and edges into the old forms, and the lattice with `add_numbers`.
+fn time(input: &mut impl BufRead) -> io::Result<()> {
+    let (mut reading, mut adding) = (Duration::ZERO, Duration::ZERO);
+    let (mut count, mut refused, mut edges) = (0_u32, 0_u32, 0);
+    while let Some(case) = Case::read(input)? {
+        count += 1;
+        let start = Instant::now();
+        let inputs = Decoder::default().inputs(&case);
+        reading += start.elapsed();
+        let Ok(inputs) = inputs else {
+            refused += 1;
+            continue;
+        };
+        let start = Instant::now();
+        let mut lattice = inputs.lattice();
+        lattice.add_numbers();
+        adding += start.elapsed();
+        edges += lattice.edges().count();
+    }
+    let mean = |d: Duration| d.as_nanos() / u128::from(count.max(1));
+    println!("{count} cases, {refused} refused before any pass, {edges} edges");
+    println!("{} ns a case for reading it, {} ns for the lattice with add_numbers", mean(reading), mean(adding));
+    Ok(())
+}
