@@ -6,15 +6,17 @@ mod category;
 mod dicts;
 mod generate;
 mod listing;
-mod reads;
 mod readings;
+mod reads;
 mod show;
 mod table;
 
 // The old code. It is not ours to tidy.
+#[rustfmt::skip]
 #[allow(dead_code, clippy::all)]
 #[path = "../build/old/edge.rs"]
 mod edge;
+#[rustfmt::skip]
 #[allow(dead_code, clippy::all)]
 #[path = "../build/old/lattice/mod.rs"]
 mod lattice;
@@ -40,7 +42,11 @@ fn main() -> io::Result<()> {
     match arguments.first().map_or("", String::as_str) {
         "answer" => answers(&mut input, &mut out, rest.contains(&"--passes"), rest.contains(&"--reads"))?,
         "gen" => generate::write(&rest, &mut out)?,
-        "show" => while let Some(case) = Case::read(&mut input)? { show::show(&case) },
+        "show" => {
+            while let Some(case) = Case::read(&mut input)? {
+                show::show(&case)
+            }
+        }
         "line" => rest.iter().for_each(|line| show::show(&Case::new(line, &Table::plain(), &[]))),
         "marked" => show::marked(),
         "readings" => readings::run(),

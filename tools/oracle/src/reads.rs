@@ -7,7 +7,8 @@ use crate::lattice::Lattice;
 pub fn class(e: Option<&Edge>) -> u8 {
     match e {
         None => 0,
-        Some(Edge::Numeric { num_data, .. }) => if num_data.active { 1 } else { 5 },
+        Some(Edge::Numeric { num_data, .. }) if num_data.active => 1,
+        Some(Edge::Numeric { .. }) => 5,
         Some(e) if e.r#type().starts_with("rom decomp") => 3,
         Some(e) if e.r#type().starts_with("rom") || e.r#type().starts_with("num") => 2,
         Some(_) => 4,

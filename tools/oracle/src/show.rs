@@ -9,7 +9,8 @@ use crate::table::Table;
 pub fn row(e: &Edge) -> String {
     let active = match e.get_num_data() {
         None => "-",
-        Some(n) => if n.active { "1" } else { "0" },
+        Some(n) if n.active => "1",
+        Some(_) => "0",
     };
     let mut row = format!("{}\t{}\t{}\t{}\t{active}", e.start(), e.end(), e.r#type(), e.txt());
     let Some(n) = e.get_num_data() else { return row };
@@ -34,7 +35,8 @@ pub fn refused(r: Refusal) -> String {
 
 /// The rows of the answer to a case.
 pub fn rows(case: &Case) -> Vec<String> {
-    match Decoder::default().inputs(case).and_then(|inputs| inputs.answer()) {
+    let answer = Decoder::default().inputs(case).and_then(|inputs| inputs.answer());
+    match answer.and_then(|answer| answer.listing().map(|_| answer)) {
         Err(refusal) => vec![refused(refusal)],
         Ok(answer) => answer.edges().into_iter().map(row).collect(),
     }
