@@ -75,9 +75,13 @@ fn random(family: &str, seed: u64, k: u64) -> Case {
             Case::new(&line_over(rng, &table), &table, &[])
         }
         "given" => given_case(rng),
+        "big" => {
+            let table = big_table(rng);
+            Case::new(&line_over(rng, &table), &table, &[])
+        }
         "faults" => faulty(rng, random("mixed", seed, k)),
         "mixed" => random(["plain", "numerals", "marks", "tables", "given"][(k % 5) as usize], seed, k),
-        other => panic!("no family {other}: short limits plain numerals marks tables given mixed faults"),
+        other => panic!("no family {other}: short limits plain numerals marks tables given mixed big faults"),
     }
 }
 
@@ -251,6 +255,18 @@ fn table(rng: &mut Rng) -> Table {
     records.sort_by_key(|r| r.character);
     records.dedup_by_key(|r| r.character);
     let lists = if rng.once_in(3) { plain.lists } else { lists(rng, &records) };
+    Table { lists, records }
+}
+
+/// The plain table among 1,500 records, with forty strings in each list.
+fn big_table(rng: &mut Rng) -> Table {
+    let Table { mut lists, mut records } = Table::plain();
+    let others = ('\u{4E00}'..).filter(|c| !PLAIN.contains(c)).take(1500 - PLAIN.len());
+    records.extend(others.map(|character| any_record(rng, character)));
+    records.sort_by_key(|r| r.character);
+    for list in &mut lists {
+        list.extend((1..40).map(|_| (0..=rng.below(3)).map(|_| rng.pick(&records).character).collect::<String>()));
+    }
     Table { lists, records }
 }
 
