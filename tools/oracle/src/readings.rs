@@ -136,6 +136,7 @@ fn markers() -> Vec<Reading> {
         ]),
         on("-百分之五", "B12: G6 asks G4's list, not the lattice").has(&["0 2 base - -100 -", "1 2 base 100 0"]),
         on("-零", "B12: value 0 counts").has(&["0 2 digit - -0 -"]),
+        on("-五", "B12: a sign lies wholly before the edge").list(3, &["-五"]).lacks(&["digit -"]),
         on("-五", "B12: a string in both sign lists gives two edges")
             .list(2, &["-"])
             .has(&["0 2 digit - -5 -", "0 2 digit + +5 -"]),
@@ -210,6 +211,13 @@ fn passes() -> Vec<Reading> {
             })
             .has(&["0 2 D1 33 1 orig=33 value=33 base=1 value_s=33"])
             .lacks(&["D1 33 1 orig=33 value=33 base=1 mult", "base=1 large"]),
+        on("三b", "B16: G1 drops fraction and mult")
+            .record('b', "x", |r| (r.value, r.base, r.mult, r.fraction) = (Some(100), Some(100), Some(2), Some((1, 2))))
+            .has(&["0 2 G1 300 1 orig=三b value=300 base=100"])
+            .lacks(&["value=300 fraction", "value=300 base=100 "]),
+        on("億万", "B16: G4's edge is no large power")
+            .has(&["0 2 G4 100010000 1 orig=億万 value=100010000 base=10000 script=CJK"])
+            .lacks(&["orig=億万 value=100010000 base=10000 script=CJK large"]),
         on(&top, "B17: leading zeros don't count towards TOP").lacks(&["refused"]),
         on(&above, "B17: 2^53 behind leading zeros is above TOP").has(&["refused 7 0"]),
         on("一.二", "B18: no decimal point, the point without a record").lacks(&["D1", "."]),
