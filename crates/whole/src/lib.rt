@@ -76,7 +76,7 @@ pub fn to_u64(x: f64) -> u64
 pub fn decimal_len(n: u64) -> usize
     ensures { λ r. ⌜ r ≡ length (decimal n) ⌝ }
 {
-    if n < 10 { 1 } else { decimal_len(n / 10) + 1 }
+    if n > 9 { decimal_len(n / 10) + 1 } else { 1 }
 }
 
 // Writes the decimal text of n at an offset, and answers the offset behind it.
@@ -107,34 +107,33 @@ pub fn with_digit(n: u64, digit: u8) -> Number
     }
 }
 
-// The value of a row of digits with one more; a value above TOP stays as it is, so that no row overflows.
-fn row_with(value: u64, digit: u8) -> u64
-    ensures { λ r. ⌜ r ≡ cond (ltb TOP value) value (value * 10 + digit) ⌝ }
+// What a row says with one digit more; above TOP it stays what it is, so that no row overflows.
+fn said_with(said: u64, digit: u8) -> u64
+    ensures { λ r. ⌜ r ≡ cond (ltb TOP said) said (said * 10 + digit) ⌝ }
 {
-    if value > 9007199254740991 {
-        value
-    } else {
-        value * 10 + digit as u64
+    if 9007199254740991 < said {
+        return said;
     }
+    said * 10 + digit as u64
 }
 
 // What a row of ASCII digits says, the first the most significant.
 pub fn read_digits(s: &[u8]) -> Row
     ensures { λ r. ⌜ r ≡ readDigits (now (s .entry)) ⌝ }
 {
-    let mut value = 0;
+    let mut said = 0;
     let mut i = 0;
     while i < s.len() {
         let byte = s[i];
         if byte < 48 || byte > 57 {
             return Row::NoDigits;
         }
-        value = row_with(value, byte - 48);
+        said = said_with(said, byte - 48);
         i += 1;
     }
-    if value > 9007199254740991 {
+    if said > 9007199254740991 {
         Row::Above
     } else {
-        Row::Fits(value)
+        Row::Fits(said)
     }
 }

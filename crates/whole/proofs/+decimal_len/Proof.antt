@@ -1,6 +1,5 @@
 -- `whole::decimal_len` meets its contract, by recursion on n: the text of n is one byte longer than that of n / 10. Assumes nothing.
 use native.Mathlib.Omega.{arith}
-use mathlib.Core.Path.{sym}
 use Rattle.whole.proofs.DecimalLaws.{length-decimal-one, length-decimal-more, length-decimal-u64}
 use Prim.Native.Nat.{ℕ, _<_, _/_}
 use borrow.Fn.Kinds.{In}
@@ -38,13 +37,13 @@ decimal-len-returns : (t : ℕ) → decimal-len-lts.Need-returns (
   decimal-len-below t,
   decimal-len.Post,
 ) (decimal-len-at t) decimal-len.Post
-decimal-len-returns t c = sym (length-decimal-one _ (c .if1 .taken))
+decimal-len-returns t c = omega (arith, length-decimal-more (c .before .before .args .n) (c .before .if1 .taken))
 
 decimal-len-returns-2 : (t : ℕ) → decimal-len-lts.Need-returns-2 (
   decimal-len-below t,
   decimal-len.Post,
 ) (decimal-len-at t) decimal-len.Post
-decimal-len-returns-2 t c = omega (arith, length-decimal-more (c .before .before .args .n) (c .before .if1 .left))
+decimal-len-returns-2 t c = omega (arith, length-decimal-one (c .before .args .n) (omega arith))
 
 pub +decimal-len-spec : {M : Type 1} → statement M
 +decimal-len-spec = close μ-decimal-len λ t. decimal-len-lts.spec (

@@ -1,4 +1,4 @@
--- `whole::read_digits` meets its contract. The loop's invariant: the row of the value so far, continued with the bytes that are left, says what the whole row says.
+-- `whole::read_digits` meets its contract. The loop's invariant: what the row says so far, continued with the bytes that are left, is what the whole row says.
 -- The measure is what is left of the bytes. The mathematics of a turn is in `proofs/DecimalLaws.antt`. Assumes nothing.
 use mathlib.Core.Path.{_≡_, refl, sym, _∙_}
 use Prim.Native.Nat.{_≤_, _-_}
@@ -13,10 +13,10 @@ use Rattle.whole.proofs.read_digits.Statement.{statement}
 use Rattle.whole.proofs.read_digits.Tie as tie
 
 abbrev Inv-loop : tie.InvT-loop
-Inv-loop s value₀ i₀ value i = (i ≤ length s) × (readFrom value (drop i s) ≡ readDigits s)
+Inv-loop s said₀ i₀ said i = (i ≤ length s) × (readFrom said (drop i s) ≡ readDigits s)
 
 abbrev μ-loop : tie.MeasureT-loop
-μ-loop s value₀ i₀ value i = length s - i
+μ-loop s said₀ i₀ said i = length s - i
 
 loop-holds : tie.Need-loop-holds Inv-loop μ-loop
 loop-holds c = search needs
@@ -31,8 +31,8 @@ returns c =
     let no-digit = ⊎-elim (λ w. isDigit-below (w .taken)) (λ w. isDigit-over {b = byte} (ltb-true _ _ (w .1 .taken))) (c .if1 .came) in
     sym (turn-no-digit _ _ _ (at-body .before .loop .inv .1) (at-body .loop-test .taken) no-digit)
 
-row-with-requires : tie.Need-row-with-requires Inv-loop μ-loop
-row-with-requires c κs = search needs
+said-with-requires : tie.Need-said-with-requires Inv-loop μ-loop
+said-with-requires c κs = search needs
 
 add-i : tie.Need-add-i Inv-loop μ-loop
 add-i c = search needs
@@ -45,7 +45,7 @@ loop-again c =
     let in-range = c .before in
     let at-body = in-range .before .before .before in
     let digit = isDigit-yes (in-range .before .if1 .left) (ltb-false _ _ (in-range .if2 .left)) in
-    (search needs, turn-digit _ _ _ (at-body .before .loop .inv .1) (at-body .loop-test .taken) digit (c .row-with .ensures))
+    (search needs, turn-digit _ _ _ (at-body .before .loop .inv .1) (at-body .loop-test .taken) digit (c .said-with .ensures))
 
 returns-2 : tie.Need-returns-2 Inv-loop μ-loop
 returns-2 c = sym (turn-ends _ _ _ (c .before .before .loop .inv .1) (c .before .loop-test .left) ∙ rw (lt-ltb _ _ (c .if3 .taken)))
@@ -62,7 +62,7 @@ read-digits-spec =
     loop-holds
     shared-slice-read-byte
     returns
-    row-with-requires
+    said-with-requires
     add-i
     loop-less
     loop-again

@@ -1,8 +1,8 @@
--- `whole::row_with` meets its contract. Assumes nothing.
+-- `whole::said_with` meets its contract. Assumes nothing.
 use borrow.Author.Tests.{lt-ltb, le-ltb}
 use borrow.Author.Needs.{needs}
-use Rattle.whole.proofs.row_with.Statement.{statement}
-use Rattle.whole.proofs.row_with.Tie as tie
+use Rattle.whole.proofs.said_with.Statement.{statement}
+use Rattle.whole.proofs.said_with.Tie as tie
 
 mul-result : tie.Need-mul-result
 mul-result c = search needs
@@ -16,5 +16,5 @@ returns c = rw (lt-ltb _ _ (c .if1 .taken))
 returns-2 : tie.Need-returns-2
 returns-2 c = rw (le-ltb _ _ (c .if1 .left))
 
-pub row-with-spec : {M : Type 1} → statement M
-row-with-spec = tie.close (tie.spec mul-result add-result returns returns-2)
+pub said-with-spec : {M : Type 1} → statement M
+said-with-spec = tie.close (tie.spec returns mul-result add-result returns-2)
