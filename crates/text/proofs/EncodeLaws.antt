@@ -115,8 +115,13 @@ module _ (c : ℕ) where
   scalar-high h k = simp (le-leb 0 c (omega arith), lt-leb c 0xD7FF (omega arith), is-within 0xE000 0x10FFFF c h k)
 
 -- ---- what is read at the start of s: a character's own bytes
-pub data Sound (s : List ℕ) : Seq → Type 0 where
-  char : {c l : ℕ} → s ≡ encode c ++ drop l s → length (encode c) ≡ l → scalar c ≡ true → Sound s (Char c l)
+pub record IsChar (s : List ℕ) (c l : ℕ) : Type 0 where
+  pub split : s ≡ encode c ++ drop l s
+  pub size : length (encode c) ≡ l
+  pub is-scalar : scalar c ≡ true
+
+data Sound (s : List ℕ) : Seq → Type 0 where
+  char : {c l : ℕ} → IsChar s c l → Sound s (Char c l)
   ill : Sound s Ill
   end : s ≡ [] → Sound s End
 
@@ -127,7 +132,7 @@ Good (suc n) lo hi c bs = (x : ℕ) → lo ≤ x → x ≤ hi → Good n 0x80 0x
 
 trailing-sound : (n lo hi c : ℕ) (bs s : List ℕ) → Good n lo hi c bs → Sound (bs ++ s) (trailing n lo hi c (length bs) s)
 unfolding trailing
-trailing-sound zero lo hi c bs s g = char {c = c} {l = length bs} (rw (drop-append-seam bs s, g .0)) (ap length (g .0)) (g .1)
+trailing-sound zero lo hi c bs s g = char {c = c} {l = length bs} (record { split = rw (drop-append-seam bs s, g .0); size = ap length (g .0); is-scalar = g .1 })
 trailing-sound (suc n) lo hi c bs [] g = ill
 trailing-sound (suc n) lo hi c bs (x ∷ s) g =
     cond-cases (Sound (bs ++ x ∷ s)) (within lo hi x)
@@ -180,7 +185,7 @@ module _ (b lo hi : ℕ) (s : List ℕ) where
       (λ x p q y r t z u v. let g = f x y z p q r t u v in
       (four-bytes b x y z h k (omega arith) (omega arith) r t u v (g .0), scalar-high (six (six (six (b % 8) x) y) z) (omega arith) (g .1)))
 
-pub seq-sound : (s : List ℕ) → Sound s (seq s)
+seq-sound : (s : List ℕ) → Sound s (seq s)
 unfolding seq bySize
 seq-sound [] = end refl
 seq-sound (b ∷ s) =
@@ -196,6 +201,20 @@ seq-sound (b ∷ s) =
     (λ h k. four-sound b 0x80 0xBF s (omega arith) (omega arith) (omega arith) (omega arith) (λ x y z p q r t u v. (omega arith, omega arith)))
     (λ e. four-sound b 0x80 0x8F s (omega arith) (omega arith) (omega arith) (omega arith) (λ x y z p q r t u v. (omega arith, omega arith)))
     (λ h k. ill)
+
+-- the same for each answer of `seq`
+module _ (s : List ℕ) where
+  pub seq-char : (c l : ℕ) → seq s ≡ Char c l → IsChar s c l
+  seq-char c l e = is-char (subst (Sound s) e (seq-sound s))
+    where
+      is-char : Sound s (Char c l) → IsChar s c l
+      is-char (char h) = h
+
+  pub seq-end-nil : seq s ≡ End → s ≡ []
+  seq-end-nil e = is-end (subst (Sound s) e (seq-sound s))
+    where
+      is-end : Sound s End → s ≡ []
+      is-end (end h) = h
 
 -- ---- the bytes of a scalar value are read as it
 scalar-is : (c : ℕ) → scalar c ≡ true → (c ≤ 0xD7FF) ⊎ ((0xE000 ≤ c) × (c ≤ 0x10FFFF))
@@ -263,3 +282,6 @@ module _ (c : ℕ) (s : List ℕ) where
       (λ h k. rw (← row-at 0xC2 30 (row 2 0x80 0xBF) tt (0xC0 + c / 64) (omega arith) (omega arith)) (read-two k))
       (λ h k. lead-three h k sc)
       (λ h. lead-four h (scalar-top c sc))
+
+pub encode-pos : (c : ℕ) → 1 ≤ length (encode c)
+encode-pos c = by-size c (λ bs. 1 ≤ length bs) (λ h. omega arith) (λ h k. omega arith) (λ h k. omega arith) (λ h. omega arith)

@@ -2,3 +2,4 @@
 pub mod Rows
 pub mod SequenceLaws
 pub mod EncodeLaws
+pub mod LineLaws

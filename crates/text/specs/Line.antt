@@ -9,6 +9,7 @@
 --     partOf s a b       the bytes from place a to place b
 --     lineCheck s        refusals 2 and 3, in this order, or the count of characters
 use Prim.Native.Nat.{ℕ, zero, suc, _-_}
+use mathlib.Core.Path.{_≡_}
 use mathlib.Core.Bool.{Bool, true, false, cond}
 use mathlib.Core.List.{List, [], _∷_, _++_}
 use lib.ListN.{length, take, drop}
@@ -18,7 +19,7 @@ use Rattle.text.specs.declared.Seq.the-variants.{Char, Ill, End}
 use Rattle.text.specs.declared.Offset.{Offset}
 use Rattle.text.specs.declared.LineCheck.{LineCheck}
 use Rattle.text.specs.declared.LineCheck.the-variants.{Chars, IllFormed, TooLong}
-use Rattle.text.specs.Sequence.{seq, encode}
+use Rattle.text.specs.Sequence.{seq, scalar, encode}
 
 pub record Text : Type 0 where
   pub chars : List ℕ
@@ -35,10 +36,10 @@ decode k [] = record { chars = []; left = [] }
 decode (suc k) (b ∷ s) = decode k s
 decode zero (b ∷ s) = from (b ∷ s) (seq (b ∷ s)) (λ l. decode (l - 1) s)
 
-abbrev pub chars : List ℕ → List ℕ
+unfoldable pub chars : List ℕ → List ℕ
 chars s = decode 0 s .chars
 
-abbrev pub left : List ℕ → List ℕ
+unfoldable pub left : List ℕ → List ℕ
 left s = decode 0 s .left
 
 abbrev pub isNil : List ℕ → Bool
@@ -51,6 +52,11 @@ wellFormed s = isNil (left s)
 unfoldable pub encodes : List ℕ → List ℕ
 encodes [] = []
 encodes (c ∷ cs) = encode c ++ encodes cs
+
+-- each is a scalar value
+abbrev pub Scalars : List ℕ → Type 0
+Scalars [] = Unit {0}
+Scalars (c ∷ cs) = (scalar c ≡ true) × Scalars cs
 
 abbrev pub offsetOf : List ℕ → ℕ → ℕ
 offsetOf s p = length (encodes (take p (chars s)))
