@@ -1,0 +1,133 @@
+-- Laws of `inRuns` and `notAbove` (`specs/Digits.antt`) for starts that rise by ten or more, and that the 68 starts do. In order: the rule
+-- and its test; starts above c; the runs by the last start not above c; a turn of the loop that counts. Assumes nothing.
+use mathlib.Core.Path.{_≡_, refl, sym, ap, _∙_}
+use mathlib.Core.Bool.{Bool, true, false, cond, _&&_, _||_, or-false}
+use mathlib.Core.List.{List, [], _∷_}
+use Prim.Native.Nat.{ℕ, zero, suc, _+_, _-_, _≤_, _<_}
+use native.Mathlib.Nat.{le-of-suc-le-suc, suc-inj}
+use native.Mathlib.Omega.{arith}
+use native.Mathlib.Numerals.{add-one}
+use lib.Dec.{T, leb, ltb, leb→le}
+use lib.Ieee.Fits.{and-l, and-r}
+use lib.ListN.{length, getD, drop, drop-of-length-le}
+use lib.Seq.{drop-cons}
+use borrow.Author.Tests.{le-leb, lt-leb, leb-true, leb-false}
+use Rattle.digits.specs.Digits.{starts, inRuns, isDigit, notAbove, startsNotAbove}
+
+-- ---- the rule: the first start is at least lo, and each later one at least ten above the one before it
+unfoldable pub apart : ℕ → List ℕ → Bool
+apart lo [] = true
+apart lo (s ∷ ss) = leb lo s && apart (s + 10) ss
+
+pub starts-apart : T (apart 0 starts)
+unfolding starts apart
+starts-apart = tt
+
+pub starts-length : length starts ≡ 68
+unfolding starts
+starts-length = refl
+
+module _ (lo s : ℕ) (ss : List ℕ) (t : T (apart lo (s ∷ ss))) where
+  apart-first : lo ≤ s
+  unfolding apart
+  apart-first = leb→le lo s (and-l (leb lo s) (apart (s + 10) ss) t)
+
+  apart-rest : T (apart (s + 10) ss)
+  unfolding apart
+  apart-rest = and-r (leb lo s) (apart (s + 10) ss) t
+
+module _ (c : ℕ) where
+  -- ---- starts above c
+  none-not-above : (lo : ℕ) (ss : List ℕ) → T (apart lo ss) → c < lo → notAbove ss c ≡ 0
+  unfolding notAbove
+  none-not-above lo [] t h = refl
+  none-not-above lo (s ∷ ss) t h =
+      let k = apart-first lo s ss t in
+      rw (lt-leb s c (omega arith)) (none-not-above (s + 10) ss (apart-rest lo s ss t) (omega arith))
+
+  none-from : (i lo : ℕ) (ss : List ℕ) → T (apart lo ss) → i < length ss → c < getD ss i 0 → notAbove (drop i ss) c ≡ 0
+  unfolding notAbove
+  none-from i lo [] t h k = absurd (omega arith)
+  none-from zero lo (s ∷ ss) t h k = rw (lt-leb s c k) (none-not-above (s + 10) ss (apart-rest lo s ss t) (omega arith))
+  none-from (suc i) lo (s ∷ ss) t h k = none-from i (s + 10) ss (apart-rest lo s ss t) (le-of-suc-le-suc h) k
+
+  -- ---- the runs by the last start not above c
+  -- c is in the run of the last of the first n starts
+  abbrev byLast : List ℕ → ℕ → Bool
+  byLast ss zero = false
+  byLast ss (suc n) = leb c (getD ss n 0 + 9)
+
+  module _ (s : ℕ) (ss : List ℕ) (t : T (apart (s + 10) ss)) (later : inRuns ss c ≡ byLast ss (notAbove ss c)) where
+    past : leb c (s + 9) ≡ false → (n : ℕ) → byLast ss n ≡ byLast (s ∷ ss) (suc n)
+    past e zero = sym e
+    past e (suc n) = refl
+
+    first-run : (a b : Bool) → leb s c ≡ a → leb c (s + 9) ≡ b
+        → (a && b || inRuns ss c) ≡ byLast (s ∷ ss) (cond a (suc (notAbove ss c)) (notAbove ss c))
+    first-run true true d e =
+        let k = leb-true c (s + 9) e in
+        rw (none-not-above (s + 10) ss t (omega arith)) (sym e)
+    first-run true false d e = later ∙ past e (notAbove ss c)
+    first-run false b d e =
+        let k = leb-false s c d in
+        let none = none-not-above (s + 10) ss t (omega arith) in
+        rw none (later ∙ ap (byLast ss) none)
+
+  runs-by-last : (lo : ℕ) (ss : List ℕ) → T (apart lo ss) → inRuns ss c ≡ byLast ss (notAbove ss c)
+  unfolding inRuns notAbove
+  runs-by-last lo [] t = refl
+  runs-by-last lo (s ∷ ss) t =
+      let u = apart-rest lo s ss t in
+      first-run s ss u (runs-by-last (s + 10) ss u) (leb s c) (leb c (s + 9)) refl refl
+
+  -- the last start not above c stands in the table, and is not above c
+  LastOf : List ℕ → Type 0
+  LastOf ss = (n : ℕ) → notAbove ss c ≡ suc n → (n < length ss) × (getD ss n 0 ≤ c)
+
+  module _ (s : ℕ) (ss : List ℕ) (t : T (apart (s + 10) ss)) (later : LastOf ss) where
+    last-step : (b : Bool) → leb s c ≡ b → (n : ℕ) → cond b (suc (notAbove ss c)) (notAbove ss c) ≡ suc n → (n < suc (length ss)) × (getD (s ∷ ss) n 0 ≤ c)
+    unfolding LastOf
+    last-step true d zero e = (omega arith, leb-true s c d)
+    last-step true d (suc n) e = let h = later n (suc-inj e) in (omega arith, h .1)
+    last-step false d n e =
+        let k = leb-false s c d in
+        absurd (omega (arith, none-not-above (s + 10) ss t (omega arith)))
+
+  last-of : (lo : ℕ) (ss : List ℕ) → T (apart lo ss) → LastOf ss
+  unfolding LastOf notAbove
+  last-of lo [] t n e = absurd (omega arith)
+  last-of lo (s ∷ ss) t n e = let u = apart-rest lo s ss t in last-step s ss u (last-of (s + 10) ss u) (leb s c) refl n e
+
+  within-ten : (s : ℕ) → s ≤ c → (b : Bool) → leb c (s + 9) ≡ b → leb (c - s) 9 ≡ b
+  within-ten s h true e = le-leb (c - s) 9 (omega (arith, leb-true c (s + 9) e))
+  within-ten s h false e = lt-leb (c - s) 9 (omega (arith, leb-false c (s + 9) e))
+
+  -- ---- a turn of the loop: i starts were not above c, and the rest is still to be compared
+  module _ (i : ℕ) (so-far : i + notAbove (drop i starts) c ≡ startsNotAbove c) where
+    pub turn-on : i < 68 → getD starts i 0 ≤ c → i + 1 + notAbove (drop (i + 1) starts) c ≡ startsNotAbove c
+    unfolding notAbove
+    turn-on h k =
+        let j : i < length starts = omega (arith, starts-length) in
+        let e = rw (drop-cons starts i 0 j, le-leb (getD starts i 0) c k) at so-far in
+        rw add-one (omega arith)
+
+    pub turn-above : i < 68 → c < getD starts i 0 → i ≡ startsNotAbove c
+    turn-above h k = omega (arith, none-from i 0 starts starts-apart (omega (arith, starts-length)) k)
+
+    pub turn-out : 68 ≤ i → i ≡ startsNotAbove c
+    unfolding notAbove
+    turn-out h = omega (arith, rw (drop-of-length-le starts {i = i} (omega (arith, starts-length))) at so-far)
+
+  -- ---- `isDigit` by the number of starts not above c
+  module _ (n : ℕ) (e : n ≡ startsNotAbove c) where
+    pub digit-none : n ≡ 0 → false ≡ isDigit c
+    unfolding isDigit startsNotAbove
+    digit-none z = sym (runs-by-last 0 starts starts-apart ∙ ap (byLast starts) (sym e ∙ z))
+
+    -- the table's bound, the difference that the code takes, and its test
+    pub digit-last : (n ≡ 0 → ⊥) → (n ≤ 68) × (getD starts (n - 1) 0 ≤ c) × (leb (c - getD starts (n - 1) 0) 9 ≡ isDigit c)
+    unfolding isDigit startsNotAbove LastOf
+    digit-last z =
+        let k : startsNotAbove c ≡ suc (n - 1) = sym e ∙ omega arith in
+        let l = last-of 0 starts starts-apart (n - 1) k in
+        (omega (arith, starts-length), l .1, within-ten (getD starts (n - 1) 0) (l .1) _ refl ∙ sym (runs-by-last 0 starts starts-apart ∙ ap (byLast starts) k))
