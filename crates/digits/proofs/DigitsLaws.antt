@@ -1,5 +1,5 @@
--- Laws of `inRuns` and `notAbove` (`specs/Digits.antt`) for starts that rise by ten or more, and that the 68 starts do. In order: the rule
--- and its test; starts above c; the runs by the last start not above c; a turn of the loop that counts. Assumes nothing.
+-- Laws of `inRuns` (`specs/Digits.antt`) for starts that rise by ten or more, and that the 68 starts do. In order: the rule and its test; how many
+-- starts are not above c; the runs by the last of these; a turn of the loop that counts them; `isDigit` by their number. Assumes nothing.
 use mathlib.Core.Path.{_≡_, refl, sym, ap, _∙_}
 use mathlib.Core.Bool.{Bool, true, false, cond, _&&_, _||_, or-false}
 use mathlib.Core.List.{List, [], _∷_}
@@ -12,7 +12,7 @@ use lib.Ieee.Fits.{and-l, and-r}
 use lib.ListN.{length, getD, drop, drop-of-length-le}
 use lib.Seq.{drop-cons}
 use borrow.Author.Tests.{le-leb, lt-leb, leb-true, leb-false}
-use Rattle.digits.specs.Digits.{starts, inRuns, isDigit, notAbove, startsNotAbove}
+use Rattle.digits.specs.Digits.{starts, inRuns, isDigit}
 
 -- ---- the rule: the first start is at least lo, and each later one at least ten above the one before it
 unfoldable pub apart : ℕ → List ℕ → Bool
@@ -28,16 +28,20 @@ unfolding starts
 starts-length = refl
 
 module _ (lo s : ℕ) (ss : List ℕ) (t : T (apart lo (s ∷ ss))) where
-  apart-first : lo ≤ s
+  pub apart-first : lo ≤ s
   unfolding apart
   apart-first = leb→le lo s (and-l (leb lo s) (apart (s + 10) ss) t)
 
-  apart-rest : T (apart (s + 10) ss)
+  pub apart-rest : T (apart (s + 10) ss)
   unfolding apart
   apart-rest = and-r (leb lo s) (apart (s + 10) ss) t
 
+-- ---- how many of the starts ss are not above c
+unfoldable pub notAbove : List ℕ → ℕ → ℕ
+notAbove [] c = 0
+notAbove (s ∷ ss) c = cond (leb s c) (suc (notAbove ss c)) (notAbove ss c)
+
 module _ (c : ℕ) where
-  -- ---- starts above c
   none-not-above : (lo : ℕ) (ss : List ℕ) → T (apart lo ss) → c < lo → notAbove ss c ≡ 0
   unfolding notAbove
   none-not-above lo [] t h = refl
@@ -102,32 +106,38 @@ module _ (c : ℕ) where
   within-ten s h true e = le-leb (c - s) 9 (omega (arith, leb-true c (s + 9) e))
   within-ten s h false e = lt-leb (c - s) 9 (omega (arith, leb-false c (s + 9) e))
 
-  -- ---- a turn of the loop: i starts were not above c, and the rest is still to be compared
-  module _ (i : ℕ) (so-far : i + notAbove (drop i starts) c ≡ startsNotAbove c) where
-    pub turn-on : i < 68 → getD starts i 0 ≤ c → i + 1 + notAbove (drop (i + 1) starts) c ≡ startsNotAbove c
+  -- ---- a turn of the loop: n starts were compared and are not above c
+  abbrev pub Passed : ℕ → Type 0
+  Passed n = n + notAbove (drop n starts) c ≡ notAbove starts c
+
+  pub none-passed : Passed 0
+  none-passed = omega arith
+
+  module _ (n : ℕ) (so-far : Passed n) where
+    pub one-more : n < 68 → getD starts n 0 ≤ c → Passed (n + 1)
     unfolding notAbove
-    turn-on h k =
-        let j : i < length starts = omega (arith, starts-length) in
-        let e = rw (drop-cons starts i 0 j, le-leb (getD starts i 0) c k) at so-far in
+    one-more h k =
+        let j : n < length starts = omega (arith, starts-length) in
+        let e = rw (drop-cons starts n 0 j, le-leb (getD starts n 0) c k) at so-far in
         rw add-one (omega arith)
 
-    pub turn-above : i < 68 → c < getD starts i 0 → i ≡ startsNotAbove c
-    turn-above h k = omega (arith, none-from i 0 starts starts-apart (omega (arith, starts-length)) k)
+    pub first-above : n < 68 → c < getD starts n 0 → n ≡ notAbove starts c
+    first-above h k = omega (arith, none-from n 0 starts starts-apart (omega (arith, starts-length)) k)
 
-    pub turn-out : 68 ≤ i → i ≡ startsNotAbove c
+    pub no-more : 68 ≤ n → n ≡ notAbove starts c
     unfolding notAbove
-    turn-out h = omega (arith, rw (drop-of-length-le starts {i = i} (omega (arith, starts-length))) at so-far)
+    no-more h = omega (arith, rw (drop-of-length-le starts {i = n} (omega (arith, starts-length))) at so-far)
 
   -- ---- `isDigit` by the number of starts not above c
-  module _ (n : ℕ) (e : n ≡ startsNotAbove c) where
+  module _ (n : ℕ) (e : n ≡ notAbove starts c) where
     pub digit-none : n ≡ 0 → false ≡ isDigit c
-    unfolding isDigit startsNotAbove
+    unfolding isDigit
     digit-none z = sym (runs-by-last 0 starts starts-apart ∙ ap (byLast starts) (sym e ∙ z))
 
     -- the table's bound, the difference that the code takes, and its test
     pub digit-last : (n ≡ 0 → ⊥) → (n ≤ 68) × (getD starts (n - 1) 0 ≤ c) × (leb (c - getD starts (n - 1) 0) 9 ≡ isDigit c)
-    unfolding isDigit startsNotAbove LastOf
+    unfolding isDigit LastOf
     digit-last z =
-        let k : startsNotAbove c ≡ suc (n - 1) = sym e ∙ omega arith in
+        let k : notAbove starts c ≡ suc (n - 1) = sym e ∙ omega arith in
         let l = last-of 0 starts starts-apart (n - 1) k in
         (omega (arith, starts-length), l .1, within-ten (getD starts (n - 1) 0) (l .1) _ refl ∙ sym (runs-by-last 0 starts starts-apart ∙ ap (byLast starts) k))

@@ -1,1 +1,3 @@
+-- The laws and theorems of `digits`.
 pub mod DigitsLaws
+pub mod Theorems

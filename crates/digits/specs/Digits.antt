@@ -1,13 +1,12 @@
 -- Decimal digits: the characters of general category Nd in Unicode 15.0 (UAX #44). Definitions only.
---     starts            the first character of each of the 68 runs of ten, in rising order
---     inRuns ss c       c is one of the ten characters from one of the starts ss on
---     isDigit c         c is a decimal digit
---     notAbove ss c     how many of the starts ss are not above c
---     startsNotAbove c  .. of all 68
+--     starts       the first character of each of the 68 runs of ten, in rising order
+--     inRuns ss c  c is one of the ten characters from one of the starts ss on
+--     isDigit c    c is a decimal digit
+--     count p a n  how many of the n numbers from a on pass the test p
 -- Assumes nothing.
 use mathlib.Core.Bool.{Bool, false, cond, _&&_, _||_}
 use mathlib.Core.List.{List, [], _∷_}
-use Prim.Native.Nat.{ℕ, suc, _+_}
+use Prim.Native.Nat.{ℕ, zero, suc, _+_}
 use lib.Dec.{leb}
 
 unfoldable pub starts : List ℕ
@@ -29,9 +28,6 @@ inRuns (s ∷ ss) c = leb s c && leb c (s + 9) || inRuns ss c
 unfoldable pub isDigit : ℕ → Bool
 isDigit c = inRuns starts c
 
-unfoldable pub notAbove : List ℕ → ℕ → ℕ
-notAbove [] c = 0
-notAbove (s ∷ ss) c = cond (leb s c) (suc (notAbove ss c)) (notAbove ss c)
-
-unfoldable pub startsNotAbove : ℕ → ℕ
-startsNotAbove c = notAbove starts c
+unfoldable pub count : (ℕ → Bool) → ℕ → ℕ → ℕ
+count p a zero = 0
+count p a (suc n) = cond (p a) (suc (count p (suc a) n)) (count p (suc a) n)

@@ -1,7 +1,7 @@
 // Decimal digits: the 680 characters of general category Nd in Unicode 15.0 (UAX #44), 68 runs of ten. The words of the contracts are in
 // specs/Digits.antt.
 ghost use mathlib.Core.Path.{_≡_};
-ghost use Rattle.digits.specs.Digits.{isDigit, startsNotAbove};
+ghost use Rattle.digits.specs.Digits.{isDigit};
 
 // The first character of each run, in rising order; `tools/check_nd` holds it against UnicodeData.txt.
 const STARTS: [u32; 68] = [
@@ -75,27 +75,24 @@ const STARTS: [u32; 68] = [
     0x1FBF0,
 ];
 
-// How many starts are not above `c`. They are compared in rising order, up to the first that is above it.
-fn starts_not_above(c: u32) -> usize
-    ensures { λ r. ⌜ r ≡ startsNotAbove c ⌝ }
-{
-    let mut i = 0;
-    while i < STARTS.len() {
-        if c < STARTS[i] {
-            return i;
-        }
-        i += 1;
-    }
-    i
-}
-
-// Only the last start that is not above `c` can have `c` in its run.
+// The starts are compared with `c` in rising order, up to the first that is above it: only the run before that one can hold `c`. The first
+// run, ASCII's, is told apart, since a table that is indexed by a variable is copied to the stack.
 pub fn is_digit(c: u32) -> bool
     ensures { λ r. ⌜ r ≡ isDigit c ⌝ }
 {
-    let n = starts_not_above(c);
-    if n == 0 {
+    if c < STARTS[0] {
         return false;
     }
-    c - STARTS[n - 1] <= 9
+    if c < STARTS[1] {
+        return c - STARTS[0] <= 9;
+    }
+    let starts = STARTS;
+    let mut n = 2;
+    while n < 68 {
+        if c < starts[n] {
+            break;
+        }
+        n += 1;
+    }
+    c - starts[n - 1] <= 9
 }
