@@ -1,7 +1,10 @@
 // Decimal digits: the 680 characters of general category Nd in Unicode 15.0 (UAX #44), 68 runs of ten. The words of the contracts are in
-// specs/Digits.antt.
+// specs/Digits.antt (a character) and specs/TextEnds.antt (a text).
+use text::Offset;
+use text::Seq;
 ghost use mathlib.Core.Path.{_≡_};
 ghost use Rattle.digits.specs.Digits.{isDigit};
+ghost use Rattle.digits.specs.TextEnds.{beginsWithDigit, endsWithDigit};
 
 // The first character of each run, in rising order; `tools/check_nd` holds it against UnicodeData.txt.
 const STARTS: [u32; 68] = [
@@ -95,4 +98,33 @@ pub fn is_digit(c: u32) -> bool
         n += 1;
     }
     c - starts[n - 1] <= 9
+}
+
+pub fn begins_with_digit(txt: &[u8]) -> bool
+    ensures { λ r. ⌜ r ≡ beginsWithDigit (now (txt .entry)) ⌝ }
+{
+    match text::seq_at(txt, Offset(0)) {
+        Seq::Char(c, _) => is_digit(c),
+        Seq::Ill => false,
+        Seq::End => false,
+    }
+}
+
+// The last bytes are tried, one to four of them: the first ending that is one whole sequence is the last character.
+pub fn ends_with_digit(txt: &[u8]) -> bool
+    ensures { λ r. ⌜ r ≡ endsWithDigit (now (txt .entry)) ⌝ }
+{
+    let mut k = 1;
+    while k <= 4 {
+        if txt.len() < k {
+            return false;
+        }
+        if let Seq::Char(c, len) = text::seq_at(txt, Offset(txt.len() - k)) {
+            if len == k {
+                return is_digit(c);
+            }
+        }
+        k += 1;
+    }
+    false
 }
