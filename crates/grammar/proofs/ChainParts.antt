@@ -3,7 +3,7 @@ use mathlib.Core.Path.{_≡_, refl, sym, ap, _∙_}
 use mathlib.Core.List.{List, [], _∷_, _++_, map}
 use mathlib.Core.Option.{Option, none, some}
 use Prim.Native.Nat.{ℕ}
-use Rattle.passes.specs.ChainsLaws.{from-none}
+use Rattle.passes.proofs.ChainsLaws.{from-none}
 use Rattle.passes.specs.Chains.{from, chains}
 use Rattle.grammar.specs.Row.{Row, one, _▷_, _<>>_, last, head}
 

@@ -14,7 +14,7 @@ use Rattle.passes.specs.Chains.{from, chains}
 use Rattle.passes.specs.Passes.{G4, Chain, cjk, begin, longer, touches, over, joined, next, rule, g4Rule, retags, countedValue, countedBase, under, onePlace, powerOfTen, powerWithin, after, chainsOf, edgesOf}
 use Rattle.grammar.specs.Plain.{Digit, Ten, Large, Char, digitValue, tenValue, largeValue, 零, 一, 二, 三, 四, 五, 六, 七, 八, 九, 十, 百, 千, 万, 億, 兆}
 use Rattle.grammar.specs.Row.{Row, one, _▷_, _<>>_, last, head}
-use Rattle.grammar.specs.Grammar.{Atom, run, times, power, Member, small, block, lone, Division, runValue, atomValue, atomBase, smallValue, smallBase, memberValue, memberBase, IsAtom, Follows, loneZero, nearBase, IsSmall, IsMember, IsBlock, singleDigit, countValue, countBase, IsNumeral, value}
+use Rattle.grammar.specs.Grammar.{Atom, run, times, power, Member, small, block, lone, Division, runValue, atomValue, atomBase, smallValue, smallBase, memberValue, memberBase, IsAtom, Follows, loneZero, nearBase, IsSmall, IsMember, IsBlock, singleDigit, countValue, countBase, IsNumeral, divisionValue}
 use Rattle.grammar.proofs.ChainParts.{OnSome, Tiles, Next, Along}
 use Rattle.grammar.proofs.Pieces.{T→true, true→T, true-le, le-true, false-lt, joins}
 use Rattle.grammar.proofs.Readings.{Apart, Sep4, and-left, and-right}
@@ -110,7 +110,7 @@ total-base (d ▷ m) = countBase (memberBase (last d)) m
 pub record Counts (i : ℕ) (d : Division) (e : NumEdge) (j : ℕ) : Type 0 where
   pub start : e .start ≡ i
   pub end : e .end ≡ j
-  pub value : e .value ≡ some (value d)
+  pub value : e .value ≡ some (divisionValue d)
   pub base : e .base ≡ some (total-base d)
   pub script : e .script ≡ some cjk
 

@@ -2,6 +2,7 @@
 pub mod ChainParts
 pub mod Pieces
 pub mod Readings
+pub mod Maximal
 pub mod PlainEdges
 pub mod FourPasses
 pub mod Marked

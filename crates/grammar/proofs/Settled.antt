@@ -9,7 +9,7 @@ use Rattle.passes.specs.Chains.{from, chains}
 use Rattle.passes.specs.Passes.{Chain, begin, next, G1, G2, G3, G4, D1, after, chainsOf, edgesOf, through, five}
 use Rattle.grammar.specs.Plain.{Char}
 use Rattle.grammar.specs.Row.{Row, one, _▷_, _<>>_}
-use Rattle.grammar.specs.Grammar.{Member, IsMember, Division, IsNumeral, value, divisionText, Reading}
+use Rattle.grammar.specs.Grammar.{Member, IsMember, Division, IsNumeral, divisionText, Reading}
 use Rattle.grammar.proofs.ChainParts.{Along, Tiles}
 use Rattle.grammar.proofs.Pieces.{members, syms, syms-members}
 use Rattle.grammar.proofs.Readings.{Sep4, along4, found, text-syms, same-division}

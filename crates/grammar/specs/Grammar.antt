@@ -1,44 +1,57 @@
--- The grammar of numerals over the plain table's characters. It names no pass. Assumes nothing.
-use Prim.Native.Nat.{ℕ, zero, suc, _+_, _*_, _/_, _≤_, _<_}
+-- The grammar of numerals over the plain table's characters (01, "Grammar"). It names no pass. Definitions only.
+--     Atom, Member, Division   a division of a line, down to its runs
+--     runValue, atomValue, smallValue, memberValue   values; atomBase, smallBase, memberBase: bases
+--     IsAtom, IsSmall, IsMember, IsNumeral           the rules
+--     divisionValue d          the value of the division d, the sum of its members as they count
+--     divisionText d w         the characters of d, then w
+--     Reading w                a reading of the line w: a division of the whole of w by the rules; w is a numeral where it has one
+--     Assumes nothing.
+use Prim.Native.Nat.{ℕ, _+_, _*_, _/_, _≤_, _<_}
 use mathlib.Core.Path.{_≡_}
 use mathlib.Core.Bool.{Bool, true, false, cond}
 use mathlib.Core.List.{List, [], _∷_}
 use mathlib.Core.Option.{Option, none, some}
 use lib.Dec.{leb, eqb}
-use Rattle.grammar.specs.Row.{Row, one, _▷_, last}
 use Rattle.grammar.specs.Plain.{Digit, Ten, Large, Char, digit, ten, large, digitValue, tenValue, largeValue}
+use Rattle.grammar.specs.Row.{Row, one, _▷_, last}
 
--- A run's digits; a run and 十百千; one of these three alone.
+-- ---- divisions
+
+-- "a run; or a run .. followed by 十, 百 or 千; or one of these three". A run is its digits.
 pub data Atom : Type 0 where
   run : Row Digit → Atom
   times : Row Digit → Ten → Atom
   power : Ten → Atom
 
--- A small; a small and 万億兆; one of these three alone.
+-- A small, which is "one or more atoms"; a block: "a small directly followed by 万, 億 or 兆", or "such a character" alone.
 pub data Member : Type 0 where
   small : Row Atom → Member
   block : Row Atom → Large → Member
   lone : Large → Member
 
--- A division of a line: its members, down to their runs.
 abbrev pub Division : Type 0
 Division = Row Member
 
--- Values and bases
+-- ---- values and bases
+
+-- A run: "its decimal value"
 abbrev pub runValue : Row Digit → ℕ
 runValue (one d) = digitValue d
 runValue (r ▷ d) = 10 * runValue r + digitValue d
 
+-- a run's value; "product"; the character's
 abbrev pub atomValue : Atom → ℕ
 atomValue (run r) = runValue r
 atomValue (times r t) = runValue r * tenValue t
 atomValue (power t) = tenValue t
 
+-- a run: "base 1"; a product: "that base"; the character's
 abbrev pub atomBase : Atom → ℕ
 atomBase (run r) = 1
 atomBase (times r t) = tenValue t
 atomBase (power t) = tenValue t
 
+-- A small: "Its value is the sum, its base the last atom's."
 abbrev pub smallValue : Row Atom → ℕ
 smallValue (one a) = atomValue a
 smallValue (s ▷ a) = smallValue s + atomValue a
@@ -46,6 +59,7 @@ smallValue (s ▷ a) = smallValue s + atomValue a
 abbrev pub smallBase : Row Atom → ℕ
 smallBase s = atomBase (last s)
 
+-- A block: "product, that base"
 abbrev pub memberValue : Member → ℕ
 memberValue (small s) = smallValue s
 memberValue (block s l) = smallValue s * largeValue l
@@ -56,14 +70,16 @@ memberBase (small s) = smallBase s
 memberBase (block s l) = largeValue l
 memberBase (lone l) = largeValue l
 
--- A run has value ≥ 1 before its 十百千.
+-- ---- the rules
+
+-- An atom: before its 十, 百 or 千 stands "a run of value ≥ 1".
 abbrev pub IsAtom : Atom → Type 0
 IsAtom (run r) = Unit {0}
 IsAtom (times r t) = 1 ≤ runValue r
 IsAtom (power t) = Unit {0}
 
--- One atom directly after another: a run is maximal, and 十百千 directly after a run of value ≥ 1 belongs to it.
--- (A small is followed by 万億兆 or the line's end, so that the atoms beside a run are of its small.)
+-- One atom directly after another. A run is "a maximal stretch of 零 to 九", so no digit follows it (proofs/Maximal.antt: that is maximality in the line); and
+-- 十, 百 or 千 alone stands "not directly after such a run", one of value ≥ 1.
 abbrev pub Follows : Atom → Atom → Type 0
 Follows (run r) (run q) = ⊥
 Follows (run r) (times q t) = ⊥
@@ -71,21 +87,24 @@ Follows (run r) (power t) = runValue r ≡ 0
 Follows (times r t) a = Unit {0}
 Follows (power t) a = Unit {0}
 
+-- "a lone 零": the run of this one character
 abbrev pub loneZero : Atom → Bool
 loneZero (run (one d)) = eqb (digitValue d) 0
 loneZero (run (r ▷ d)) = false
 loneZero (times r t) = false
 loneZero (power t) = false
 
--- The base of the nearest atom, from the end, that isn't a lone 零.
+-- the base of the "nearest earlier atom that isn't a lone 零", for what comes after s
 abbrev pub nearBase : Row Atom → Option ℕ
 nearBase (one a) = cond (loneZero a) none (some (atomBase a))
 nearBase (s ▷ a) = cond (loneZero a) (nearBase s) (some (atomBase a))
 
+-- "value and base below the base of that .. atom, and with no such atom nothing follows"
 abbrev pub Below : Option ℕ → ℕ → ℕ → Type 0
 Below none v b = ⊥
 Below (some n) v b = (v < n) × (b < n)
 
+-- A small: "one or more atoms; each later one has value and base below .."
 abbrev pub IsSmall : Row Atom → Type 0
 IsSmall (one a) = IsAtom a
 IsSmall (s ▷ a) = IsSmall s × Follows (last s) a × IsAtom a × Below (nearBase s) (atomValue a) (atomBase a)
@@ -100,7 +119,7 @@ IsBlock (small s) = ⊥
 IsBlock (block s l) = Unit {0}
 IsBlock (lone l) = Unit {0}
 
--- The digit that a member consists of, or 0.
+-- the digit of a small that is a single 一 to 九; 0 for any other member
 abbrev pub singleDigit : Member → ℕ
 singleDigit (small (one (run (one d)))) = digitValue d
 singleDigit (small (one (run (r ▷ d)))) = 0
@@ -110,25 +129,28 @@ singleDigit (small (s ▷ a)) = 0
 singleDigit (block s l) = 0
 singleDigit (lone l) = 0
 
--- What a member counts as after a block of base n.
+-- what a member counts as after a block of base n: "a single 一 to 九 after a block counts as digit times base/10, with base/10"
 abbrev pub countValue : ℕ → Member → ℕ
 countValue n m = cond (leb 1 (singleDigit m)) (singleDigit m * (n / 10)) (memberValue m)
 
 abbrev pub countBase : ℕ → Member → ℕ
 countBase n m = cond (leb 1 (singleDigit m)) (n / 10) (memberBase m)
 
--- One or more blocks, or these then one small, or one small.
+-- A numeral: "one or more blocks, or these then one small, or one small; each member after the first has value and base below the base before it." All before the
+-- last are blocks, so that a small stands last, and 万, 億 or 兆 alone has "no small directly before it".
 abbrev pub IsNumeral : Division → Type 0
 IsNumeral (one m) = IsMember m
 IsNumeral (d ▷ m) =
     IsNumeral d × IsBlock (last d) × IsMember m
     × (countValue (memberBase (last d)) m < memberBase (last d)) × (countBase (memberBase (last d)) m < memberBase (last d))
 
-abbrev pub value : Division → ℕ
-value (one m) = memberValue m
-value (d ▷ m) = value d + countValue (memberBase (last d)) m
+-- "A reading's value, and so the numeral's, is the sum."
+abbrev pub divisionValue : Division → ℕ
+divisionValue (one m) = memberValue m
+divisionValue (d ▷ m) = divisionValue d + countValue (memberBase (last d)) m
 
--- The characters of a division, before those of a list.
+-- ---- the characters of a division, before those of a list
+
 abbrev pub runText : Row Digit → List Char → List Char
 runText (one d) w = digit d ∷ w
 runText (r ▷ d) w = runText r (digit d ∷ w)
@@ -151,6 +173,7 @@ abbrev pub divisionText : Division → List Char → List Char
 divisionText (one m) w = memberText m w
 divisionText (d ▷ m) w = divisionText d (memberText m w)
 
+-- "A reading is a division of the whole line into members, atoms and runs by these rules"
 pub record Reading (w : List Char) : Type 0 where
   pub division : Division
   pub whole : divisionText division [] ≡ w

@@ -4,4 +4,3 @@ pub mod NumEdge
 pub mod Characters
 pub mod Chains
 pub mod Passes
-pub mod ChainsLaws

@@ -1,4 +1,5 @@
--- Laws of `from` and `chains` (specs/Chains.antt), for the proofs of a pass's loop and of the theorems on passes. No contract cites this file.
+-- Laws of `from` and `chains` (`specs/Chains.antt`), for the proof of a pass's loop and for theorems on passes. No contract cites this file.
+-- In order: the clauses of `from` as laws; a turn of a loop that takes the list from the left.
 use mathlib.Core.Path.{_≡_, refl}
 use mathlib.Core.List.{List, [], _∷_, _++_, append-assoc}
 use mathlib.Core.Option.{Option, none, some}

@@ -1,0 +1,3 @@
+-- Laws of the passes' definitions that callers cite.
+pub mod ChainsLaws
+pub mod AboveLaws
