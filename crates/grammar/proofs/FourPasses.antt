@@ -11,7 +11,7 @@ use native.Mathlib.Nat.{zero-add}
 use lib.Dec.{leb, ltb, eqb, eqb-refl}
 use lib.ListN.{length, length-append}
 use Rattle.dicts.specs.Table.{Text}
-use Rattle.passes.specs.Given.{encode}
+use Rattle.text.specs.Sequence.{encode}
 use Rattle.passes.specs.NumEdge.{NumEdge, same, orZero, has}
 use Rattle.passes.specs.Chains.{chains}
 use Rattle.passes.specs.Passes.{Pass, D1, G1, G2, G3, Chain, cjk, gap, nearest, begin, longer, touches, digitEdge, d1Rule, g1Rule, g2Rule, g3Rule, exceeds, rule, over, overDigits, joined, next, chainsOf, after}

@@ -4,7 +4,8 @@ use mathlib.Core.Path.{_≡_, refl}
 use mathlib.Core.List.{List, [], _∷_, _++_, map}
 use mathlib.Core.Option.{Option, none, some}
 use Rattle.dicts.specs.Table.{find}
-use Rattle.passes.specs.Given.{decimal, decimalWithin, encode}
+use Rattle.text.specs.Sequence.{encode}
+use Rattle.whole.specs.Decimal.{decimal, decimalWithin}
 use Rattle.passes.specs.NumEdge.{NumEdge, same, firstAbove}
 use Rattle.passes.specs.Characters.{charEdges, charEdge, lowest, gcd, gcdWithin}
 use Rattle.passes.specs.Chains.{from, chains}

@@ -5,7 +5,8 @@ use mathlib.Core.Bool.{true}
 use mathlib.Core.List.{List, [], _∷_, map}
 use mathlib.Core.Option.{none, some}
 use Rattle.dicts.specs.Table.{find}
-use Rattle.passes.specs.Given.{decimal, encode}
+use Rattle.text.specs.Sequence.{encode}
+use Rattle.whole.specs.Decimal.{decimal}
 use Rattle.passes.specs.NumEdge.{NumEdge}
 use Rattle.passes.specs.Characters.{charEdge, charEdges}
 use Rattle.passes.specs.Passes.{cjk}

@@ -11,7 +11,8 @@ use mathlib.Core.List.{List, [], _∷_, _++_, map}
 use mathlib.Core.Option.{Option, none, some}
 use Rattle.dicts.specs.Table.{Text, Record, Table}
 use Rattle.passes.specs.Passes.{digitType, cjk}
-use Rattle.passes.specs.Given.{decimal, encode}
+use Rattle.text.specs.Sequence.{encode}
+use Rattle.whole.specs.Decimal.{decimal}
 
 pub data Digit : Type 0 where
   零 一 二 三 四 五 六 七 八 九 : Digit

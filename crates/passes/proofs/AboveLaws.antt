@@ -6,7 +6,7 @@ use mathlib.Core.Bool.{Bool, true, false, cond, _&&_, true≢false}
 use mathlib.Core.List.{List, [], _∷_, _++_}
 use mathlib.Core.Option.{Option, none, some, Option·some-ne-none, Option·some-injective}
 use lib.Dec.{T, ltb, nltb→le}
-use Rattle.passes.specs.Given.{TOP}
+use Rattle.whole.specs.Whole.{TOP}
 use Rattle.passes.specs.NumEdge.{NumEdge, orZero, above, firstAbove}
 use Rattle.passes.specs.Chains.{from, chains}
 use Rattle.passes.specs.Passes.{Pass, Chain, begin, longer, touches, rule, joined, next, chainsOf, edgesOf, joinedOf, after, added, through, addedBy}

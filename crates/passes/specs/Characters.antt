@@ -9,7 +9,7 @@ use mathlib.Core.List.{List, [], _∷_}
 use mathlib.Core.Option.{Option, none, some, Option·getD, Option·map}
 use lib.Dec.{eqb}
 use Rattle.dicts.specs.Table.{Text, Record, find}
-use Rattle.passes.specs.Given.{encode}
+use Rattle.text.specs.Sequence.{encode}
 use Rattle.passes.specs.NumEdge.{NumEdge}
 
 -- Euclid's algorithm in at most k steps

@@ -1,5 +1,4 @@
 -- The definitions of the passes, in the order in which they are read.
-pub mod Given
 pub mod NumEdge
 pub mod Characters
 pub mod Chains

@@ -12,7 +12,7 @@ use mathlib.Core.List.{List, [], _∷_}
 use mathlib.Core.Option.{Option, none, some}
 use lib.Dec.{eqb, ltb}
 use Rattle.dicts.specs.Table.{Text}
-use Rattle.passes.specs.Given.{TOP}
+use Rattle.whole.specs.Whole.{TOP}
 
 pub record NumEdge : Type 0 where
   -- places: characters of the line

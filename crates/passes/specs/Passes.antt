@@ -15,7 +15,8 @@ use mathlib.Core.List.{List, [], _∷_, _++_, map}
 use mathlib.Core.Option.{Option, none, some}
 use lib.Dec.{leb, ltb, eqb}
 use Rattle.dicts.specs.Table.{Text}
-use Rattle.passes.specs.Given.{decimal, encode}
+use Rattle.text.specs.Sequence.{encode}
+use Rattle.whole.specs.Decimal.{decimal}
 use Rattle.passes.specs.NumEdge.{NumEdge, same, orZero, has}
 use Rattle.passes.specs.Chains.{chains}
 
