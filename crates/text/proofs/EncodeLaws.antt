@@ -22,7 +22,7 @@ pub cond-cases : {A : Type 0} (P : A → Type 0) (t : Bool) {x y : A} → (t ≡
 cond-cases P true f g = f refl
 cond-cases P false f g = g refl
 
-and-true : (p q : Bool) → (p && q) ≡ true → (p ≡ true) × (q ≡ true)
+pub and-true : (p q : Bool) → (p && q) ≡ true → (p ≡ true) × (q ≡ true)
 and-true true q e = (refl, e)
 and-true false q e = absurd (true≢false (sym e))
 

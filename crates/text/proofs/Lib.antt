@@ -3,3 +3,4 @@ pub mod Rows
 pub mod SequenceLaws
 pub mod EncodeLaws
 pub mod LineLaws
+pub mod BytesLaws

@@ -7,11 +7,16 @@ use Prim.Native.Nat.{ℕ, zero, suc, _+_, _-_, _≤_, _<_}
 use native.Mathlib.Numerals.{add-one}
 use native.Mathlib.Omega.{arith}
 use lib.ListN.{length, take, drop, length-append, length-drop}
-use lib.Seq.{drop-nil, drop-append-seam}
+use lib.Seq.{drop-append-seam, drop-drop, take-add, take-nil, take-all}
+use lib.Dec.{eqb}
+use borrow.Author.Tests.{eq-eqb, ne-eqb, le-leb, lt-leb}
+use Rattle.text.specs.declared.Walked.{Walked}
+use Rattle.text.specs.declared.Offset.{Offset}
+use Rattle.text.specs.declared.LineCheck.the-variants.{Chars, IllFormed, TooLong}
 use Rattle.text.specs.declared.Seq.{Seq}
 use Rattle.text.specs.declared.Seq.the-variants.{Char, Ill, End}
 use Rattle.text.specs.Sequence.{seq, scalar, encode}
-use Rattle.text.specs.Line.{Text, Scalars, decode, chars, left, isNil, wellFormed, encodes, offsetOf, illAt, partOf}
+use Rattle.text.specs.Line.{Text, Scalars, decode, chars, left, isNil, wellFormed, encodes, offsetOf, illAt, partOf, walked, maxChars, lineCheck}
 use Rattle.text.proofs.EncodeLaws.{IsChar, seq-char, seq-end-nil, seq-encode, encode-pos}
 
 -- ---- a step
@@ -63,6 +68,9 @@ chars-nil = refl
 pub left-nil : left [] ≡ []
 unfolding left decode
 left-nil = refl
+
+pub chars-end : (s : List ℕ) → seq s ≡ End → chars s ≡ []
+chars-end s e = rw (seq-end-nil s e) chars-nil
 
 -- a character's bytes in front of a text
 module _ (c : ℕ) (s : List ℕ) (h : scalar c ≡ true) where
@@ -145,3 +153,104 @@ module _ (cs : List ℕ) (h : Scalars cs) where
 
   pub encodes-well-formed : wellFormed (encodes cs) ≡ true
   encodes-well-formed = ap wellFormed (sym (append-nil (encodes cs))) ∙ ap isNil (left-encodes cs [] h ∙ left-nil)
+
+-- ---- places and offsets
+-- at is the offset of place n, and the text from there on has the characters from place n on
+pub record Reached (s : List ℕ) (n at : ℕ) : Type 0 where
+  pub behind : drop n (chars s) ≡ chars (drop at s)
+  pub places : length (take n (chars s)) ≡ n
+  pub offset : offsetOf s n ≡ at
+  pub inside : at ≤ length s
+
+pub reached-start : (s : List ℕ) → Reached s 0 0
+unfolding encodes
+reached-start s = record { behind = refl; places = refl; offset = refl; inside = omega arith }
+
+module _ (s : List ℕ) (n at : ℕ) (r : Reached s n at) where
+  module _ (c l : ℕ) (e : seq (drop at s) ≡ Char c l) where
+    pub char-fits : (1 ≤ l) × (at + l ≤ length s)
+    char-fits =
+        let i = seq-char (drop at s) c l e in
+        let h = simp (length-append, length-drop) at (ap length (i .split)) in
+        let k = r .inside in
+        (omega (arith, encode-pos c, i .size), omega (arith, encode-pos c, i .size))
+
+    next : chars (drop at s) ≡ c ∷ chars (drop (at + l) s)
+    next = chars-char (drop at s) c l e ∙ rw (drop-drop l at s)
+
+    take-next : take (n + 1) (chars s) ≡ take n (chars s) ++ (c ∷ [])
+    take-next = take-add n 1 (chars s) ∙ rw (r .behind, next)
+
+    pub reached-char : Reached s (n + 1) (at + l)
+    unfolding encodes
+    reached-char =
+        record {
+          behind = sym (drop-drop 1 n (chars s)) ∙ rw (r .behind, next);
+          places = rw (take-next, length-append, r .places);
+          offset = rw (take-next, encodes-append, length-append, append-nil, r .offset, seq-char (drop at s) c l e .size);
+          inside = char-fits .1;
+        }
+
+  -- a walk ends here: with enough characters, or where no more are
+  pub walk-enough : (most : ℕ) → n ≤ most → most ≤ n → record { count = n; at = at } ≡ walked s most
+  walk-enough most h k = let e : most ≡ n = omega arith in rw e (rw (r .places, r .offset))
+
+  pub walk-stops : (most : ℕ) → n ≤ most → chars (drop at s) ≡ [] → record { count = n; at = at } ≡ walked s most
+  walk-stops most h e =
+      let all : take most (chars s) ≡ take n (chars s) = take-past in
+      rw all (rw (r .places, r .offset))
+    where
+      take-past : take most (chars s) ≡ take n (chars s)
+      take-past =
+          let m : most ≡ n + (most - n) = omega arith in
+          rw m (take-add n (most - n) (chars s) ∙ rw (r .behind, e, take-nil, append-nil))
+
+-- ---- a whole text, walked with its length as the most characters
+length-encodes : (cs : List ℕ) → length cs ≤ length (encodes cs)
+unfolding encodes
+length-encodes [] = omega arith
+length-encodes (c ∷ cs) = rw length-append (omega (arith, encode-pos c, length-encodes cs))
+
+module _ (s : List ℕ) where
+  length-split : length s ≡ length (encodes (chars s)) + length (left s)
+  length-split = ap length (text-split s) ∙ length-append (encodes (chars s)) (left s)
+
+  take-chars : take (length s) (chars s) ≡ chars s
+  take-chars = take-all (length s) (chars s) (omega (arith, length-encodes (chars s), length-split))
+
+  pub count-whole : walked s (length s) .count ≡ length (chars s)
+  count-whole = ap length take-chars
+
+  pub at-whole : walked s (length s) .at ≡ illAt s
+  at-whole = rw take-chars (omega (arith, length-split))
+
+  well-formed-ill-at : wellFormed s ≡ eqb (illAt s) (length s)
+  well-formed-ill-at = by-left (left s) (omega (arith, length-split))
+    where
+      by-left : (t : List ℕ) → illAt s + length t ≡ length s → isNil t ≡ eqb (illAt s) (length s)
+      by-left [] e = sym (eq-eqb (illAt s) (length s) (omega arith))
+      by-left (b ∷ t) e = sym (ne-eqb (illAt s) (length s) (λ h. omega arith))
+
+  pub well-formed-whole : eqb (walked s (length s) .at) (length s) ≡ wellFormed s
+  well-formed-whole = rw at-whole (sym well-formed-ill-at)
+
+  -- the answers of `check_line`, by its tests
+  module _ (w : Walked) (e : w ≡ walked s (length s)) where
+    stopped : w .at ≡ illAt s
+    stopped = ap (λ (v : Walked). v .at) e ∙ at-whole
+
+    counted : w .count ≡ length (chars s)
+    counted = ap (λ (v : Walked). v .count) e ∙ count-whole
+
+    pub check-ill : w .at < length s → IllFormed (record { 0 = w .at }) ≡ lineCheck s
+    check-ill h = rw (stopped, well-formed-ill-at, ne-eqb (illAt s) (length s) (λ p. omega (arith, stopped)))
+
+    module _ (h : length s ≤ w .at) where
+      whole : wellFormed s ≡ true
+      whole = well-formed-ill-at ∙ eq-eqb (illAt s) (length s) (omega (arith, stopped))
+
+      pub check-ok : w .count ≤ maxChars → Chars (w .count) ≡ lineCheck s
+      check-ok k = rw (counted, whole, le-leb (length (chars s)) maxChars (omega (arith, counted)))
+
+      pub check-long : maxChars < w .count → (v : ℕ) → v ≡ offsetOf s maxChars → TooLong (record { 0 = v }) ≡ lineCheck s
+      check-long k v p = rw (p, whole, lt-leb (length (chars s)) maxChars (omega (arith, counted)))

@@ -2,3 +2,4 @@
 pub mod Table
 pub mod Sequence
 pub mod Line
+pub mod Bytes

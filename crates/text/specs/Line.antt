@@ -17,6 +17,7 @@ use lib.Dec.{leb}
 use Rattle.text.specs.declared.Seq.{Seq}
 use Rattle.text.specs.declared.Seq.the-variants.{Char, Ill, End}
 use Rattle.text.specs.declared.Offset.{Offset}
+use Rattle.text.specs.declared.Walked.{Walked}
 use Rattle.text.specs.declared.LineCheck.{LineCheck}
 use Rattle.text.specs.declared.LineCheck.the-variants.{Chars, IllFormed, TooLong}
 use Rattle.text.specs.Sequence.{seq, scalar, encode}
@@ -67,6 +68,10 @@ illAt s = length s - length (left s)
 abbrev pub partOf : List ℕ → ℕ → ℕ → List ℕ
 partOf s a b = encodes (take (b - a) (drop a (chars s)))
 
+-- the first characters of s, at most p: how many they are, and their bytes
+abbrev pub walked : List ℕ → ℕ → Walked
+walked s p = record { count = length (take p (chars s)); at = offsetOf s p }
+
 -- the most characters
 abbrev pub maxChars : ℕ
 maxChars = 256
@@ -76,3 +81,14 @@ lineCheck s =
     cond (wellFormed s)
     (cond (leb (length (chars s)) maxChars) (Chars (length (chars s))) (TooLong (record { 0 = offsetOf s maxChars })))
     (IllFormed (record { 0 = illAt s }))
+
+-- the scope's number and place of each answer
+abbrev pub lineRefusal : LineCheck → ℕ
+lineRefusal (Chars n) = 0
+lineRefusal (IllFormed at) = 2
+lineRefusal (TooLong at) = 3
+
+abbrev pub linePlace : LineCheck → ℕ
+linePlace (Chars n) = n
+linePlace (IllFormed at) = at .0
+linePlace (TooLong at) = at .0

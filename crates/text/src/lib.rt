@@ -5,6 +5,8 @@ ghost use Prim.Native.Nat.{ℕ, _+_, _*_, _%_, _≤_, _<_};
 ghost use lib.ListN.{length, getD, drop};
 ghost use Rattle.text.specs.Table.{rowOf, within, trail, six};
 ghost use Rattle.text.specs.Sequence.{seq, trailing};
+ghost use Rattle.text.specs.Line.{walked, wellFormed, offsetOf, lineCheck};
+ghost use Rattle.text.specs.Bytes.{same};
 
 // A count of characters of the line.
 pub struct Place(pub usize);
@@ -180,9 +182,85 @@ pub fn seq_at(s: &[u8], at: Offset) -> Seq
     }
 }
 
-// What a line is: so many characters; ill-formed, with the offset of the first ill-formed sequence; longer than MAX_CHARS, with the offset of the character behind them.
+// How far a walk over characters came: how many, and their length in bytes.
+pub struct Walked {
+    pub count: usize,
+    pub at: usize,
+}
+
+// Over the characters from the start, at most so many, up to the end or an ill-formed sequence.
+pub fn walk(s: &[u8], most: usize) -> Walked
+    ensures { λ r. ⌜ r ≡ walked (now (s .entry)) most ⌝ }
+{
+    let mut count = 0;
+    let mut at = 0;
+    while count < most {
+        match seq_at(s, Offset(at)) {
+            Seq::Char(_, len) => {
+                count += 1;
+                at += len;
+            }
+            Seq::Ill => {
+                return Walked { count, at };
+            }
+            Seq::End => {
+                return Walked { count, at };
+            }
+        }
+    }
+    Walked { count, at }
+}
+
+// Whether all of s is well-formed.
+pub fn well_formed(s: &[u8]) -> bool
+    ensures { λ r. ⌜ r ≡ wellFormed (now (s .entry)) ⌝ }
+{
+    let w = walk(s, s.len());
+    w.at == s.len()
+}
+
+// The offset of a place of the line; the line's length for a place behind its end.
+pub fn offset_of(line: &[u8], place: Place) -> Offset
+    ensures { λ r. ⌜ r .0 ≡ offsetOf (now (line .entry)) (place .0) ⌝ }
+{
+    let w = walk(line, place.0);
+    Offset(w.at)
+}
+
+// What a line is: so many characters; not UTF-8, with the offset of its first ill-formed sequence; over MAX_CHARS, with the offset of the next one.
 pub enum LineCheck {
     Chars(usize),
     IllFormed(Offset),
     TooLong(Offset),
+}
+
+// Refusals 2 and 3. The whole line is looked at for 2 before 3 is asked; an accepted line is walked once.
+pub fn check_line(line: &[u8]) -> LineCheck
+    ensures { λ r. ⌜ r ≡ lineCheck (now (line .entry)) ⌝ }
+{
+    let w = walk(line, line.len());
+    if w.at < line.len() {
+        return LineCheck::IllFormed(Offset(w.at));
+    }
+    if w.count <= MAX_CHARS {
+        return LineCheck::Chars(w.count);
+    }
+    LineCheck::TooLong(offset_of(line, Place(MAX_CHARS)))
+}
+
+// Whether two byte strings are equal.
+pub fn same_bytes(a: &[u8], b: &[u8]) -> bool
+    ensures { λ r. ⌜ r ≡ same (now (a .entry)) (now (b .entry)) ⌝ }
+{
+    if a.len() != b.len() {
+        return false;
+    }
+    let mut i = 0;
+    while i < a.len() {
+        if a[i] != b[i] {
+            return false;
+        }
+        i += 1;
+    }
+    true
 }
