@@ -8,7 +8,7 @@ use lib.ListN.{length, getD, drop, drop-of-length-le}
 use lib.Dec.{eqb}
 use borrow.Author.Tests.{eq-eqb, ne-eqb, eqb-true}
 use Rattle.text.specs.Bytes.{same}
-use Rattle.text.proofs.EncodeLaws.{and-true}
+use Rattle.text.proofs.RowLaws.{and-true}
 use Rattle.text.proofs.SequenceLaws.{drop-at}
 
 pub same-refl : (a : List ℕ) → same a a ≡ true

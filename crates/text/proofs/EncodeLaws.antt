@@ -1,84 +1,21 @@
 -- Encoding and decoding agree: what `seq` reads as c is `encode c`, of a scalar value c, and the bytes of a scalar value are read as it.
--- In order: tests; the rows of table 3-7 by cases; the bytes of a code point by its size; `seq` reads `encode`; `seq` reads nothing else.
+-- In order: the bytes of a code point by its size; what `seq` reads is an encoding; `seq` reads every encoding.
 use mathlib.Core.Path.{_≡_, refl, sym, ap, _∙_, subst}
-use mathlib.Core.Bool.{Bool, true, false, cond, _&&_, _||_, true≢false}
+use mathlib.Core.Bool.{Bool, true, false}
 use mathlib.Core.List.{List, [], _∷_, _++_}
 use mathlib.Core.Logic.{_⊎_, inl, inr, ⊎-elim}
 use Prim.Native.Nat.{ℕ, zero, suc, _+_, _*_, _/_, _%_, _≤_, _<_}
 use native.Mathlib.Omega.{arith}
 use lib.ListN.{length, drop, length-append}
 use lib.Seq.{append-snoc, drop-append-seam}
-use lib.Dec.{leb, ltb, eqb}
-use borrow.Author.Tests.{le-leb, lt-leb, lt-ltb, le-ltb, leb-true, leb-false, ltb-true, ltb-false, eqb-true, eqb-false}
-use Rattle.text.proofs.Rows.{row-at}
+use lib.Dec.{ltb}
+use borrow.Author.Tests.{le-leb, lt-leb, lt-ltb, le-ltb, ltb-true, ltb-false}
 use Rattle.text.specs.declared.Row.{Row}
 use Rattle.text.specs.declared.Seq.{Seq}
 use Rattle.text.specs.declared.Seq.the-variants.{Char, Ill, End}
 use Rattle.text.specs.Table.{row, rowOf, within, trail, six}
 use Rattle.text.specs.Sequence.{trailing, bySize, seq, scalar, encode, trailByte}
-
--- ---- tests
-pub cond-cases : {A : Type 0} (P : A → Type 0) (t : Bool) {x y : A} → (t ≡ true → P x) → (t ≡ false → P y) → P (cond t x y)
-cond-cases P true f g = f refl
-cond-cases P false f g = g refl
-
-pub and-true : (p q : Bool) → (p && q) ≡ true → (p ≡ true) × (q ≡ true)
-and-true true q e = (refl, e)
-and-true false q e = absurd (true≢false (sym e))
-
-or-true : (p q : Bool) → (p || q) ≡ true → (p ≡ true) ⊎ (q ≡ true)
-or-true true q e = inl refl
-or-true false q e = inr e
-
-within-is : (lo hi x : ℕ) → within lo hi x ≡ true → (lo ≤ x) × (x ≤ hi)
-within-is lo hi x e = let h = and-true (leb lo x) (leb x hi) e in (leb-true lo x (h .0), leb-true x hi (h .1))
-
-not-within : (lo hi x : ℕ) → within lo hi x ≡ false → lo ≤ x → hi < x
-not-within lo hi x e h = leb-false x hi (rw (le-leb lo x h) at e)
-
-is-within : (lo hi x : ℕ) → lo ≤ x → x ≤ hi → within lo hi x ≡ true
-is-within lo hi x h k = simp (le-leb lo x h, le-leb x hi k)
-
--- ---- the rows
-module _ (b : ℕ) (P : Row → Type 0) where
-  by-row : (b ≤ 0x7F → P (row 1 0 0)) → (0xC2 ≤ b → b ≤ 0xDF → P (row 2 0x80 0xBF))
-      → (b ≡ 0xE0 → P (row 3 0xA0 0xBF)) → (0xE1 ≤ b → b ≤ 0xEC → P (row 3 0x80 0xBF)) → (b ≡ 0xED → P (row 3 0x80 0x9F)) → (0xEE ≤ b → b ≤ 0xEF → P (row 3 0x80 0xBF))
-      → (b ≡ 0xF0 → P (row 4 0x90 0xBF)) → (0xF1 ≤ b → b ≤ 0xF3 → P (row 4 0x80 0xBF)) → (b ≡ 0xF4 → P (row 4 0x80 0x8F))
-      → (0x7F < b → (0xC2 ≤ b → 0xF4 < b) → P (row 0 0 0)) → P (rowOf b)
-  unfolding rowOf
-  by-row one two e0 e1 ed ee f0 f1 f4 none =
-      range 0x00 0x7F (λ h k. one k)
-      (λ n1. range 0xC2 0xDF two
-      (λ n2. lead 0xE0 e0
-      (λ n3. range 0xE1 0xEC e1
-      (λ n4. lead 0xED ed
-      (λ n5. range 0xEE 0xEF ee
-      (λ n6. lead 0xF0 f0
-      (λ n7. range 0xF1 0xF3 f1
-      (λ n8. lead 0xF4 f4
-      (λ n9. none (n1 (omega arith)) (λ h. let a = n2 h in let d = n4 (omega arith) in let g = n6 (omega arith) in let i = n8 (omega arith) in omega arith))))))))))
-    where
-      range : (lo hi : ℕ) {x y : Row} → (lo ≤ b → b ≤ hi → P x) → ((lo ≤ b → hi < b) → P y) → P (cond (within lo hi b) x y)
-      range lo hi f g = cond-cases P (within lo hi b) (λ t. let h = within-is lo hi b t in f (h .0) (h .1)) (λ t. g (not-within lo hi b t))
-
-      lead : (v : ℕ) {x y : Row} → (b ≡ v → P x) → ((b ≡ v → ⊥) → P y) → P (cond (eqb b v) x y)
-      lead v f g = cond-cases P (eqb b v) (λ t. f (eqb-true b v t)) (λ t. g (eqb-false b v t))
-
--- the rows of three and of four bytes
-module _ (b : ℕ) (P : Row → Type 0) where
-  by-three : 0xE0 ≤ b → b ≤ 0xEF
-      → (b ≡ 0xE0 → P (row 3 0xA0 0xBF)) → (0xE1 ≤ b → b ≤ 0xEC → P (row 3 0x80 0xBF)) → (b ≡ 0xED → P (row 3 0x80 0x9F)) → (0xEE ≤ b → b ≤ 0xEF → P (row 3 0x80 0xBF))
-      → P (rowOf b)
-  by-three h k e0 e1 ed ee =
-      by-row b P (λ l. absurd (omega arith)) (λ l g. absurd (omega arith)) e0 e1 ed ee
-      (λ e. absurd (omega arith)) (λ l g. absurd (omega arith)) (λ e. absurd (omega arith)) (λ l g. absurd (omega (arith, g (omega arith))))
-
-  by-four : 0xF0 ≤ b → b ≤ 0xF4
-      → (b ≡ 0xF0 → P (row 4 0x90 0xBF)) → (0xF1 ≤ b → b ≤ 0xF3 → P (row 4 0x80 0xBF)) → (b ≡ 0xF4 → P (row 4 0x80 0x8F)) → P (rowOf b)
-  by-four h k f0 f1 f4 =
-      by-row b P (λ l. absurd (omega arith)) (λ l g. absurd (omega arith))
-      (λ e. absurd (omega arith)) (λ l g. absurd (omega arith)) (λ e. absurd (omega arith)) (λ l g. absurd (omega arith))
-      f0 f1 f4 (λ l g. absurd (omega (arith, g (omega arith))))
+use Rattle.text.proofs.RowLaws.{cond-cases, or-true, within-is, is-within, row-at, by-row, by-three, by-four}
 
 -- ---- the bytes of a code point, by its size
 module _ (c : ℕ) where
@@ -189,7 +126,7 @@ seq-sound : (s : List ℕ) → Sound s (seq s)
 unfolding seq bySize
 seq-sound [] = end refl
 seq-sound (b ∷ s) =
-    by-row b (λ r. Sound (b ∷ s) (bySize (r .len) (r .lo) (r .hi) b s))
+    by-row b (λ r. Sound (b ∷ s) (bySize (r .0) (r .1) (r .2) b s))
     (λ h. trailing-sound 0 0 0 b (b ∷ []) s (encode-one b (omega arith), scalar-low b (omega arith)))
     (λ h k. trailing-sound 1 0x80 0xBF (b % 32) (b ∷ []) s (λ x p q. (two-bytes b x 0 0 h k p q, scalar-low (six (b % 32) x) (omega arith))))
     (λ e. three-sound b 0xA0 0xBF s (omega arith) (omega arith) (omega arith) (omega arith) (λ x y p q r t. (omega arith, scalar-low (six (six (b % 16) x) y) (omega arith))))
@@ -253,7 +190,7 @@ module _ (c : ℕ) (s : List ℕ) where
 
   -- the lead byte b and the bytes t behind it are read as c
   abbrev ReadAs : ℕ → List ℕ → ℕ → Row → Type 0
-  ReadAs b t n r = bySize (r .len) (r .lo) (r .hi) b t ≡ Char c n
+  ReadAs b t n r = bySize (r .0) (r .1) (r .2) b t ≡ Char c n
 
   lead-three : 0x800 ≤ c → c < 0x10000 → scalar c ≡ true
       → ReadAs (0xE0 + c / 64 / 64) (trailByte (c / 64) ∷ trailByte c ∷ s) 3 (rowOf (0xE0 + c / 64 / 64))

@@ -68,26 +68,26 @@ module _ (s : List ℕ) where
   seq-end at h = rw (drop-of-length-le s h)
 
   module _ (at : ℕ) (h : at < length s) (r : Row) (e : r ≡ rowOf (getD s at 0)) where
-    seq-at : seq (drop at s) ≡ bySize (r .len) (r .lo) (r .hi) (getD s at 0) (drop (at + 1) s)
+    seq-at : seq (drop at s) ≡ bySize (r .0) (r .1) (r .2) (getD s at 0) (drop (at + 1) s)
     unfolding seq
     seq-at = rw (drop-at at h, e)
 
-    pub seq-one : r .len ≡ 1 → Char (getD s at 0) 1 ≡ seq (drop at s)
+    pub seq-one : r .0 ≡ 1 → Char (getD s at 0) 1 ≡ seq (drop at s)
     unfolding bySize
     seq-one p = rw (seq-at, p)
 
-    pub seq-two : r .len ≡ 2 → trailing 1 (r .lo) (r .hi) (getD s at 0 % 32) 1 (drop (at + 1) s) ≡ seq (drop at s)
+    pub seq-two : r .0 ≡ 2 → trailing 1 (r .1) (r .2) (getD s at 0 % 32) 1 (drop (at + 1) s) ≡ seq (drop at s)
     unfolding bySize
     seq-two p = rw (seq-at, p)
 
-    pub seq-three : r .len ≡ 3 → trailing 2 (r .lo) (r .hi) (getD s at 0 % 16) 1 (drop (at + 1) s) ≡ seq (drop at s)
+    pub seq-three : r .0 ≡ 3 → trailing 2 (r .1) (r .2) (getD s at 0 % 16) 1 (drop (at + 1) s) ≡ seq (drop at s)
     unfolding bySize
     seq-three p = rw (seq-at, p)
 
-    pub seq-four : r .len ≡ 4 → trailing 3 (r .lo) (r .hi) (getD s at 0 % 8) 1 (drop (at + 1) s) ≡ seq (drop at s)
+    pub seq-four : r .0 ≡ 4 → trailing 3 (r .1) (r .2) (getD s at 0 % 8) 1 (drop (at + 1) s) ≡ seq (drop at s)
     unfolding bySize
     seq-four p = rw (seq-at, p)
 
-    pub seq-none : (r .len ≡ 1 → ⊥) → (r .len ≡ 2 → ⊥) → (r .len ≡ 3 → ⊥) → (r .len ≡ 4 → ⊥) → Ill ≡ seq (drop at s)
+    pub seq-none : (r .0 ≡ 1 → ⊥) → (r .0 ≡ 2 → ⊥) → (r .0 ≡ 3 → ⊥) → (r .0 ≡ 4 → ⊥) → Ill ≡ seq (drop at s)
     unfolding bySize
-    seq-none n1 n2 n3 n4 = rw seq-at (simp (ne-eqb (r .len) 1 n1, ne-eqb (r .len) 2 n2, ne-eqb (r .len) 3 n3, ne-eqb (r .len) 4 n4))
+    seq-none n1 n2 n3 n4 = rw seq-at (simp (ne-eqb (r .0) 1 n1, ne-eqb (r .0) 2 n2, ne-eqb (r .0) 3 n3, ne-eqb (r .0) 4 n4))

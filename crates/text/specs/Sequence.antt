@@ -30,7 +30,7 @@ bySize n lo hi b s =
 unfoldable pub seq : List ℕ → Seq
 unfolding bySize rowOf
 seq [] = End
-seq (b ∷ s) = bySize (rowOf b .len) (rowOf b .lo) (rowOf b .hi) b s
+seq (b ∷ s) = bySize (rowOf b .0) (rowOf b .1) (rowOf b .2) b s
 
 abbrev pub scalar : ℕ → Bool
 scalar c = within 0 0xD7FF c || within 0xE000 0x10FFFF c

@@ -12,7 +12,7 @@ abbrev pub within : ℕ → ℕ → ℕ → Bool
 within lo hi x = leb lo x && leb x hi
 
 abbrev pub row : ℕ → ℕ → ℕ → Row
-row n lo hi = record { len = n; lo = lo; hi = hi }
+row n lo hi = record { 0 = n; 1 = lo; 2 = hi }
 
 unfoldable pub rowOf : ℕ → Row
 rowOf b =

@@ -5,7 +5,8 @@ ghost use Prim.Native.Nat.{ℕ, _+_, _*_, _%_, _≤_, _<_};
 ghost use lib.ListN.{length, getD, drop};
 ghost use Rattle.text.specs.Table.{rowOf, within, trail, six};
 ghost use Rattle.text.specs.Sequence.{seq, trailing};
-ghost use Rattle.text.specs.Line.{walked, wellFormed, offsetOf, lineCheck};
+ghost use Rattle.text.specs.Text.{wellFormed, offsetOf};
+ghost use Rattle.text.specs.Line.{walked, lineCheck};
 ghost use Rattle.text.specs.Bytes.{same};
 
 // A count of characters of the line.
@@ -18,11 +19,7 @@ pub struct Offset(pub usize);
 pub const MAX_CHARS: usize = 256;
 
 // A row of table 3-7: the sequence's length, and the limits of its second byte.
-pub struct Row {
-    pub len: usize,
-    pub lo: u8,
-    pub hi: u8,
-}
+pub struct Row(pub usize, pub u8, pub u8);
 
 // What stands at an offset: a character, by its code point and its length in bytes; an ill-formed sequence; the end.
 pub enum Seq {
@@ -36,56 +33,16 @@ pub fn row_of(b: u8) -> Row
     ensures { λ r. ⌜ r ≡ rowOf b ⌝ }
 {
     match b {
-        0x00..=0x7F => Row {
-            len: 1,
-            lo: 0,
-            hi: 0,
-        },
-        0xC2..=0xDF => Row {
-            len: 2,
-            lo: 0x80,
-            hi: 0xBF,
-        },
-        0xE0 => Row {
-            len: 3,
-            lo: 0xA0,
-            hi: 0xBF,
-        },
-        0xE1..=0xEC => Row {
-            len: 3,
-            lo: 0x80,
-            hi: 0xBF,
-        },
-        0xED => Row {
-            len: 3,
-            lo: 0x80,
-            hi: 0x9F,
-        },
-        0xEE..=0xEF => Row {
-            len: 3,
-            lo: 0x80,
-            hi: 0xBF,
-        },
-        0xF0 => Row {
-            len: 4,
-            lo: 0x90,
-            hi: 0xBF,
-        },
-        0xF1..=0xF3 => Row {
-            len: 4,
-            lo: 0x80,
-            hi: 0xBF,
-        },
-        0xF4 => Row {
-            len: 4,
-            lo: 0x80,
-            hi: 0x8F,
-        },
-        _ => Row {
-            len: 0,
-            lo: 0,
-            hi: 0,
-        },
+        0x00..=0x7F => Row(1, 0, 0),
+        0xC2..=0xDF => Row(2, 0x80, 0xBF),
+        0xE0 => Row(3, 0xA0, 0xBF),
+        0xE1..=0xEC => Row(3, 0x80, 0xBF),
+        0xED => Row(3, 0x80, 0x9F),
+        0xEE..=0xEF => Row(3, 0x80, 0xBF),
+        0xF0 => Row(4, 0x90, 0xBF),
+        0xF1..=0xF3 => Row(4, 0x80, 0xBF),
+        0xF4 => Row(4, 0x80, 0x8F),
+        _ => Row(0, 0, 0),
     }
 }
 
@@ -172,12 +129,12 @@ pub fn seq_at(s: &[u8], at: Offset) -> Seq
     }
     let b = s[at];
     let row = row_of(b);
-    let len = row.len;
+    let len = row.0;
     match len {
         1 => Seq::Char(wide(b), 1),
-        2 => two(s, at, row.lo, row.hi),
-        3 => three(s, at, row.lo, row.hi),
-        4 => four(s, at, row.lo, row.hi),
+        2 => two(s, at, row.1, row.2),
+        3 => three(s, at, row.1, row.2),
+        4 => four(s, at, row.1, row.2),
         _ => Seq::Ill,
     }
 }

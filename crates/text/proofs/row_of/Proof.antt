@@ -1,6 +1,6 @@
 use native.Mathlib.Omega.{arith}
 use Rattle.text.specs.Table.{rowOf, row}
-use Rattle.text.proofs.Rows.{row-at}
+use Rattle.text.proofs.RowLaws.{row-at}
 use Rattle.text.proofs.row_of.Statement.{statement}
 use Rattle.text.proofs.row_of.Tie as tie
 use Rattle.text.proofs.row_of.Reads as reads

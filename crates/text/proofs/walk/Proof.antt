@@ -6,7 +6,8 @@ use native.Mathlib.Omega.{arith}
 use lib.ListN.{drop}
 use Rattle.text.specs.declared.Seq.the-variants.{Char}
 use Rattle.text.specs.Sequence.{seq}
-use Rattle.text.proofs.LineLaws.{Reached, reached-start, reached-char, char-fits, chars-ill, chars-end, walk-enough, walk-stops}
+use Rattle.text.proofs.TextLaws.{chars-ill, chars-end}
+use Rattle.text.proofs.PlaceLaws.{Reached, reached-start, reached-char, char-fits, walk-enough, walk-stops}
 use Rattle.text.proofs.walk.Statement.{statement}
 use Rattle.text.proofs.walk.Tie as tie
 use Rattle.text.proofs.walk.Reads as reads
