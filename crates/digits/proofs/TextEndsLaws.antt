@@ -1,21 +1,29 @@
--- Laws of `endsFrom` (`specs/TextEnds.antt`): a turn of the loop that tries the endings of a text, the shortest first. Assumes nothing.
-use mathlib.Core.Path.{_≡_, refl, sym, ap, _∙_}
+-- Laws of `specs/TextEnds.antt`. In order: a turn of the loop that tries the endings of a text, the shortest first; the endings of a
+-- character's bytes; the last of a text's characters; the first. Assumes nothing.
+use mathlib.Core.Path.{_≡_, refl, sym, _∙_}
 use mathlib.Core.Bool.{Bool, true, false, cond}
-use mathlib.Core.List.{List}
+use mathlib.Core.List.{List, [], _∷_, _++_, append-assoc, append-nil}
 use mathlib.Core.Logic.{_⊎_, inl, inr}
-use Prim.Native.Nat.{ℕ, zero, suc, _+_, _-_, _≤_, _<_}
+use Prim.Native.Nat.{ℕ, zero, suc, _+_, _-_, _/_, _≤_, _<_}
+use native.Mathlib.Nat.{suc-add, le-of-suc-le-suc}
 use native.Mathlib.Numerals.{add-one}
 use native.Mathlib.Omega.{arith}
 use denote.Enum.Declared.{tagOf}
-use lib.Dec.{leb, eqb}
-use lib.ListN.{length}
+use lib.Dec.{leb, ltb}
+use lib.ListN.{length, drop, length-append, length-drop}
+use lib.Seq.{drop-append-add, drop-drop}
 use borrow.Author.Tests.{le-leb, lt-leb, eq-eqb, ne-eqb}
 use Rattle.text.proofs.Seq.{the-type}
 use Rattle.text.specs.declared.Seq.{Seq}
 use Rattle.text.specs.declared.Seq.the-variants.{Char, Ill, End}
-use Rattle.text.specs.Sequence.{seq}
+use Rattle.text.specs.Table.{row, rowOf}
+use Rattle.text.specs.Sequence.{bySize, seq, scalar, trailByte, encode}
+use Rattle.text.specs.Line.{Scalars, chars, encodes}
+use Rattle.text.proofs.Rows.{row-at}
+use Rattle.text.proofs.EncodeLaws.{cond-cases, seq-end-nil, seq-encode, encode-pos}
+use Rattle.text.proofs.LineLaws.{chars-nil, chars-char, chars-ill}
 use Rattle.digits.specs.Digits.{isDigit}
-use Rattle.digits.specs.TextEnds.{ending, wholeDigit, endsFrom, endsWithDigit}
+use Rattle.digits.specs.TextEnds.{beginsWithDigit, ending, wholeDigit, endsFrom, endsWithDigit, firstIsDigit, lastIsDigit}
 
 -- k bytes that begin with q are no whole sequence
 abbrev pub NotWhole : ℕ → Seq → Type 0
@@ -56,3 +64,90 @@ module _ (s : List ℕ) (k : ℕ) (so-far : endsFrom (5 - k) k s ≡ endsWithDig
       longer-ending n =
           let e : 5 - (k + 1) ≡ 4 - k = omega arith in
           rw (e, add-one) (sym (n (endsFrom (4 - k) (suc k) s)) ∙ by-ending)
+
+-- ---- the endings of a character's bytes: behind the first byte no sequence begins
+trail-ill : (x : ℕ) (s : List ℕ) → seq (trailByte x ∷ s) ≡ Ill
+unfolding seq bySize rowOf
+trail-ill x s = rw (← row-at 0x80 66 (row 0 0 0) tt (trailByte x) (omega arith) (omega arith))
+
+-- no sequence begins anywhere in ts
+abbrev NoLead : List ℕ → Type 0
+NoLead ts = (i : ℕ) → i < length ts → seq (drop i ts) ≡ Ill
+
+no-bytes : NoLead []
+no-bytes i h = absurd (omega arith)
+
+trail-cons : (x : ℕ) (ts : List ℕ) → NoLead ts → NoLead (trailByte x ∷ ts)
+trail-cons x ts n zero h = trail-ill x ts
+trail-cons x ts n (suc i) h = n i (le-of-suc-le-suc h)
+
+-- at most four bytes, of which only the first can begin a sequence
+record OneLead (bs : List ℕ) : Type 0 where
+  most : length bs ≤ 4
+  behind : NoLead (drop 1 bs)
+
+encode-lead : (c : ℕ) → OneLead (encode c)
+unfolding encode
+encode-lead c =
+    by (ltb c 0x80) (record { most = omega arith; behind = no-bytes })
+    (by (ltb c 0x800) (record { most = omega arith; behind = last })
+    (by (ltb c 0x10000) (record { most = omega arith; behind = trail-cons (c / 64) _ last })
+    (record { most = omega arith; behind = trail-cons (c / 64 / 64) _ (trail-cons (c / 64) _ last) })))
+  where
+    by : (t : Bool) {x y : List ℕ} → OneLead x → OneLead y → OneLead (cond t x y)
+    by t p q = cond-cases OneLead t (λ e. p) (λ e. q)
+
+    last : NoLead (trailByte c ∷ [])
+    last = trail-cons c [] no-bytes
+
+ending-append : (s t : List ℕ) (k : ℕ) → k ≤ length t → ending k (s ++ t) ≡ ending k t
+ending-append s t k h =
+    let e : length (s ++ t) - k ≡ length s + (length t - k) = omega (arith, length-append s t) in
+    rw (e, drop-append-add)
+
+-- ---- the last of a text's characters
+module _ (s : List ℕ) (c : ℕ) (h : scalar c ≡ true) where
+  whole : (k : ℕ) → k ≡ length (encode c) → seq (ending k (s ++ encode c)) ≡ Char c k
+  whole k e =
+      let z : length (encode c) - k ≡ 0 = omega arith in
+      rw (ending-append s (encode c) k (omega arith), z, e) (rw append-nil at (seq-encode c [] h))
+
+  part : (k : ℕ) → 1 ≤ k → k < length (encode c) → seq (ending k (s ++ encode c)) ≡ Ill
+  part k l m =
+      let i = length (encode c) - 1 - k in
+      let z : length (encode c) - k ≡ 1 + i = omega arith in
+      rw (ending-append s (encode c) k (omega arith), z, ← drop-drop i 1 (encode c)) (encode-lead c .behind i (rw length-drop (omega arith)))
+
+  -- m endings of k and more bytes are parts of the character, and the next one is the whole
+  endings : (m k r : ℕ) → k + m ≡ length (encode c) → 1 ≤ k → endsFrom (suc (m + r)) k (s ++ encode c) ≡ isDigit c
+  unfolding endsFrom
+  endings zero k r e l = rw (le-leb k (length (s ++ encode c)) (omega (arith, length-append s (encode c))), whole k (omega arith), eq-eqb k k refl)
+  endings (suc m) k r e l =
+      rw (le-leb k (length (s ++ encode c)) (omega (arith, length-append s (encode c))), part k l (omega arith), suc-add)
+      (endings m (suc k) r (omega arith) (omega arith))
+
+  ends-in : endsWithDigit (s ++ encode c) ≡ isDigit c
+  unfolding endsWithDigit
+  ends-in =
+      let k = length (encode c) in
+      let p = encode-pos c in
+      let q = encode-lead c .most in
+      let z : 4 ≡ suc (k - 1 + (4 - k)) = omega arith in
+      rw z (endings (k - 1) 1 (4 - k) (omega arith) (omega arith))
+
+ends-after : (s : List ℕ) (c : ℕ) (cs : List ℕ) → Scalars (c ∷ cs) → endsWithDigit (s ++ encodes (c ∷ cs)) ≡ lastIsDigit (c ∷ cs)
+unfolding encodes lastIsDigit
+ends-after s c [] h = rw append-nil (ends-in s c (h .0))
+ends-after s c (d ∷ cs) h = rw (← append-assoc) (ends-after (s ++ encode c) d cs (h .1))
+
+pub ends-by : (cs : List ℕ) → Scalars cs → endsWithDigit (encodes cs) ≡ lastIsDigit cs
+unfolding encodes endsWithDigit endsFrom lastIsDigit
+ends-by [] h = refl
+ends-by (c ∷ cs) h = ends-after [] c cs h
+
+-- ---- the first
+pub begins-by : (s : List ℕ) (q : Seq) → seq s ≡ q → beginsWithDigit s ≡ firstIsDigit (chars s)
+unfolding beginsWithDigit firstIsDigit
+begins-by s (Char c l) e = rw (e, chars-char s c l e)
+begins-by s Ill e = rw (e, chars-ill s e)
+begins-by s End e = rw (e, seq-end-nil s e, chars-nil)

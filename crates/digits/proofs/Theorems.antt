@@ -1,97 +1,30 @@
--- There are 680 decimal digits. The runs are disjoint, as the table rises by ten or more, so that they count ten each. Assumes nothing.
-use mathlib.Core.Path.{_≡_, refl, sym, ap, _∙_}
-use mathlib.Core.Bool.{Bool, true, false, cond, _&&_, _||_}
-use mathlib.Core.List.{List, [], _∷_}
-use Prim.Native.Nat.{ℕ, zero, suc, _+_, _-_, _*_, _≤_, _<_}
-use native.Mathlib.Nat.{zero-add, suc-add, add-zero}
+-- What is promised of the digits beyond the contracts: there are 680 of them, and of well-formed UTF-8 the first and the last character is asked.
+-- Assumes nothing.
+use mathlib.Core.Path.{_≡_, refl, ap, _∙_}
+use mathlib.Core.Bool.{true}
+use mathlib.Core.List.{List}
+use Prim.Native.Nat.{ℕ, _≤_}
 use native.Mathlib.Omega.{arith}
-use lib.Dec.{T, leb}
-use lib.ListN.{length}
-use borrow.Author.Tests.{le-leb, lt-leb}
-use Rattle.digits.specs.Digits.{starts, inRuns, isDigit, count}
-use Rattle.digits.proofs.DigitsLaws.{apart, starts-apart, apart-first, apart-rest}
+use Rattle.text.specs.Sequence.{seq}
+use Rattle.text.specs.Line.{chars, wellFormed}
+use Rattle.text.proofs.LineLaws.{well-formed-split, chars-scalars}
+use Rattle.digits.specs.Digits.{starts, isDigit, count}
+use Rattle.digits.specs.TextEnds.{beginsWithDigit, endsWithDigit, firstIsDigit, lastIsDigit}
+use Rattle.digits.proofs.DigitsLaws.{starts-apart}
+use Rattle.digits.proofs.CountLaws.{end, ten-each}
+use Rattle.digits.proofs.TextEndsLaws.{begins-by, ends-by}
 
--- ---- laws of `count`
-suc-if : (b : Bool) (m n : ℕ) → cond b (suc (m + n)) (m + n) ≡ cond b (suc m) m + n
-suc-if true m n = omega arith
-suc-if false m n = refl
-
-count-add : (p : ℕ → Bool) (a m n : ℕ) → count p a (m + n) ≡ count p a m + count p (a + m) n
-unfolding count
-count-add p a zero n = rw (zero-add, add-zero) (omega arith)
-count-add p a (suc m) n =
-    let next : suc a + m ≡ a + suc m = omega arith in
-    rw (suc-add, count-add p (suc a) m n, next) (suc-if (p a) (count p (suc a) m) (count p (a + suc m) n))
-
-count-same : (p q : ℕ → Bool) (a n : ℕ) → ((c : ℕ) → a ≤ c → c < a + n → p c ≡ q c) → count p a n ≡ count q a n
-unfolding count
-count-same p q a zero h = refl
-count-same p q a (suc n) h = rw (h a (omega arith) (omega arith), count-same p q (suc a) n (λ c l k. h c (omega arith) (omega arith)))
-
-count-all : (a n : ℕ) → count (λ c. true) a n ≡ n
-unfolding count
-count-all a zero = refl
-count-all a (suc n) = ap suc (count-all (suc a) n)
-
-count-none : (a n : ℕ) → count (λ c. false) a n ≡ 0
-unfolding count
-count-none a zero = refl
-count-none a (suc n) = count-none (suc a) n
-
--- ---- the runs from a on, that end at `end a ss` at the latest
-end : ℕ → List ℕ → ℕ
-end a [] = a
-end a (s ∷ ss) = end (s + 10) ss
-
-below : (c a : ℕ) (ss : List ℕ) → T (apart a ss) → c < a → inRuns ss c ≡ false
-unfolding inRuns
-below c a [] t h = refl
-below c a (s ∷ ss) t h =
-    let k = apart-first a s ss t in
-    rw (lt-leb s c (omega arith)) (below c (s + 10) ss (apart-rest a s ss t) (omega arith))
-
-end-le : (a : ℕ) (ss : List ℕ) → T (apart a ss) → a ≤ end a ss
-unfolding end
-end-le a [] t = omega arith
-end-le a (s ∷ ss) t = omega (arith, apart-first a s ss t, end-le (s + 10) ss (apart-rest a s ss t))
-
-module _ (s : ℕ) (ss : List ℕ) (t : T (apart (s + 10) ss)) where
-  before-run : (c : ℕ) → c < s → inRuns (s ∷ ss) c ≡ false
-  unfolding inRuns
-  before-run c h = rw (lt-leb s c h) (below c (s + 10) ss t (omega arith))
-
-  in-run : (c : ℕ) → s ≤ c → c < s + 10 → inRuns (s ∷ ss) c ≡ true
-  unfolding inRuns
-  in-run c h k = rw (le-leb s c h, le-leb c (s + 9) (omega arith))
-
-  after-run : (c : ℕ) → s + 10 ≤ c → inRuns (s ∷ ss) c ≡ inRuns ss c
-  unfolding inRuns
-  after-run c h = rw (le-leb s c (omega arith), lt-leb c (s + 9) (omega arith))
-
-  -- m numbers before the first run, its ten, and r numbers behind it
-  three-parts : (a m r : ℕ) → a + m ≡ s → count (inRuns (s ∷ ss)) a (m + (10 + r)) ≡ 10 + count (inRuns ss) (s + 10) r
-  three-parts a m r e =
-      let p = inRuns (s ∷ ss) in
-      let before = count-same p (λ c. false) a m (λ c l k. before-run c (omega arith)) ∙ count-none a m in
-      let ten = count-same p (λ c. true) s 10 (λ c l k. in-run c l k) ∙ count-all s 10 in
-      let behind = count-same p (inRuns ss) (s + 10) r (λ c l k. after-run c l) in
-      rw (count-add p a m, e, count-add p s 10, before, ten, behind) (omega arith)
-
-ten-each : (a n : ℕ) (ss : List ℕ) → T (apart a ss) → end a ss ≤ a + n → count (inRuns ss) a n ≡ length ss * 10
-unfolding inRuns end
-ten-each a n [] t h = count-none a n
-ten-each a n (s ∷ ss) t h =
-    let f = apart-first a s ss t in
-    let u = apart-rest a s ss t in
-    let g = end-le (s + 10) ss u in
-    let r = a + n - (s + 10) in
-    let e : n ≡ (s - a) + (10 + r) = omega arith in
-    rw e (three-parts s ss u a (s - a) r (omega arith) ∙ omega (arith, ten-each (s + 10) r ss u (omega arith)))
-
--- no number from 0x1FBFA on is a digit, and below it there are 680: so there are as many among the code points, below 0x110000
+-- below any bound from the end of the last run on there are 680: no number above is a digit
 pub digits-680 : (n : ℕ) → 0x1FBFA ≤ n → count isDigit 0 n ≡ 680
 unfolding isDigit starts end
 digits-680 n h = ten-each 0 n starts starts-apart (omega arith)
 
 pub code-points-680 : count isDigit 0 0x110000 ≡ 680
 code-points-680 = digits-680 0x110000 (omega arith)
+
+-- of any text, the first of the characters before its first ill-formed sequence
+pub begins-first : (s : List ℕ) → beginsWithDigit s ≡ firstIsDigit (chars s)
+begins-first s = begins-by s (seq s) refl
+
+pub ends-last : (s : List ℕ) → wellFormed s ≡ true → endsWithDigit s ≡ lastIsDigit (chars s)
+ends-last s h = ap endsWithDigit (well-formed-split s h) ∙ ends-by (chars s) (chars-scalars s)

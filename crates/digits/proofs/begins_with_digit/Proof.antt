@@ -1,5 +1,5 @@
 -- `digits::begins_with_digit` meets its contract: by what stands at the text's start. Assumes nothing.
-use mathlib.Core.Path.{_≡_, sym, ap, _∙_}
+use mathlib.Core.Path.{sym, ap, _∙_}
 use borrow.Author.Needs.{needs}
 use Rattle.digits.specs.TextEnds.{digitSeq, beginsWithDigit}
 use Rattle.digits.proofs.begins_with_digit.Statement.{statement}

@@ -3,13 +3,13 @@
 -- the run of the last start not above c can hold c. Assumes nothing.
 use mathlib.Core.Path.{_≡_, refl}
 use mathlib.Core.Logic.{⊎-elim}
-use Prim.Native.Nat.{_+_, _-_, _≤_}
+use Prim.Native.Nat.{_-_, _≤_}
 use native.Mathlib.Omega.{arith}
 use lib.Dec.{leb}
-use lib.ListN.{drop, getD}
+use lib.ListN.{getD}
 use borrow.Author.Needs.{needs}
 use Rattle.digits.specs.Digits.{starts, isDigit}
-use Rattle.digits.proofs.DigitsLaws.{notAbove, Passed, none-passed, one-more, first-above, no-more, digit-none, digit-last}
+use Rattle.digits.proofs.DigitsLaws.{Passed, none-passed, one-more, first-above, no-more, digit-none, digit-last}
 use Rattle.digits.proofs.is_digit.Statement.{statement}
 use Rattle.digits.proofs.is_digit.Tie as tie
 
