@@ -1,18 +1,82 @@
 -- Laws of places and offsets (`specs/Text.antt`), for this crate's proofs and its callers'.
--- In order: `Reached`, which a loop over a line keeps; the end of a walk.
+-- In order: the offset of a place; the part from one place to another; the character at a place; `Reached`, which a loop over a line keeps; the end of a walk.
 use mathlib.Core.Path.{_≡_, refl, sym, ap, _∙_}
-use mathlib.Core.List.{List, [], _∷_, _++_, append-nil}
+use mathlib.Core.Bool.{true}
+use mathlib.Core.List.{List, [], _∷_, _++_, append-assoc, append-nil}
 use Prim.Native.Nat.{ℕ, _+_, _-_, _≤_, _<_}
+use native.Mathlib.Numerals.{add-one}
 use native.Mathlib.Omega.{arith}
-use lib.ListN.{length, take, drop, getD, length-append, length-drop}
-use lib.Seq.{drop-drop, take-add, take-nil}
-use Rattle.text.specs.declared.Seq.the-variants.{Char, Ill, End}
-use Rattle.text.specs.Sequence.{seq, scalar, encode}
-use Rattle.text.specs.Text.{chars, encodes, offsetOf}
+use lib.ListN.{length, take, drop, getD, length-append, length-drop, take-append-drop}
+use lib.Seq.{drop-drop, take-add, take-nil, take-all, take-at, drop-append-seam, take-append-seam, length-take-le, drop-cons, getD-drop}
+use Rattle.text.specs.declared.Seq.the-variants.{Char}
+use Rattle.text.specs.Sequence.{seq, encode}
+use Rattle.text.specs.Text.{chars, left, wellFormed, encodes, offsetOf, partOf}
 use Rattle.text.specs.Line.{walked}
-use Rattle.text.proofs.EncodeLaws.{seq-char, encode-pos}
-use Rattle.text.proofs.TextLaws.{chars-char, encodes-append}
+use Rattle.text.proofs.EncodeLaws.{seq-char, seq-encode, encode-pos}
+use Rattle.text.proofs.TextLaws.{chars-char, text-split, chars-left, chars-scalars, chars-encodes, encodes-append, encodes-chars, well-formed-split, scalars-take, scalars-drop, scalars-at}
 
+module _ (s : List ℕ) where
+  -- ---- the offset of a place
+  split-at-place : (p : ℕ) → s ≡ encodes (take p (chars s)) ++ (encodes (drop p (chars s)) ++ left s)
+  split-at-place p =
+      text-split s
+      ∙ ap (λ (cs : List ℕ). encodes cs ++ left s) (sym (take-append-drop p (chars s)))
+      ∙ rw (encodes-append, append-assoc)
+
+  pub offset-take : (p : ℕ) → take (offsetOf s p) s ≡ encodes (take p (chars s))
+  offset-take p = ap (take (offsetOf s p)) (split-at-place p) ∙ take-append-seam (encodes (take p (chars s))) _
+
+  pub offset-drop : (p : ℕ) → drop (offsetOf s p) s ≡ encodes (drop p (chars s)) ++ left s
+  offset-drop p = ap (drop (offsetOf s p)) (split-at-place p) ∙ drop-append-seam (encodes (take p (chars s))) _
+
+  pub offset-le : (p : ℕ) → offsetOf s p ≤ length s
+  offset-le p = omega (arith, ap length (split-at-place p) ∙ length-append (encodes (take p (chars s))) _)
+
+  -- the end, and places behind it
+  pub offset-end : wellFormed s ≡ true → (p : ℕ) → length (chars s) ≤ p → offsetOf s p ≡ length s
+  offset-end h p k = rw (take-all p (chars s) k) (ap length (sym (well-formed-split s h)))
+
+  -- ---- the part from place a to place b
+  module _ (a b : ℕ) (h : a ≤ b) where
+    take-part : take b (chars s) ≡ take a (chars s) ++ take (b - a) (drop a (chars s))
+    take-part = let e : b ≡ a + (b - a) = omega arith in ap (λ (n : ℕ). take n (chars s)) e ∙ take-add a (b - a) (chars s)
+
+    pub offset-part : offsetOf s b ≡ offsetOf s a + length (partOf s a b)
+    offset-part = ap (λ (cs : List ℕ). length (encodes cs)) take-part ∙ rw (encodes-append, length-append)
+
+    drop-part : drop (offsetOf s a) s ≡ partOf s a b ++ (encodes (drop (b - a) (drop a (chars s))) ++ left s)
+    drop-part =
+        offset-drop a
+        ∙ ap (λ (cs : List ℕ). encodes cs ++ left s) (sym (take-append-drop (b - a) (drop a (chars s))))
+        ∙ rw (encodes-append, append-assoc)
+
+    pub part-bytes : take (offsetOf s b - offsetOf s a) (drop (offsetOf s a) s) ≡ partOf s a b
+    part-bytes =
+        let e : length (partOf s a b) ≡ offsetOf s b - offsetOf s a = omega (arith, offset-part) in
+        ap (take (offsetOf s b - offsetOf s a)) drop-part ∙ take-at (partOf s a b) _ (offsetOf s b - offsetOf s a) e
+
+    pub part-chars : chars (partOf s a b) ≡ take (b - a) (drop a (chars s))
+    part-chars = encodes-chars _ (scalars-take (b - a) _ (scalars-drop a _ (chars-scalars s)))
+
+  -- ---- the character at a place
+  module _ (p : ℕ) (h : p < length (chars s)) where
+    drop-char : drop p (chars s) ≡ getD (chars s) p 0 ∷ drop (p + 1) (chars s)
+    drop-char = rw add-one (drop-cons (chars s) p 0 h)
+
+    pub char-at-place : seq (drop (offsetOf s p) s) ≡ Char (getD (chars s) p 0) (length (encode (getD (chars s) p 0)))
+    unfolding encodes
+    char-at-place =
+        ap seq (offset-drop p ∙ ap (λ (cs : List ℕ). encodes cs ++ left s) drop-char ∙ rw append-assoc)
+        ∙ seq-encode (getD (chars s) p 0) (encodes (drop (p + 1) (chars s)) ++ left s) (scalars-at p (chars s) (chars-scalars s) h)
+
+    pub part-char : partOf s p (p + 1) ≡ encode (getD (chars s) p 0)
+    unfolding encodes
+    part-char = let e : p + 1 - p ≡ 1 = omega arith in rw (e, drop-char, append-nil)
+
+    pub offset-next : offsetOf s (p + 1) ≡ offsetOf s p + length (encode (getD (chars s) p 0))
+    offset-next = offset-part p (p + 1) (omega arith) ∙ rw part-char
+
+-- ---- a loop over a line
 -- at is the offset of place n, and the text from there on has the characters from place n on
 pub record Reached (s : List ℕ) (n at : ℕ) : Type 0 where
   pub behind : drop n (chars s) ≡ chars (drop at s)
@@ -24,7 +88,28 @@ pub reached-start : (s : List ℕ) → Reached s 0 0
 unfolding encodes
 reached-start s = record { behind = refl; places = refl; offset = refl; inside = omega arith }
 
+-- every place is reached at its offset
+pub reached-place : (s : List ℕ) (p : ℕ) → p ≤ length (chars s) → Reached s p (offsetOf s p)
+reached-place s p h =
+    record {
+      behind =
+          sym
+          (ap chars (offset-drop s p)
+          ∙ chars-encodes (drop p (chars s)) (left s) (scalars-drop p _ (chars-scalars s))
+          ∙ rw (chars-left, append-nil));
+      places = length-take-le p (chars s) h;
+      offset = refl;
+      inside = offset-le s p;
+    }
+
 module _ (s : List ℕ) (n at : ℕ) (r : Reached s n at) where
+  -- how many characters are from here on
+  pub reached-count : length (chars s) ≡ n + length (chars (drop at s))
+  reached-count =
+      sym (ap length (take-append-drop n (chars s)))
+      ∙ length-append (take n (chars s)) (drop n (chars s))
+      ∙ rw (r .places, r .behind)
+
   module _ (c l : ℕ) (e : seq (drop at s) ≡ Char c l) where
     pub char-fits : (1 ≤ l) × (at + l ≤ length s)
     char-fits =
@@ -35,6 +120,11 @@ module _ (s : List ℕ) (n at : ℕ) (r : Reached s n at) where
 
     next : chars (drop at s) ≡ c ∷ chars (drop (at + l) s)
     next = chars-char (drop at s) c l e ∙ rw (drop-drop l at s)
+
+    pub reached-here : (n < length (chars s)) × (getD (chars s) n 0 ≡ c)
+    reached-here =
+        let z : n + 0 ≡ n = omega arith in
+        (omega (arith, reached-count, ap length next), sym (ap (λ (i : ℕ). getD (chars s) i 0) z) ∙ sym (getD-drop n (chars s) 0 0) ∙ rw (r .behind, next))
 
     take-next : take (n + 1) (chars s) ≡ take n (chars s) ++ (c ∷ [])
     take-next = take-add n 1 (chars s) ∙ rw (r .behind, next)

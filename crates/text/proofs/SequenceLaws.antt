@@ -1,5 +1,5 @@
 -- Laws of `trailing` and `seq` (`specs/Sequence.antt`). In order: a sequence that is cut off; one byte more; two, three and four bytes at an offset.
-use mathlib.Core.Path.{_≡_, refl, sym, ap, _∙_}
+use mathlib.Core.Path.{_≡_, refl, sym}
 use mathlib.Core.Bool.{Bool, true, false, cond, _&&_}
 use mathlib.Core.List.{List, [], _∷_}
 use Prim.Native.Nat.{ℕ, zero, suc, _+_, _%_, _≤_, _<_}

@@ -1,17 +1,17 @@
 -- Laws of a text as characters (`specs/Text.antt`), for this crate's proofs and its callers'.
--- In order: a step of `decode`; every text by cases; a text is its characters' bytes and what is left; texts one after the other.
+-- In order: a step of `decode`; every text by cases; a text is its characters' bytes and what is left; texts one after the other; some of the characters.
 use mathlib.Core.Path.{_≡_, refl, sym, ap, _∙_, subst}
-use mathlib.Core.Bool.{Bool, true, false, true≢false}
+use mathlib.Core.Bool.{true, false, true≢false}
 use mathlib.Core.List.{List, [], _∷_, _++_, append-assoc, append-nil}
-use Prim.Native.Nat.{ℕ, zero, suc, _-_, _≤_}
+use Prim.Native.Nat.{ℕ, zero, suc, _-_, _≤_, _<_}
 use native.Mathlib.Omega.{arith}
-use lib.ListN.{length, drop, length-drop, length-append}
+use lib.ListN.{length, take, drop, getD, length-drop}
 use lib.Seq.{drop-append-seam}
 use Rattle.text.specs.declared.Seq.{Seq}
 use Rattle.text.specs.declared.Seq.the-variants.{Char, Ill, End}
 use Rattle.text.specs.Sequence.{seq, scalar, encode}
 use Rattle.text.specs.Text.{Text, Scalars, decode, chars, left, isNil, wellFormed, encodes}
-use Rattle.text.proofs.EncodeLaws.{IsChar, seq-char, seq-end-nil, seq-encode, encode-pos}
+use Rattle.text.proofs.EncodeLaws.{seq-char, seq-end-nil, seq-encode, encode-pos}
 
 -- ---- a step
 decode-skip : (k : ℕ) (s : List ℕ) → decode k s ≡ decode 0 (drop k s)
@@ -108,6 +108,14 @@ chars-scalars =
     (λ s e. rw (chars-ill s e) tt)
     (λ c s h ih. rw (chars-cons c s h) (h, ih))
 
+-- what is left has no character in front
+pub chars-left : (s : List ℕ) → chars (left s) ≡ []
+chars-left =
+    by-text (λ s. chars (left s) ≡ [])
+    (rw left-nil chars-nil)
+    (λ s e. rw (left-ill s e) (chars-ill s e))
+    (λ c s h ih. rw (left-cons c s h) ih)
+
 -- ---- texts one after the other
 pub encodes-append : (cs ds : List ℕ) → encodes (cs ++ ds) ≡ encodes cs ++ encodes ds
 unfolding encodes
@@ -147,3 +155,22 @@ module _ (cs : List ℕ) (h : Scalars cs) where
 
   pub encodes-well-formed : wellFormed (encodes cs) ≡ true
   encodes-well-formed = ap wellFormed (sym (append-nil (encodes cs))) ∙ ap isNil (left-encodes cs [] h ∙ left-nil)
+
+pub encodes-injective : (cs ds : List ℕ) → Scalars cs → Scalars ds → encodes cs ≡ encodes ds → cs ≡ ds
+encodes-injective cs ds h k e = sym (encodes-chars cs h) ∙ ap chars e ∙ encodes-chars ds k
+
+-- ---- some of the characters
+pub scalars-take : (n : ℕ) (cs : List ℕ) → Scalars cs → Scalars (take n cs)
+scalars-take zero cs h = tt
+scalars-take (suc n) [] h = tt
+scalars-take (suc n) (c ∷ cs) h = (h .0, scalars-take n cs (h .1))
+
+pub scalars-drop : (n : ℕ) (cs : List ℕ) → Scalars cs → Scalars (drop n cs)
+scalars-drop zero cs h = h
+scalars-drop (suc n) [] h = tt
+scalars-drop (suc n) (c ∷ cs) h = scalars-drop n cs (h .1)
+
+pub scalars-at : (n : ℕ) (cs : List ℕ) → Scalars cs → n < length cs → scalar (getD cs n 0) ≡ true
+scalars-at n [] h k = absurd (omega arith)
+scalars-at zero (c ∷ cs) h k = h .0
+scalars-at (suc n) (c ∷ cs) h k = scalars-at n cs (h .1) (omega arith)

@@ -4,7 +4,7 @@
 --     bySize n lo hi b s       a sequence of n bytes, its lead byte b, the second from lo to hi
 --     scalar c      c is a scalar value: a code point that is no surrogate
 --     encode c      the bytes of the scalar value c
-use Prim.Native.Nat.{ℕ, zero, suc, _+_, _*_, _/_, _%_}
+use Prim.Native.Nat.{ℕ, zero, suc, _+_, _/_, _%_}
 use mathlib.Core.Bool.{Bool, cond, _||_}
 use mathlib.Core.List.{List, [], _∷_}
 use lib.Dec.{ltb, eqb}

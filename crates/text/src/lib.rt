@@ -1,9 +1,9 @@
 // Text as bytes: one UTF-8 sequence (Unicode Standard, table 3-7), a whole line, the offset of a place, equality of bytes.
 ghost use mathlib.Core.Path.{_≡_};
 ghost use mathlib.Core.Bool.{cond};
-ghost use Prim.Native.Nat.{ℕ, _+_, _*_, _%_, _≤_, _<_};
+ghost use Prim.Native.Nat.{_+_, _*_, _%_, _<_};
 ghost use lib.ListN.{length, getD, drop};
-ghost use Rattle.text.specs.Table.{rowOf, within, trail, six};
+ghost use Rattle.text.specs.Table.{rowOf, within, six};
 ghost use Rattle.text.specs.Sequence.{seq, trailing};
 ghost use Rattle.text.specs.Text.{wellFormed, offsetOf};
 ghost use Rattle.text.specs.Line.{walked, lineCheck};

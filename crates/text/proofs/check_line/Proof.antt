@@ -3,10 +3,6 @@ use borrow.Author.Needs.{needs}
 use Rattle.text.proofs.LineLaws.{check-ill, check-ok, check-long}
 use Rattle.text.proofs.check_line.Statement.{statement}
 use Rattle.text.proofs.check_line.Tie as tie
-use Rattle.text.proofs.check_line.Reads as reads
-use Rattle.text.proofs.check_line.Lts as lts
-use Rattle.text.proofs.offset_of.Reads as offset-of-reads
-use Rattle.text.proofs.walk.Reads as walk-reads
 
 walk-requires : tie.Need-walk-requires
 walk-requires c κs = search needs

@@ -1,3 +1,4 @@
+-- `text::four` meets its contract: the line ends within the sequence, or its trailing bytes are there and are tested.
 use borrow.Author.Needs.{needs}
 use Prim.Native.Nat.{_+_, _%_, _<_}
 use native.Mathlib.Omega.{arith}
@@ -5,82 +6,58 @@ use lib.ListN.{length, getD}
 use Rattle.text.proofs.SequenceLaws.{cut-at, four-at}
 use Rattle.text.proofs.four.Statement.{statement}
 use Rattle.text.proofs.four.Tie as tie
-use Rattle.text.proofs.four.Reads as reads
-use Rattle.text.proofs.four.Lts as lts
-use Rattle.text.proofs.between.Reads as between-reads
-use Rattle.text.proofs.char_if.Reads as char-if-reads
-use Rattle.text.proofs.six_more.Reads as six-more-reads
-use Rattle.text.proofs.wide.Reads as wide-reads
 
--- src/lib.rt:106:8
 sub-if1 : tie.Need-sub-if1
 sub-if1 c = search needs
 
--- src/lib.rt:107:9
 returns : tie.Need-returns
 returns c = let a = c .before .before .args in cut-at 3 _ _ _ _ (a .s .now) (a .at + 1) (omega arith) (omega arith)
 
--- src/lib.rt:109:15
 add-c : tie.Need-add-c
 add-c c = search needs
 
--- src/lib.rt:109:13
 shared-slice-read-c : tie.Need-shared-slice-read-c
 shared-slice-read-c c = search needs
 
--- src/lib.rt:110:15
 add-d : tie.Need-add-d
 add-d c = search needs
 
--- src/lib.rt:110:13
 shared-slice-read-d : tie.Need-shared-slice-read-d
 shared-slice-read-d c = search needs
 
--- src/lib.rt:111:15
 add-e : tie.Need-add-e
 add-e c = search needs
 
--- src/lib.rt:111:13
 shared-slice-read-e : tie.Need-shared-slice-read-e
 shared-slice-read-e c = search needs
 
--- src/lib.rt:112:16
 between-requires : tie.Need-between-requires
 between-requires c κs = search needs
 
--- src/lib.rt:112:37
 between-requires-2 : tie.Need-between-requires-2
 between-requires-2 c κs = search needs
 
--- src/lib.rt:112:62
 between-requires-3 : tie.Need-between-requires-3
 between-requires-3 c κs = search needs
 
--- src/lib.rt:113:51
 shared-slice-read-wide : tie.Need-shared-slice-read-wide
 shared-slice-read-wide c = search needs
 
--- src/lib.rt:113:46
 wide-requires : tie.Need-wide-requires
 wide-requires c κs = search needs
 
--- src/lib.rt:113:37
 six-more-requires : tie.Need-six-more-requires
 six-more-requires c κs = search needs
 
--- src/lib.rt:113:28
 six-more-requires-2 : tie.Need-six-more-requires-2
 six-more-requires-2 c κs = search needs
 
--- src/lib.rt:113:19
 six-more-requires-3 : tie.Need-six-more-requires-3
 six-more-requires-3 c κs = search needs
 
--- src/lib.rt:113:5
 char-if-requires : tie.Need-char-if-requires
 char-if-requires c κs = search needs
 
--- src/lib.rt:102:1
 returns-2 : tie.Need-returns-2
 returns-2 c =
     let a = c .before .before .before .before .before .before .before .before .before .before .before .before .before .before .args in

@@ -4,9 +4,6 @@ use mathlib.Core.Path.{ap}
 use Rattle.text.specs.declared.Walked.{Walked}
 use Rattle.text.proofs.offset_of.Statement.{statement}
 use Rattle.text.proofs.offset_of.Tie as tie
-use Rattle.text.proofs.offset_of.Reads as reads
-use Rattle.text.proofs.offset_of.Lts as lts
-use Rattle.text.proofs.walk.Reads as walk-reads
 
 walk-requires : tie.Need-walk-requires
 walk-requires c κs = search needs

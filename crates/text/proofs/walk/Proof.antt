@@ -1,6 +1,6 @@
 -- `text::walk` meets its contract. The loop's invariant: the offset is that of the place count, and count is at most most. The measure is what is left of most.
 use mathlib.Core.Path.{_≡_, sym, _∙_}
-use Prim.Native.Nat.{_+_, _-_, _≤_}
+use Prim.Native.Nat.{_-_, _≤_}
 use borrow.Author.Needs.{needs}
 use native.Mathlib.Omega.{arith}
 use lib.ListN.{drop}
@@ -10,9 +10,6 @@ use Rattle.text.proofs.TextLaws.{chars-ill, chars-end}
 use Rattle.text.proofs.PlaceLaws.{Reached, reached-start, reached-char, char-fits, walk-enough, walk-stops}
 use Rattle.text.proofs.walk.Statement.{statement}
 use Rattle.text.proofs.walk.Tie as tie
-use Rattle.text.proofs.walk.Reads as reads
-use Rattle.text.proofs.walk.Lts as lts
-use Rattle.text.proofs.seq_at.Reads as seq-at-reads
 
 abbrev Inv-loop : tie.InvT-loop
 Inv-loop s most count₀ at₀ count at = Reached s count at × (count ≤ most)

@@ -3,9 +3,6 @@ use borrow.Author.Needs.{needs}
 use Rattle.text.proofs.LineLaws.{well-formed-whole}
 use Rattle.text.proofs.well_formed.Statement.{statement}
 use Rattle.text.proofs.well_formed.Tie as tie
-use Rattle.text.proofs.well_formed.Reads as reads
-use Rattle.text.proofs.well_formed.Lts as lts
-use Rattle.text.proofs.walk.Reads as walk-reads
 
 walk-requires : tie.Need-walk-requires
 walk-requires c κs = search needs
