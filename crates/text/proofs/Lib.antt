@@ -6,3 +6,4 @@ pub mod TextLaws
 pub mod PlaceLaws
 pub mod LineLaws
 pub mod BytesLaws
+pub mod Cases
