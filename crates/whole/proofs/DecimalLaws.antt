@@ -1,11 +1,11 @@
 -- Laws of `decimal`, `digitsFrom` and `readFrom` (`specs/Decimal.antt`, `specs/Answers.antt`), for this crate's proofs and its callers'. No contract cites this file.
--- In order: the text of one digit and of more; its length; its stores; rows of digits; the text and its number; bytes that are digits; rows of bytes.
+-- In order: the text of one digit and of more; its length; rows of digits; the text and its number; a given number of digits; a loop that stores a text; bytes that are digits; rows of bytes.
 -- Assumes nothing.
 use mathlib.Core.Path.{_≡_, refl, sym, ap, _∙_}
 use mathlib.Core.Bool.{Bool, true, false, cond}
-use mathlib.Core.List.{List, [], _∷_, _++_, map, map-append}
+use mathlib.Core.List.{List, [], _∷_, _++_, map, map-append, append-assoc, append-nil}
 use Prim.Native.Nat.{ℕ, zero, suc, _+_, _*_, _-_, _/_, _%_, _^_, _≤_, _<_}
-use native.Mathlib.Nat.{le-refl, le-trans}
+use native.Mathlib.Nat.{le-refl, le-trans, add-zero, zero-add, add-suc, suc-add}
 use native.Mathlib.Numerals.{add-one}
 use lib.Pow.{pow-add}
 use native.Mathlib.Omega.{arith}
@@ -14,12 +14,12 @@ use lib.Dec.{ltb}
 use lib.ListN.{length, length-append, drop, drop-of-length-le, getD, set, replicate, List·getD-append}
 use lib.Seq.{sets, drop-cons, getD-append-seam}
 use borrow.Author.Tests.{lt-ltb, le-ltb, le-leb, lt-leb}
-use Rattle.whole.proofs.SetsLaws.{sets-then}
+use Rattle.whole.proofs.SetsLaws.{sets-set-before}
 use Rattle.whole.specs.declared.Row.{Row}
 use Rattle.whole.specs.declared.Row.the-variants as Row
 use Rattle.whole.specs.Answers.{row, readFrom, readDigits}
 use Rattle.whole.specs.Whole.{TOP}
-use Rattle.whole.specs.Decimal.{decimal, decimalWithin, digitsFrom, digitsValue, isDigit, digitOf}
+use Rattle.whole.specs.Decimal.{decimal, decimalWithin, padded, ascii, digitsFrom, digitsValue, isDigit, digitOf}
 
 -- ---- the text, digit by digit
 within-one : (k n : ℕ) → n < 10 → decimalWithin k n ≡ (48 + n) ∷ []
@@ -94,13 +94,6 @@ length-decimal-top n h = length-decimal-le 15 n (omega arith)
 pub length-decimal-pos : (n : ℕ) → 0 < length (decimal n)
 length-decimal-pos = decimal-ind (λ n. 0 < length (decimal n)) (λ n h. omega (arith, length-decimal-one n h)) (λ n h i. omega (arith, length-decimal-more n h))
 
--- ---- its stores: the last digit behind those of n / 10
-pub decimal-stored-one : (s : List ℕ) (at n : ℕ) → n < 10 → set s at (48 + n) ≡ sets s at (decimal n)
-decimal-stored-one s at n h = rw (decimal-one n h)
-
-pub decimal-stored-more : (s : List ℕ) {t : List ℕ} (at n : ℕ) {last : ℕ} → 10 ≤ n → t ≡ sets s at (decimal (n / 10)) → last ≡ at + length (decimal (n / 10)) → set t last (48 + n % 10) ≡ sets s at (decimal n)
-decimal-stored-more s at n {last} h p e = rw (decimal-more n h) (sets-then s at last (decimal (n / 10)) _ p e refl)
-
 -- ---- rows of digits
 pub digitsFrom-append : (v : ℕ) (ds es : List ℕ) → digitsFrom v (ds ++ es) ≡ digitsFrom (digitsFrom v ds) es
 unfolding digitsFrom
@@ -140,6 +133,69 @@ digitsValue-decimal = decimal-ind (λ n. digitsValue (map digitOf (decimal n)) �
 
 pub decimal-injective : {m n : ℕ} → decimal m ≡ decimal n → m ≡ n
 decimal-injective {m} {n} e = sym (digitsValue-decimal m) ∙ ap (λ (t : List ℕ). digitsValue (map digitOf t)) e ∙ digitsValue-decimal n
+
+-- ---- a given number of digits
+pub length-padded : (k n : ℕ) → length (padded k n) ≡ k
+unfolding padded
+length-padded zero n = refl
+length-padded (suc k) n = length-append (padded k (n / 10)) _ ∙ rw (length-padded k (n / 10)) (add-one k)
+
+-- its own number of digits is the text
+pub padded-decimal : (n : ℕ) → padded (length (decimal n)) n ≡ decimal n
+unfolding padded
+padded-decimal = decimal-ind (λ n. padded (length (decimal n)) n ≡ decimal n) one more
+  where
+    one : (n : ℕ) → n < 10 → padded (length (decimal n)) n ≡ decimal n
+    one n h = let e : n % 10 ≡ n = omega arith in rw (decimal-one n h, e)
+
+    more : (n : ℕ) → 10 ≤ n → padded (length (decimal (n / 10))) (n / 10) ≡ decimal (n / 10) → padded (length (decimal n)) n ≡ decimal n
+    more n h e = rw (length-decimal-more n h, add-one, decimal-more n h, e)
+
+-- the last digit goes over to what follows
+pub padded-shift : (i rest : ℕ) (tail : List ℕ) → padded (suc i) rest ++ tail ≡ padded i (rest / 10) ++ ((48 + rest % 10) ∷ tail)
+unfolding padded
+padded-shift i rest tail = append-assoc (padded i (rest / 10)) _ tail
+
+padded-after : (k v : ℕ) (ds : List ℕ) → ((i : ℕ) → i < length ds → getD ds i 0 ≤ 9) → padded (k + length ds) (digitsFrom v ds) ≡ padded k v ++ ascii ds
+unfolding digitsFrom
+padded-after k v [] f = rw (add-zero k, append-nil)
+padded-after k v (d ∷ ds) f =
+    let digit : d ≤ 9 = f 0 (omega arith) in
+    let front : (v * 10 + d) / 10 ≡ v = omega arith in
+    let last : (v * 10 + d) % 10 ≡ d = omega arith in
+    rw (add-suc k (length ds), ← suc-add k (length ds)) (padded-after (suc k) (v * 10 + d) ds (λ i h. f (suc i) (omega arith)))
+    ∙ padded-shift k (v * 10 + d) (ascii ds)
+    ∙ rw (front, last)
+
+-- a row of digits is as many digits of its value
+pub padded-digits : (ds : List ℕ) → ((i : ℕ) → i < length ds → getD ds i 0 ≤ 9) → padded (length ds) (digitsValue ds) ≡ ascii ds
+unfolding padded
+padded-digits ds f = ap (λ (k : ℕ). padded k (digitsValue ds)) (sym (zero-add (length ds))) ∙ padded-after 0 0 ds f
+
+-- ---- a loop that stores a text from its last digit
+-- of text all but the first i digits, those of rest, are stored
+pub record StoredFrom (s t : List ℕ) (at i rest : ℕ) (text : List ℕ) : Type 0 where
+  pub tail : List ℕ
+  pub all : padded i rest ++ tail ≡ text
+  pub stored : t ≡ sets s (at + i) tail
+
+pub stored-none : (s : List ℕ) (at i n : ℕ) → StoredFrom s s at i n (padded i n)
+stored-none s at i n = record { tail = []; all = append-nil _; stored = refl }
+
+pub stored-more : {s t : List ℕ} {at i rest : ℕ} {text : List ℕ} → 0 < i → StoredFrom s t at i rest text → StoredFrom s (set t (at + (i - 1)) (48 + rest % 10)) at (i - 1) (rest / 10) text
+stored-more {i = zero} h r = absurd (omega arith)
+stored-more {s} {at = at} {i = suc j} {rest = rest} h r =
+    let e : suc j - 1 ≡ j = omega arith in
+    rw e record {
+      tail = (48 + rest % 10) ∷ r .tail;
+      all = sym (padded-shift j rest (r .tail)) ∙ r .all;
+      stored = rw (r .stored, add-suc at j) (sets-set-before s (suc (at + j)) (r .tail) (at + j) _ (omega arith));
+    }
+
+pub stored-all : {s t : List ℕ} {at i rest : ℕ} {text : List ℕ} → i ≤ 0 → StoredFrom s t at i rest text → t ≡ sets s at text
+unfolding padded
+stored-all {i = zero} h r = r .stored ∙ rw (add-zero, r .all)
+stored-all {i = suc i} h r = absurd (omega arith)
 
 -- ---- bytes that are digits
 pub isDigit-yes : {b : ℕ} → 48 ≤ b → b ≤ 57 → isDigit b ≡ true

@@ -8,7 +8,7 @@ ghost use lib.ListN.{length};
 ghost use lib.Seq.{sets};
 ghost use Rattle.whole.specs.Whole.{TOP, ofNat, IsWhole};
 ghost use Rattle.whole.specs.Answers.{value, number, readDigits};
-ghost use Rattle.whole.specs.Decimal.{decimal};
+ghost use Rattle.whole.specs.Decimal.{decimal, padded};
 
 // A product or a sum: the f64 itself, or the answer that it is above TOP (refusal 7).
 pub enum Value {
@@ -79,19 +79,29 @@ pub fn decimal_len(n: u64) -> usize
     if n > 9 { decimal_len(n / 10) + 1 } else { 1 }
 }
 
+// Writes the last len digits of n at an offset, leading zeros kept.
+pub fn put_padded(out: &mut [u8], at: usize, len: usize, n: u64)
+    requires { ⌜ at + len ≤ length (now out) ⌝ }
+    ensures { λ _. ⌜ now (out .exit) ≡ sets (now (out .entry)) at (padded len n) ⌝ }
+{
+    let mut rest = n;
+    let mut i = len;
+    while i > 0 {
+        i -= 1;
+        out[at + i] = (48 + rest % 10) as u8;
+        rest = rest / 10;
+    }
+}
+
 // Writes the decimal text of n at an offset, and answers the offset behind it.
 pub fn put_decimal(out: &mut [u8], at: usize, n: u64) -> usize
     requires { ⌜ at + length (decimal n) ≤ length (now out) ⌝ }
     ensures next { λ r. ⌜ r ≡ at + length (decimal n) ⌝ }
     ensures written { λ _. ⌜ now (out .exit) ≡ sets (now (out .entry)) at (decimal n) ⌝ }
 {
-    if n < 10 {
-        out[at] = (48 + n) as u8;
-        return at + 1;
-    }
-    let last = put_decimal(out, at, n / 10);
-    out[last] = (48 + n % 10) as u8;
-    last + 1
+    let len = decimal_len(n);
+    put_padded(out, at, len, n);
+    at + len
 }
 
 // The number with one digit more.
