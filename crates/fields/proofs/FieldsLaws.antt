@@ -10,15 +10,15 @@ use native.Mathlib.Nat.{zero-add, suc-add, add-zero, mul-assoc, mul-add, one-mul
 use native.Mathlib.Numerals.{add-one}
 use native.Mathlib.Omega.{arith}
 use native.Mathlib.Decide.{decLt}
-use lib.ListN.{length, take, drop, getD, drop-of-length-le, length-drop}
-use lib.Seq.{drop-cons, sets, length-sets}
+use lib.ListN.{length, take, drop, getD, drop-of-length-le}
+use lib.Seq.{drop-cons, sets}
 use lib.Pow.{pow-add, pow-pos, field, mod-mod-pow, shr-shr, shr-lt}
 use lib.Dec.{T, lit<}
-use lib.Ieee.{Float, binary64, fits, toBits, ofBits, isNan, nanBits}
+use lib.Ieee.{Float, binary64, fits, toBits, isNan, nanBits}
 use lib.Ieee.Bits.{ofBits-toBits, toBits-lt, nanBits-is}
 use Rattle.whole.specs.Whole.{TOP, ofNat}
 use Rattle.whole.proofs.WholeLaws.{ofNat-fits, ofNat-not-nan}
-use Rattle.whole.proofs.SetsLaws.{sets-append, sets-then}
+use Rattle.whole.proofs.SetsLaws.{sets-then}
 use Rattle.fields.specs.Part.{part}
 use Rattle.fields.specs.Fields.{le, leAt, bytesOf, f64At, f64Bytes}
 use Rattle.fields.proofs.PartLaws.{length-part, part-add, part-of-drop, part-of-part, part-append-left, part-append-right, part-append-first, part-sets, part-sets-in, part-sets-other}
@@ -133,3 +133,10 @@ f64At-sets s at x h f = rw (leAt-sets s at 8 (toBits binary64 x) h (toBits-lt bi
 -- what was written is no NaN's bits
 pub f64-sets-not-nan : (s : List ℕ) (at : ℕ) (x : Float) → at + 8 ≤ length s → T (fits binary64 x) → T (not (isNan x)) → T (not (nanBits binary64 (leAt (sets s at (f64Bytes x)) at 8)))
 f64-sets-not-nan s at x h f n = rw (leAt-sets s at 8 (toBits binary64 x) h (toBits-lt binary64 x f), nanBits-is binary64 (toBits binary64 x), ofBits-toBits binary64 x f) n
+
+-- the f64 of a whole number
+pub f64At-sets-whole : (s : List ℕ) (at n : ℕ) → at + 8 ≤ length s → f64At (sets s at (f64Bytes (ofNat n))) at ≡ ofNat n
+f64At-sets-whole s at n h = f64At-sets s at (ofNat n) h (ofNat-fits n)
+
+pub f64-sets-whole-not-nan : (s : List ℕ) (at n : ℕ) → at + 8 ≤ length s → n ≤ TOP → T (not (nanBits binary64 (leAt (sets s at (f64Bytes (ofNat n))) at 8)))
+f64-sets-whole-not-nan s at n h k = f64-sets-not-nan s at (ofNat n) h (ofNat-fits n) (ofNat-not-nan k)

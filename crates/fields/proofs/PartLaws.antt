@@ -1,15 +1,15 @@
 -- Laws of `part` (`specs/Part.antt`), and of parts after a row of stores, for this crate's proofs and its callers'. No contract cites this file.
 -- In order: length and elements; parts of parts; parts of `++`; a part where bytes were stored, and elsewhere; a loop that copies.
 -- Assumes nothing.
-use mathlib.Core.Path.{_≡_, refl, sym, ap, _∙_}
+use mathlib.Core.Path.{_≡_, refl, sym, _∙_}
 use mathlib.Core.Logic.{_⊎_, inl, inr}
 use mathlib.Core.List.{List, [], _∷_, _++_, append-assoc}
 use Prim.Native.Nat.{ℕ, zero, suc, _+_, _-_, _≤_, _<_}
 use native.Mathlib.Nat.{zero-add, suc-add}
 use native.Mathlib.Numerals.{add-one}
 use native.Mathlib.Omega.{arith}
-use lib.ListN.{length, take, drop, getD, set, length-append, length-drop}
-use lib.Seq.{sets, sets-eq, length-sets, length-take-le, take-at, drop-at, take-add, take-take, take-all, take-suc, take-length, take-nil, take-append-le, drop-drop, drop-append-le, drop-append-add, drop-set-lt, drop-set-add, take-set-le, getD-take, getD-drop}
+use lib.ListN.{length, take, drop, getD, set, length-drop}
+use lib.Seq.{sets, sets-eq, length-take-le, take-at, drop-at, take-add, take-take, take-all, take-suc, take-length, take-nil, take-append-le, drop-drop, drop-append-le, drop-append-add, drop-set-lt, drop-set-add, take-set-le, getD-take, getD-drop}
 use Rattle.whole.proofs.SetsLaws.{sets-append}
 use Rattle.fields.specs.Part.{part}
 

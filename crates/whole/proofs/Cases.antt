@@ -3,9 +3,7 @@ use mathlib.Core.Path.{_≡_, refl}
 use mathlib.Core.List.{List, [], _∷_, _++_}
 use Prim.Native.Nat.{ℕ}
 use lib.ListN.{replicate}
-use lib.Ieee.{binary64, toBits, ofInt, round}
 use Rattle.whole.specs.declared.Row.the-variants.{Fits, Above, NoDigits}
-use Rattle.whole.specs.Whole.{ofNat}
 use Rattle.whole.specs.Decimal.{decimal, decimalWithin}
 use Rattle.whole.specs.Answers.{readFrom, readDigits}
 

@@ -2,15 +2,14 @@
 -- In order: the f64 of a whole number has its value; products and sums; comparison; casts and bits; no NaN, and no two with one f64.
 -- Assumes nothing.
 use mathlib.Core.Path.{_≡_, refl, sym, ap, _∙_, subst}
-use mathlib.Core.Logic.{inl, inr}
-use mathlib.Core.Bool.{Bool, true, false, not, _&&_, _||_, cond, true≢false}
-use Prim.Native.Nat.{ℕ, zero, suc, _+_, _*_, _^_, _≤_, _<_}
+use mathlib.Core.Bool.{Bool, true, false, not, _&&_, _||_, true≢false}
+use Prim.Native.Nat.{ℕ, suc, _+_, _*_, _^_, _≤_, _<_}
 use native.Mathlib.Nat.{mul-one, mul-assoc, mul-comm, mul-left-comm, mul-right-comm, add-mul, mul-pos, le-trans, le-of-eq, mul-le-mul-right, mul-lt-mul-of-pos-right, lt-of-lt-of-le, le-of-mul-le-mul-right}
 use native.Mathlib.Omega.{arith}
-use lib.Dec.{T, ltb, leb, eqb, lt→ltb, le→leb, ltb→lt, leb→le, eqb→eq, lit≤, lit<}
+use lib.Dec.{T, ltb, eqb, lt→ltb, le→leb, ltb→lt, eqb→eq, lit<}
 use lib.Arith.{le→nltb}
-use lib.IntN.{ℤ, pos, negsuc}
-use lib.Ieee.{Float, nan, inf, fin, Format, binary64, up, down, round, ofInt, mul, add, sum, lt, eq, le, inFloat, inUnsigned, toUnsigned, fits, ofBits, toBits, isNan, nanBits}
+use lib.IntN.{ℤ, pos}
+use lib.Ieee.{Float, nan, inf, fin, binary64, up, down, round, ofInt, mul, add, sum, lt, eq, le, inFloat, inUnsigned, toUnsigned, fits, ofBits, toBits, isNan, nanBits}
 use lib.Ieee.Exact.{HasValue}
 use lib.Ieee.Back.{round-whole, unsigned-back}
 use lib.Ieee.Scale.{round-same}
@@ -20,12 +19,16 @@ use native.Mathlib.Decide.{decLt}
 use borrow.Author.Tests.{lt-ltb, le-ltb}
 use lib.Ieee.Bits.{is-true, is-false, ofBits-toBits, toBits-lt, nanBits-is}
 use lib.Ieee.Fits.{ofInt-fits}
-use Rattle.whole.specs.Whole.{TOP, ofNat, IsWhole}
+use Rattle.whole.specs.Whole.{TOP, ofNat}
 
 -- up to 2 ^ 53 nothing is rounded: the f64 of n is n
 pub ofNat-value : (n : ℕ) → n ≤ 2 ^ 53 → HasValue (ofNat n) false n 1
 unfolding ofNat ofInt
 ofNat-value n h = round-whole binary64 false n h
+
+-- a value n / 1: its numerator is n times its denominator
+numerator : (m : ℕ) (e : ℤ) (n : ℕ) → m * up e * 1 ≡ n * down e → m * up e ≡ n * down e
+numerator m e n h = sym (mul-one (m * up e)) ∙ h
 
 -- ---- products and sums: rounded once, whatever their size
 mul-at : (x y : Float) (m n : ℕ) → HasValue x false m 1 → HasValue y false n 1 → mul binary64 x y ≡ round binary64 false (m * n) 1
@@ -38,8 +41,8 @@ mul-at (fin true a e) (fin t b d) m n p q = absurd (true≢false (p .0))
 mul-at (fin false a e) (fin true b d) m n p q = absurd (true≢false (q .0))
 mul-at (fin false a e) (fin false b d) m n p q =
     round-same binary64 false (a * up e * (b * up d)) (down e * down d) (m * n) 1 (mul-pos (down-pos e) (down-pos d)) (lit< tt)
-    (let x : a * up e ≡ m * down e = sym (mul-one (a * up e)) ∙ p .1 in
-    let y : b * up d ≡ n * down d = sym (mul-one (b * up d)) ∙ q .1 in
+    (let x = numerator a e m (p .1) in
+    let y = numerator b d n (q .1) in
     mul-one _ ∙ ap (λ (z : ℕ). z * (b * up d)) x ∙ ap (λ (z : ℕ). m * down e * z) y ∙ simp (mul-assoc, mul-comm, mul-left-comm))
 
 add-at : (x y : Float) (m n : ℕ) → HasValue x false m 1 → HasValue y false n 1 → add binary64 x y ≡ round binary64 false (m + n) 1
@@ -52,8 +55,8 @@ add-at (fin true a e) (fin t b d) m n p q = absurd (true≢false (p .0))
 add-at (fin false a e) (fin true b d) m n p q = absurd (true≢false (q .0))
 add-at (fin false a e) (fin false b d) m n p q =
     round-same binary64 false (a * up e * down d + b * up d * down e) (down e * down d) (m + n) 1 (mul-pos (down-pos e) (down-pos d)) (lit< tt)
-    (let x : a * up e ≡ m * down e = sym (mul-one (a * up e)) ∙ p .1 in
-    let y : b * up d ≡ n * down d = sym (mul-one (b * up d)) ∙ q .1 in
+    (let x = numerator a e m (p .1) in
+    let y = numerator b d n (q .1) in
     mul-one _ ∙ ap (λ (z : ℕ). z * down d + b * up d * down e) x ∙ ap (λ (z : ℕ). m * down e * down d + z * down e) y
     ∙ simp (add-mul, mul-assoc, mul-comm, mul-left-comm))
 
@@ -74,10 +77,6 @@ or-le x y b h = go (ltb x y) (eqb x y) (ltb→lt x y) (eqb→eq x y) h
     go false true f g t = let l : x ≡ y = g tt in omega arith
     go false false f g t = absurd t
 
--- x is n / 1, so its numerator is n times its denominator
-num : (m : ℕ) (e : ℤ) (n : ℕ) → m * up e * 1 ≡ n * down e → m * up e ≡ n * down e
-num m e n h = sym (mul-one (m * up e)) ∙ h
-
 -- x < z where x is a, y is a + 1 and y ≤ z, z being any value, an infinity too
 lt-le : (x y z : Float) (a : ℕ) → HasValue x false a 1 → HasValue y false (suc a) 1 → T (le y z) → T (lt x z)
 unfolding le lt eq
@@ -92,13 +91,13 @@ lt-le (fin false m e) (fin false n d) (inf true) a p q h = absurd h
 lt-le (fin false m e) (fin false n d) (inf false) a p q h = tt
 lt-le (fin false m e) (fin false n d) (fin true k g) a p q h =
     let z : n * up d * down g ≡ 0 = eqb→eq _ _ (and-r (eqb (n * up d * down g) (k * up g * down d)) (eqb (n * up d * down g) 0) h) in
-    let w : 0 < n * up d * down g = rw (num n d (suc a) (q .1)) (mul-pos (mul-pos (omega arith) (down-pos d)) (down-pos g)) in
+    let w : 0 < n * up d * down g = rw (numerator n d (suc a) (q .1)) (mul-pos (mul-pos (omega arith) (down-pos d)) (down-pos g)) in
     absurd (omega arith)
 lt-le (fin false m e) (fin false n d) (fin false k g) a p q h =
-    let l : suc a * down d * down g ≤ k * up g * down d = subst (λ (z : ℕ). z * down g ≤ k * up g * down d) (num n d (suc a) (q .1)) (or-le _ _ _ h) in
+    let l : suc a * down d * down g ≤ k * up g * down d = subst (λ (z : ℕ). z * down g ≤ k * up g * down d) (numerator n d (suc a) (q .1)) (or-le _ _ _ h) in
     let c : suc a * down g ≤ k * up g = le-of-mul-le-mul-right (le-trans (le-of-eq (mul-right-comm (suc a) (down g) (down d))) l) (down-pos d) in
     let s : a * down g < k * up g = lt-of-lt-of-le (mul-lt-mul-of-pos-right (omega arith) (down-pos g)) c in
-    lt→ltb _ _ (subst (λ (z : ℕ). z < k * up g * down e) (mul-right-comm a (down g) (down e) ∙ ap (λ (z : ℕ). z * down g) (sym (num m e a (p .1)))) (mul-lt-mul-of-pos-right s (down-pos e)))
+    lt→ltb _ _ (subst (λ (z : ℕ). z < k * up g * down e) (mul-right-comm a (down g) (down e) ∙ ap (λ (z : ℕ). z * down g) (sym (numerator m e a (p .1)))) (mul-lt-mul-of-pos-right s (down-pos e)))
 
 not-lt : (x y : Float) (a k : ℕ) → HasValue x false a 1 → HasValue y false k 1 → k ≤ a → T (not (lt x y))
 unfolding lt
@@ -109,7 +108,7 @@ not-lt (fin false m e) nan a k p q h = absurd q
 not-lt (fin false m e) (inf s) a k p q h = absurd q
 not-lt (fin false m e) (fin true n d) a k p q h = absurd (true≢false (q .0))
 not-lt (fin false m e) (fin false n d) a k p q h =
-    le→nltb (m * up e * down d) (n * up d * down e) (rw (num n d k (q .1), num m e a (p .1)) (le-trans (mul-le-mul-right (down e) (mul-le-mul-right (down d) h)) (le-of-eq (mul-right-comm a (down d) (down e)))))
+    le→nltb (m * up e * down d) (n * up d * down e) (rw (numerator n d k (q .1), numerator m e a (p .1)) (le-trans (mul-le-mul-right (down e) (mul-le-mul-right (down d) h)) (le-of-eq (mul-right-comm a (down d) (down e)))))
 
 -- the order is that of the whole numbers, however large and however rounded the second
 pub ofNat-lt : {m : ℕ} (n : ℕ) → m ≤ TOP → lt (ofNat m) (ofNat n) ≡ ltb m n

@@ -1,12 +1,10 @@
 -- `fields::copy_in` meets its contract. The loop's invariant: i bytes of s are stored, and the length is as it was.
 -- The measure is what is left of s. The mathematics of a turn is in `proofs/PartLaws.antt`. Assumes nothing.
-use mathlib.Core.List.{List}
 use borrow.Author.Needs.{needs}
-use Prim.Native.Nat.{ℕ, _+_, _≤_, _<_, _-_}
-use mathlib.Core.Path.{_≡_, refl, ap, _∙_}
-use native.Mathlib.Omega.{arith}
-use lib.ListN.{length, getD, take, length-set}
-use lib.Seq.{sets, length-sets, take-all}
+use Prim.Native.Nat.{_≤_, _-_}
+use mathlib.Core.Path.{_≡_}
+use lib.ListN.{length, take, length-set}
+use lib.Seq.{sets}
 use Rattle.fields.proofs.PartLaws.{copy-turn, copy-ends}
 use Rattle.fields.proofs.copy_in.Statement.{statement}
 use Rattle.fields.proofs.copy_in.Tie as tie

@@ -1,8 +1,7 @@
 -- `whole::read_digits` meets its contract. The loop's invariant: what the row says so far, continued with the bytes that are left, is what the whole row says.
 -- The measure is what is left of the bytes. The mathematics of a turn is in `proofs/DecimalLaws.antt`. Assumes nothing.
-use mathlib.Core.Path.{_≡_, refl, sym, _∙_}
+use mathlib.Core.Path.{_≡_, sym, _∙_}
 use Prim.Native.Nat.{_≤_, _-_}
-use native.Mathlib.Omega.{arith}
 use borrow.Author.Needs.{needs}
 use lib.ListN.{length, drop, getD}
 use mathlib.Core.Logic.{⊎-elim}
