@@ -18,7 +18,7 @@ suc-if false m n = refl
 
 count-add : (p : ℕ → Bool) (a m n : ℕ) → count p a (m + n) ≡ count p a m + count p (a + m) n
 unfolding count
-count-add p a zero n = rw (zero-add, add-zero) (omega arith)
+count-add p a zero n = rw (zero-add n, add-zero) (omega arith)
 count-add p a (suc m) n =
     let next : suc a + m ≡ a + suc m = omega arith in
     rw (suc-add, count-add p (suc a) m n, next) (suc-if (p a) (count p (suc a) m) (count p (a + suc m) n))

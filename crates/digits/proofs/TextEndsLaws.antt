@@ -18,10 +18,10 @@ use Rattle.text.specs.declared.Seq.{Seq}
 use Rattle.text.specs.declared.Seq.the-variants.{Char, Ill, End}
 use Rattle.text.specs.Table.{row, rowOf}
 use Rattle.text.specs.Sequence.{bySize, seq, scalar, trailByte, encode}
-use Rattle.text.specs.Line.{Scalars, chars, encodes}
-use Rattle.text.proofs.Rows.{row-at}
-use Rattle.text.proofs.EncodeLaws.{cond-cases, seq-end-nil, seq-encode, encode-pos}
-use Rattle.text.proofs.LineLaws.{chars-nil, chars-char, chars-ill}
+use Rattle.text.specs.Text.{Scalars, chars, encodes}
+use Rattle.text.proofs.RowLaws.{cond-cases, row-at}
+use Rattle.text.proofs.EncodeLaws.{seq-encode, encode-pos}
+use Rattle.text.proofs.TextLaws.{chars-char, chars-ill, chars-end}
 use Rattle.digits.specs.Digits.{isDigit}
 use Rattle.digits.specs.TextEnds.{beginsWithDigit, ending, wholeDigit, endsFrom, endsWithDigit, firstIsDigit, lastIsDigit}
 
@@ -32,7 +32,7 @@ NotWhole k q = (longer : Bool) → wholeDigit k q longer ≡ longer
 pub other-length : (k c l : ℕ) → (l ≡ k → ⊥) → NotWhole k (Char c l)
 other-length k c l h longer = rw (ne-eqb l k h)
 
--- the match of the code took neither variant but the last two
+-- the variants other than `Char` have the numbers 1 and 2
 pub no-char : (k : ℕ) (q : Seq) → (tagOf the-type q ≡ 1) ⊎ (tagOf the-type q ≡ 2) → NotWhole k q
 no-char k (Char c l) (inl e) longer = absurd (omega arith)
 no-char k (Char c l) (inr e) longer = absurd (omega arith)
@@ -138,7 +138,7 @@ module _ (s : List ℕ) (c : ℕ) (h : scalar c ≡ true) where
 ends-after : (s : List ℕ) (c : ℕ) (cs : List ℕ) → Scalars (c ∷ cs) → endsWithDigit (s ++ encodes (c ∷ cs)) ≡ lastIsDigit (c ∷ cs)
 unfolding encodes lastIsDigit
 ends-after s c [] h = rw append-nil (ends-in s c (h .0))
-ends-after s c (d ∷ cs) h = rw (← append-assoc) (ends-after (s ++ encode c) d cs (h .1))
+ends-after s c (d ∷ cs) h = rw (← append-assoc s (encode c) (encodes (d ∷ cs))) (ends-after (s ++ encode c) d cs (h .1))
 
 pub ends-by : (cs : List ℕ) → Scalars cs → endsWithDigit (encodes cs) ≡ lastIsDigit cs
 unfolding encodes endsWithDigit endsFrom lastIsDigit
@@ -150,4 +150,4 @@ pub begins-by : (s : List ℕ) (q : Seq) → seq s ≡ q → beginsWithDigit s �
 unfolding beginsWithDigit firstIsDigit
 begins-by s (Char c l) e = rw (e, chars-char s c l e)
 begins-by s Ill e = rw (e, chars-ill s e)
-begins-by s End e = rw (e, seq-end-nil s e, chars-nil)
+begins-by s End e = rw (e, chars-end s e)

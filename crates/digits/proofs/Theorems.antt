@@ -6,8 +6,8 @@ use mathlib.Core.List.{List}
 use Prim.Native.Nat.{ℕ, _≤_}
 use native.Mathlib.Omega.{arith}
 use Rattle.text.specs.Sequence.{seq}
-use Rattle.text.specs.Line.{chars, wellFormed}
-use Rattle.text.proofs.LineLaws.{well-formed-split, chars-scalars}
+use Rattle.text.specs.Text.{chars, wellFormed}
+use Rattle.text.proofs.TextLaws.{well-formed-split, chars-scalars}
 use Rattle.digits.specs.Digits.{starts, isDigit, count}
 use Rattle.digits.specs.TextEnds.{beginsWithDigit, endsWithDigit, firstIsDigit, lastIsDigit}
 use Rattle.digits.proofs.DigitsLaws.{starts-apart}

@@ -100,6 +100,7 @@ pub fn is_digit(c: u32) -> bool
     c - starts[n - 1] <= 9
 }
 
+// Of the first character; no, where the text is empty or begins ill-formed.
 pub fn begins_with_digit(txt: &[u8]) -> bool
     ensures { λ r. ⌜ r ≡ beginsWithDigit (now (txt .entry)) ⌝ }
 {
@@ -119,7 +120,8 @@ pub fn ends_with_digit(txt: &[u8]) -> bool
         if txt.len() < k {
             return false;
         }
-        if let Seq::Char(c, len) = text::seq_at(txt, Offset(txt.len() - k)) {
+        let at = txt.len() - k;
+        if let Seq::Char(c, len) = text::seq_at(txt, Offset(at)) {
             if len == k {
                 return is_digit(c);
             }

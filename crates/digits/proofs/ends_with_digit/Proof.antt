@@ -31,8 +31,8 @@ loop-holds c = (omega arith, omega arith, refl)
 returns : tie.Need-returns Inv-loop μ-loop
 returns c = let at-loop = c .before .before in too-short _ (at-loop .loop .k) (at-loop .loop .inv .2) (c .before .loop-test .taken) (c .if1 .taken)
 
-sub-t8 : tie.Need-sub-t8 Inv-loop μ-loop
-sub-t8 c = search needs
+sub-at : tie.Need-sub-at Inv-loop μ-loop
+sub-at c = search needs
 
 seq-at-requires : tie.Need-seq-at-requires Inv-loop μ-loop
 seq-at-requires c κs = search needs
@@ -78,7 +78,7 @@ ends-with-digit-spec =
     μ-loop
     loop-holds
     returns
-    sub-t8
+    sub-at
     seq-at-requires
     enum-known-c
     is-digit-requires
