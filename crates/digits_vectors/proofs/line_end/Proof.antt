@@ -1,9 +1,9 @@
--- `digits_main::line_end` answers a place from `at` to the end. Assumes nothing.
+-- `digits_vectors::line_end` answers a place from `at` to the end. Assumes nothing.
 use Prim.Native.Nat.{_-_, _≤_}
 use lib.ListN.{length}
 use borrow.Author.Needs.{needs}
-use Rattle.digits_main.proofs.line_end.Statement.{statement}
-use Rattle.digits_main.proofs.line_end.Tie as tie
+use Rattle.digits_vectors.proofs.line_end.Statement.{statement}
+use Rattle.digits_vectors.proofs.line_end.Tie as tie
 
 abbrev Inv-loop : tie.InvT-loop
 Inv-loop s at end₀ end = (at ≤ end) × (end ≤ length s)

@@ -1,9 +1,9 @@
--- `digits_main::write_rows` is safe and ends: each row begins behind the newline of the one before it, at most one past the end. Assumes nothing.
+-- `digits_vectors::write_rows` is safe and ends: each row begins behind the newline of the one before it, at most one past the end. Assumes nothing.
 use Prim.Native.Nat.{_+_, _-_, _≤_}
 use lib.ListN.{length}
 use borrow.Author.Needs.{needs}
-use Rattle.digits_main.proofs.write_rows.Statement.{statement}
-use Rattle.digits_main.proofs.write_rows.Tie as tie
+use Rattle.digits_vectors.proofs.write_rows.Statement.{statement}
+use Rattle.digits_vectors.proofs.write_rows.Tie as tie
 
 abbrev Inv-loop : tie.InvT-loop
 Inv-loop s at₀ t5 at = at ≤ length s + 1
