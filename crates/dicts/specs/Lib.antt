@@ -1,1 +1,4 @@
 pub mod Table
+pub mod Layout
+pub mod Check
+pub mod Answers

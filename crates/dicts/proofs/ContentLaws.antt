@@ -1,0 +1,131 @@
+-- Laws of the content of `specs/Check.antt`, by the way that a test goes. No contract cites this file.
+-- In order: code points; ASCII and UTF-8; the digit rule; a record.
+use mathlib.Core.Path.{_≡_, refl, sym, ap, _∙_}
+use mathlib.Core.Bool.{Bool, true, false, cond, _&&_, _||_, and-false, and-true}
+use mathlib.Core.List.{List, [], _∷_, _++_}
+use mathlib.Core.Option.{Option, none, some}
+use Prim.Native.Nat.{ℕ, zero, suc, _+_, _-_, _≤_, _<_}
+use native.Mathlib.Omega.{arith}
+use lib.ListN.{length, getD, drop, take}
+use lib.Seq.{drop-cons}
+use lib.Dec.{leb, ltb, eqb}
+use borrow.Author.Tests.{le-leb, lt-leb, lt-ltb, le-ltb}
+use Rattle.fields.specs.Part.{part}
+use Rattle.fields.proofs.PartLaws.{length-part, part-at, part-add}
+use Rattle.text.specs.Bytes.{same}
+use Rattle.text.specs.Text.{wellFormed, left, isNil}
+use Rattle.text.specs.Sequence.{scalar, encode}
+use Rattle.text.proofs.BytesLaws.{same-lengths}
+use Rattle.text.proofs.TextLaws.{left-cons, left-nil}
+use Rattle.dicts.specs.Table.{Text}
+use Rattle.dicts.specs.Check.{legalMark, legalCodePoint, isDigitType, legalDigit, digitRule}
+use Rattle.dicts.specs.Answers.{optionally, partOf, recordOf, Within, Ascii}
+use Rattle.dicts.specs.Layout.{bit}
+use Rattle.dicts.specs.declared.layout.NumProp.{NumProp}
+
+-- ---- code points
+module _ (least c : ℕ) where
+  pub code-low : c < least → false ≡ legalCodePoint least c
+  unfolding legalCodePoint
+  code-low h = simp (lt-leb least c h)
+
+  module _ (h : least ≤ c) where
+    pub code-first : c ≤ 0xD7FF → true ≡ legalCodePoint least c
+    unfolding legalCodePoint
+    code-first k = simp (le-leb least c h, le-leb 0 c (omega arith), le-leb c 0xD7FF k)
+
+    pub code-surrogate : 0xD7FF < c → c < 0xE000 → false ≡ legalCodePoint least c
+    unfolding legalCodePoint
+    code-surrogate k l = simp (le-leb least c h, le-leb 0 c (omega arith), lt-leb c 0xD7FF k, lt-leb 0xE000 c l)
+
+    pub code-last : 0xD7FF < c → 0xE000 ≤ c → leb c 0x10FFFF ≡ legalCodePoint least c
+    unfolding legalCodePoint
+    code-last k l = simp (le-leb least c h, le-leb 0 c (omega arith), lt-leb c 0xD7FF k, le-leb 0xE000 c l)
+
+-- ---- ASCII and UTF-8
+left-ascii : (b : ℕ) (s : List ℕ) → b < 0x80 → left (b ∷ s) ≡ left s
+unfolding encode
+left-ascii b s h =
+    let e : encode b ≡ b ∷ [] = simp (lt-ltb b 0x80 h) in
+    let k : scalar b ≡ true = simp (le-leb 0 b (omega arith), le-leb b 0xD7FF (omega arith)) in
+    ap (λ (t : List ℕ). left (t ++ s)) (sym e) ∙ left-cons b s k
+
+left-behind : (t u : List ℕ) → ((i : ℕ) → i < length t → getD t i 0 < 0x80) → left (t ++ u) ≡ left u
+left-behind [] u h = refl
+left-behind (b ∷ t) u h = left-ascii b (t ++ u) (h 0 (omega arith)) ∙ left-behind t u (λ i k. h (suc i) (omega arith))
+
+module _ (s : List ℕ) (at n r : ℕ) (w : at + n ≤ length s) (a : Ascii s at (at + n) r) where
+  pub behind-ascii : wellFormed (part s at n) ≡ wellFormed (part s r (at + n - r))
+  behind-ascii =
+      let e : n ≡ (r - at) + (at + n - r) = omega (arith, a .behind, a .before) in
+      let f : at + (r - at) ≡ r = omega (arith, a .behind) in
+      let l : length (part s at (r - at)) ≡ r - at = length-part s at (r - at) (omega (arith, a .behind, a .before)) in
+      let low : (i : ℕ) → i < length (part s at (r - at)) → getD (part s at (r - at)) i 0 < 0x80
+      = λ i k. rw (part-at s at (r - at) i (omega arith)) (a .ascii (at + i) (omega arith) (omega arith)) in
+      let g : part s at n ≡ part s at (r - at) ++ part s r (at + n - r)
+      = ap (part s at) e ∙ part-add s at (r - at) (at + n - r) ∙ ap (λ (k : ℕ). part s at (r - at) ++ part s k (at + n - r)) f in
+      ap wellFormed g ∙ ap isNil (left-behind (part s at (r - at)) (part s r (at + n - r)) low)
+
+  pub all-ascii : r ≡ at + n → true ≡ wellFormed (part s at n)
+  unfolding part
+  all-ascii e = sym (behind-ascii ∙ (let z : at + n - r ≡ 0 = omega arith in rw (z, left-nil)))
+
+-- ---- a string of a list
+module _ (s : List ℕ) (at n : ℕ) (w : at + n ≤ length s) where
+  pub mark-empty : n ≡ 0 → false ≡ legalMark (part s at n)
+  unfolding legalMark
+  mark-empty e = simp (length-part s at n w, le-ltb 0 n (omega arith))
+
+  pub mark-is : (n ≡ 0 → ⊥) → wellFormed (part s at n) ≡ legalMark (part s at n)
+  unfolding legalMark
+  mark-is e = simp (length-part s at n w, lt-ltb 0 n (omega arith))
+
+-- ---- the digit rule
+same-one : (s : List ℕ) (at y : ℕ) → at < length s → eqb (getD s at 0) y ≡ same (part s at 1) (y ∷ [])
+unfolding part same
+same-one s at y h = rw (drop-cons s at 0 h) (sym (and-true _))
+
+same-other : (s : List ℕ) (at n y : ℕ) → at + n ≤ length s → (n ≡ 1 → ⊥) → false ≡ same (part s at n) (y ∷ [])
+same-other s at n y w h = same-lengths _ _ (λ e. h (sym (length-part s at n w) ∙ e))
+
+-- t says that the type is "digit", b that there is a value v
+no-value : (v : ℕ) (t : Bool) {b : Bool} (x : Option Text) → b ≡ false → true ≡ cond t (legalDigit (optionally b v) x) true
+unfolding legalDigit
+no-value v true x e = rw e
+no-value v false x e = refl
+
+large-value : (v : ℕ) (t b : Bool) (x : Option Text) → 9 < v → true ≡ cond t (legalDigit (optionally b v) x) true
+unfolding legalDigit
+large-value v true true none h = simp (lt-ltb 9 v h)
+large-value v true true (some x) h = simp (lt-ltb 9 v h)
+large-value v true false x h = refl
+large-value v false b x h = refl
+
+module _ (s : List ℕ) (p : NumProp) where
+  pub digit-no-value : bit (p .map) 1 ≡ false → true ≡ digitRule (recordOf s p)
+  unfolding digitRule recordOf
+  digit-no-value e = no-value (p .numbers .value) (isDigitType (partOf s (p .«num_type»))) (optionally (bit (p .map) 0) (partOf s (p .rom))) e
+
+  pub digit-large : 9 < p .numbers .value → true ≡ digitRule (recordOf s p)
+  unfolding digitRule recordOf
+  digit-large h = large-value (p .numbers .value) (isDigitType (partOf s (p .«num_type»))) (bit (p .map) 1) (optionally (bit (p .map) 0) (partOf s (p .rom))) h
+
+  pub digit-other : isDigitType (partOf s (p .«num_type»)) ≡ false → true ≡ digitRule (recordOf s p)
+  unfolding digitRule recordOf
+  digit-other e = rw e
+
+  module _ (is : isDigitType (partOf s (p .«num_type»)) ≡ true) (there : bit (p .map) 1 ≡ true) (h : p .numbers .value ≤ 9) where
+    pub digit-no-rom : bit (p .map) 0 ≡ false → false ≡ digitRule (recordOf s p)
+    unfolding digitRule recordOf legalDigit
+    digit-no-rom e = rw (is, there, e) (simp (le-ltb 9 (p .numbers .value) h))
+
+    rom-decides : bit (p .map) 0 ≡ true → same (partOf s (p .rom)) ((48 + p .numbers .value) ∷ []) ≡ digitRule (recordOf s p)
+    unfolding digitRule recordOf legalDigit
+    rom-decides e = rw (is, there, e) (simp (le-ltb 9 (p .numbers .value) h))
+
+    module _ (e : bit (p .map) 0 ≡ true) (w : Within s (p .rom)) where
+      pub digit-long-rom : (p .rom .len ≡ 1 → ⊥) → false ≡ digitRule (recordOf s p)
+      digit-long-rom l = same-other s (p .rom .at) (p .rom .len) _ w l ∙ rom-decides e
+
+      pub digit-rom : p .rom .len ≡ 1 → eqb (getD s (p .rom .at) 0) (48 + p .numbers .value) ≡ digitRule (recordOf s p)
+      digit-rom l = same-one s (p .rom .at) _ (omega arith) ∙ rw (← l) (rom-decides e)

@@ -1,0 +1,125 @@
+-- `dicts::layout::numbers_at` meets its contract: the bytes that the map asks for are there, or the first number that lacks some is at fault.
+use mathlib.Core.Path.{sym}
+use native.Mathlib.Omega.{arith}
+use borrow.Author.Tests.{eqb-true}
+use borrow.Author.Needs.{needs}
+use Rattle.dicts.proofs.LayoutLaws.{numbers-are, numbers-cut}
+use Rattle.dicts.proofs.layout.numbers_at.Statement.{statement}
+use Rattle.dicts.proofs.layout.numbers_at.Tie as tie
+
+sub-if1 : tie.Need-sub-if1
+sub-if1 c = search needs
+
+mul-if1 : tie.Need-mul-if1
+mul-if1 c = search needs
+
+add-if1 : tie.Need-add-if1
+add-if1 c = search needs
+
+add-if1-2 : tie.Need-add-if1-2
+add-if1-2 c = search needs
+
+add-if1-3 : tie.Need-add-if1-3
+add-if1-3 c = search needs
+
+cast-if1 : tie.Need-cast-if1
+cast-if1 c = search needs
+
+returns : tie.Need-returns
+returns c = sym (numbers-cut _ _ _ (c .before .before .pre) (omega arith))
+
+cast-numerator-at : tie.Need-cast-numerator-at
+cast-numerator-at c = search needs
+
+mul-numerator-at : tie.Need-mul-numerator-at
+mul-numerator-at c = search needs
+
+add-numerator-at : tie.Need-add-numerator-at
+add-numerator-at c = search needs
+
+cast-denominator-at : tie.Need-cast-denominator-at
+cast-denominator-at c = search needs
+
+mul-denominator-at : tie.Need-mul-denominator-at
+mul-denominator-at c = search needs
+
+add-denominator-at : tie.Need-add-denominator-at
+add-denominator-at c = search needs
+
+cast-base-at : tie.Need-cast-base-at
+cast-base-at c = search needs
+
+mul-base-at : tie.Need-mul-base-at
+mul-base-at c = search needs
+
+add-base-at : tie.Need-add-base-at
+add-base-at c = search needs
+
+cast-mult-at : tie.Need-cast-mult-at
+cast-mult-at c = search needs
+
+mul-mult-at : tie.Need-mul-mult-at
+mul-mult-at c = search needs
+
+add-mult-at : tie.Need-add-mult-at
+add-mult-at c = search needs
+
+number-if-requires : tie.Need-number-if-requires
+number-if-requires c κs e = omega (arith, eqb-true)
+
+number-if-requires-2 : tie.Need-number-if-requires-2
+number-if-requires-2 c κs e = omega (arith, eqb-true)
+
+number-if-requires-3 : tie.Need-number-if-requires-3
+number-if-requires-3 c κs e = omega (arith, eqb-true)
+
+number-if-requires-4 : tie.Need-number-if-requires-4
+number-if-requires-4 c κs e = omega (arith, eqb-true)
+
+number-if-requires-5 : tie.Need-number-if-requires-5
+number-if-requires-5 c κs e = omega (arith, eqb-true)
+
+cast-t14 : tie.Need-cast-t14
+cast-t14 c = search needs
+
+mul-t19 : tie.Need-mul-t19
+mul-t19 c = search needs
+
+add-t13 : tie.Need-add-t13
+add-t13 c = search needs
+
+returns-2 : tie.Need-returns-2
+returns-2 c = numbers-are _ _ _ _ _ _ _ _ (omega arith) (c .before .before .before .before .number-if .ensures) (c .before .before .before .number-if2 .ensures) (c .before .before .number-if3 .ensures) (c .before .number-if4 .ensures) (c .number-if5 .ensures)
+
+pub numbers-at-spec : {M : Type 1} → statement M
+numbers-at-spec =
+    tie.close
+    (tie.spec
+    sub-if1
+    mul-if1
+    add-if1
+    add-if1-2
+    add-if1-3
+    cast-if1
+    returns
+    cast-numerator-at
+    mul-numerator-at
+    add-numerator-at
+    cast-denominator-at
+    mul-denominator-at
+    add-denominator-at
+    cast-base-at
+    mul-base-at
+    add-base-at
+    cast-mult-at
+    mul-mult-at
+    add-mult-at
+    number-if-requires
+    number-if-requires-2
+    number-if-requires-3
+    number-if-requires-4
+    number-if-requires-5
+    cast-t14
+    mul-t19
+    add-t13
+    returns-2)

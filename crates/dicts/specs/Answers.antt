@@ -1,0 +1,122 @@
+-- What the answers of this crate's functions say of the table's bytes s, case by case. Definitions only.
+--     partOf s p        the bytes of a part
+--     recordOf s p      the record that a NumProp stands for
+--     tableOf s h       the table that a shape stands for
+--     textField, optText, numbersField, recordField   an answer as a field (`specs/Layout.antt`)
+--     endOf             checked items as an answer that keeps no values; recordItem, tableAnswer: an answer as checked items
+--     Within, Inside    a part, the parts of a NumProp lie within the bytes
+use Prim.Native.Nat.{ℕ, _+_, _≤_, _<_}
+use mathlib.Core.Bool.{Bool, true, false, cond}
+use mathlib.Core.List.{List, [], _∷_}
+use mathlib.Core.Option.{Option, none, some}
+use lib.ListN.{length, getD}
+use Rattle.fields.specs.Fields.{leAt}
+use Rattle.fields.specs.Part.{part}
+use Rattle.dicts.specs.Table.{Text, Record, Table}
+use Rattle.dicts.specs.Layout as Layout
+use Rattle.dicts.specs.Layout.{Field, Is, bit, textsAt, recordsAt, listAt}
+use Rattle.dicts.specs.Check.{Checked, Fine}
+use Rattle.dicts.specs.Check as Check
+use Rattle.dicts.specs.declared.layout.Part.{Part}
+use Rattle.dicts.specs.declared.layout.TextAt.{TextAt}
+use Rattle.dicts.specs.declared.layout.TextAt.the-variants as TextAt
+use Rattle.dicts.specs.declared.layout.Numbers.{Numbers}
+use Rattle.dicts.specs.declared.layout.NumbersAt.{NumbersAt}
+use Rattle.dicts.specs.declared.layout.NumbersAt.the-variants as NumbersAt
+use Rattle.dicts.specs.declared.layout.NumProp.{NumProp}
+use Rattle.dicts.specs.declared.layout.RecordAt.{RecordAt}
+use Rattle.dicts.specs.declared.layout.RecordAt.the-variants as RecordAt
+use Rattle.dicts.specs.declared.check.Items.{Items}
+use Rattle.dicts.specs.declared.check.Items.the-variants as Items
+use Rattle.dicts.specs.declared.check.RecordItem.{RecordItem}
+use Rattle.dicts.specs.declared.check.RecordItem.the-variants as RecordItem
+use Rattle.dicts.specs.declared.check.Shape.{Shape}
+use Rattle.dicts.specs.declared.check.TableCheck.{TableCheck}
+use Rattle.dicts.specs.declared.check.TableCheck.the-variants as TableCheck
+
+abbrev pub partOf : List ℕ → Part → Text
+partOf s p = part s (p .at) (p .len)
+
+abbrev pub optionally : {A : Type 0} → Bool → A → Option A
+optionally b a = cond b (some a) none
+
+-- ---- fields
+abbrev pub textField : List ℕ → TextAt → Field Text
+textField s (TextAt.Text p next) = Is (partOf s p) next
+textField s TextAt.Fault = Layout.Fault
+
+abbrev pub optText : Bool → List ℕ → TextAt → Field (Option Text)
+optText there s (TextAt.Text p next) = Is (optionally there (partOf s p)) next
+optText there s TextAt.Fault = Layout.Fault
+
+-- a number that is there, or 0
+abbrev pub numberIf : Bool → List ℕ → ℕ → ℕ
+numberIf there s at = cond there (leAt s at 8) 0
+
+abbrev pub numbersOf : ℕ → Numbers → Layout.Numbers
+numbersOf m n = record {
+  value = optionally (bit m 1) (n .value);
+  fraction = optionally (bit m 2) (n .numerator, n .denominator);
+  base = optionally (bit m 3) (n .base);
+  mult = optionally (bit m 4) (n .mult);
+}
+
+abbrev pub numbersField : ℕ → NumbersAt → Field Layout.Numbers
+numbersField m (NumbersAt.Numbers n) = Is (numbersOf m n) (n .next)
+numbersField m NumbersAt.Fault = Layout.Fault
+
+unfoldable pub recordOf : List ℕ → NumProp → Record
+recordOf s p =
+    Layout.recordWith (p .«code_point») (p .map) (partOf s (p .«num_type»))
+    (optionally (bit (p .map) 0) (partOf s (p .rom)))
+    (numbersOf (p .map) (p .numbers))
+    (optionally (bit (p .map) 5) (partOf s (p .script)))
+
+abbrev pub recordField : List ℕ → RecordAt → Field Record
+recordField s (RecordAt.Record p) = Is (recordOf s p) (p .next)
+recordField s RecordAt.Fault = Layout.Fault
+
+-- ---- what lies within the bytes
+abbrev pub Within : List ℕ → Part → Type 0
+Within s p = p .at + p .len ≤ length s
+
+pub record Inside (s : List ℕ) (p : NumProp) : Type 0 where
+  pub type-within : Within s (p .«num_type»)
+  pub rom-within : Within s (p .rom)
+  pub script-within : Within s (p .script)
+
+abbrev pub TextWithin : List ℕ → TextAt → Type 0
+TextWithin s (TextAt.Text p next) = Within s p
+TextWithin s TextAt.Fault = Unit {0}
+
+abbrev pub RecordWithin : List ℕ → RecordAt → Type 0
+RecordWithin s (RecordAt.Record p) = Inside s p
+RecordWithin s RecordAt.Fault = Unit {0}
+
+-- the bytes from an offset on up to r, within those up to end, are ASCII
+pub record Ascii (s : List ℕ) (from end r : ℕ) : Type 0 where
+  pub behind : from ≤ r
+  pub before : r ≤ end
+  pub ascii : (i : ℕ) → from ≤ i → i < r → getD s i 0 < 0x80
+
+-- ---- items
+abbrev pub endOf : {A : Type 0} → Checked A → Items
+endOf (Fine a next) = Items.End next
+endOf (Check.Refused number at) = Items.Refused number at
+
+abbrev pub recordItem : List ℕ → ℕ → RecordItem → Checked Record
+recordItem s at (RecordItem.Record p) = Fine (recordOf s p) (p .next)
+recordItem s at (RecordItem.Refused number) = Check.Refused number at
+
+unfoldable pub tableOf : List ℕ → Shape → Table
+tableOf s h = record {
+  percentage-markers = listAt s (h .percentages);
+  fraction-connectors = listAt s (h .connectors);
+  plus-signs = listAt s (h .plus);
+  minus-signs = listAt s (h .minus);
+  records = recordsAt (h .count) s (h .records);
+}
+
+abbrev pub tableAnswer : List ℕ → TableCheck → Checked Table
+tableAnswer s (TableCheck.Table h) = Fine (tableOf s h) (length s)
+tableAnswer s (TableCheck.Refused number at) = Check.Refused number at
