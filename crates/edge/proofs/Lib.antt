@@ -1,0 +1,3 @@
+-- The laws that the proofs of `edge` share.
+pub mod LayoutLaws
+pub mod CheckLaws

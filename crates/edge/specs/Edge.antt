@@ -1,0 +1,88 @@
+-- Edges as values, and the bytes in which they are listed (01, "Listing"). Definitions only.
+--     Text              a string: its UTF-8 bytes
+--     Edge, Numeric     an edge, and the numeric data of a numeric one; a field that is absent is none
+--     mapOf e           the u16 map of an edge: which of its fields are there
+--     str t             a string as it is listed: a u16 length and its bytes
+--     edgeBytes e       an edge as it is listed
+--     listingBytes es   a listing: a u16 count, and the edges
+--     Assumes nothing.
+use Prim.Native.Nat.{ℕ, _+_, _*_}
+use mathlib.Core.Bool.{Bool, cond}
+use mathlib.Core.List.{List, [], _∷_, _++_}
+use mathlib.Core.Option.{Option, none, some}
+use lib.ListN.{length}
+use Rattle.fields.specs.Fields.{bytesOf}
+
+abbrev pub Text : Type 0
+Text = List ℕ
+
+pub record Numeric : Type 0 where
+  pub orig : Text
+  -- the 64 bits of the f64
+  pub value : Option ℕ
+  -- numerator and denominator
+  pub fraction : Option (ℕ × ℕ)
+  pub base : Option ℕ
+  -- base_multiplier: the 64 bits of the f64
+  pub mult : Option ℕ
+  pub script : Option Text
+  pub large : Bool
+  pub active : Bool
+  pub value-s : Option Text
+
+pub record Edge : Type 0 where
+  pub start : ℕ
+  pub end : ℕ
+  pub type : Text
+  pub txt : Text
+  -- none: a regular edge
+  pub num : Option Numeric
+
+-- ---- the map
+abbrev pub there : {A : Type 0} → Option A → ℕ
+there none = 0
+there (some a) = 1
+
+abbrev pub flag : Bool → ℕ
+flag b = cond b 1 0
+
+unfoldable pub numericMap : Numeric → ℕ
+numericMap n =
+    1 + 2 * there (n .value) + 4 * there (n .fraction) + 8 * there (n .base) + 16 * there (n .mult) + 32 * there (n .script) + 64 * flag (n .large)
+    + 128 * flag (n .active) + 256 * there (n .value-s)
+
+abbrev pub mapOf : Option Numeric → ℕ
+mapOf none = 0
+mapOf (some n) = numericMap n
+
+-- ---- the bytes
+unfoldable pub str : Text → List ℕ
+str t = bytesOf 2 (length t) ++ t
+
+abbrev pub fractionBytes : ℕ × ℕ → List ℕ
+fractionBytes p = bytesOf 8 (p .0) ++ bytesOf 8 (p .1)
+
+-- the bytes of a field that may be absent
+abbrev pub opt : {A : Type 0} → (A → List ℕ) → Option A → List ℕ
+opt f none = []
+opt f (some a) = f a
+
+-- what a numeric edge has behind its txt
+unfoldable pub numericBytes : Numeric → List ℕ
+numericBytes n =
+    str (n .orig) ++ (opt (bytesOf 8) (n .value) ++ (opt fractionBytes (n .fraction) ++ (opt (bytesOf 8) (n .base)
+    ++ (opt (bytesOf 8) (n .mult) ++ (opt str (n .script) ++ opt str (n .value-s))))))
+
+-- what every edge begins with; its bytes from the start on tell edges apart
+unfoldable pub headBytes : ℕ → ℕ → ℕ → Text → Text → List ℕ
+headBytes m a z ty tx = bytesOf 2 m ++ (bytesOf 2 a ++ (bytesOf 2 z ++ (str ty ++ str tx)))
+
+unfoldable pub edgeBytes : Edge → List ℕ
+edgeBytes e = headBytes (mapOf (e .num)) (e .start) (e .end) (e .type) (e .txt) ++ opt numericBytes (e .num)
+
+unfoldable pub edgesBytes : List Edge → List ℕ
+edgesBytes [] = []
+edgesBytes (e ∷ es) = edgeBytes e ++ edgesBytes es
+
+unfoldable pub listingBytes : List Edge → List ℕ
+listingBytes es = bytesOf 2 (length es) ++ edgesBytes es

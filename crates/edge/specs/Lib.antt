@@ -1,0 +1,5 @@
+-- The definitions that the contracts of `edge` cite.
+pub mod Edge
+pub mod Layout
+pub mod Check
+pub mod View
