@@ -1,10 +1,12 @@
--- What is shown of the passes with the plain table.
+-- What is shown of the grammar and of the passes with the plain table.
 pub mod ChainParts
 pub mod Pieces
 pub mod Readings
 pub mod Maximal
 pub mod PlainEdges
+pub mod PlainWithin
 pub mod FourPasses
-pub mod Marked
 pub mod FifthPass
 pub mod Settled
+pub mod Demand3
+pub mod Marked

@@ -10,7 +10,7 @@ use Rattle.whole.specs.Decimal.{decimal}
 use Rattle.passes.specs.NumEdge.{NumEdge}
 use Rattle.passes.specs.Characters.{charEdge, charEdges}
 use Rattle.passes.specs.Passes.{cjk}
-use Rattle.grammar.specs.Plain.{Char, digit, ten, large, codePoint, typeOf, charValue, charBase, isLarge, plainRecord, plainRecords, 零, 一, 二, 三, 四, 五, 六, 七, 八, 九, 十, 百, 千, 万, 億, 兆}
+use Rattle.grammar.specs.Plain.{Char, digit, ten, large, codePoint, typeOf, charValue, charBase, isLarge, plainRecord, plainRecords, plain, 零, 一, 二, 三, 四, 五, 六, 七, 八, 九, 十, 百, 千, 万, 億, 兆}
 
 abbrev pub plainEdge : ℕ → Char → NumEdge
 plainEdge i c = record {
@@ -57,3 +57,8 @@ pub char-edges-plain : (w : List Char) (i : ℕ) → charEdges plainRecords i (m
 unfolding charEdges charEdge plainRecord
 char-edges-plain [] i = refl
 char-edges-plain (c ∷ w) i = rw (find-plain c, char-edges-plain w (suc i))
+
+-- D1's list of a line whose code points are those of w
+pub plain-line : (cs : List ℕ) (w : List Char) → cs ≡ map codePoint w → charEdges (plain .records) 0 cs ≡ plainEdges 0 w
+unfolding plain
+plain-line cs w e = rw e (char-edges-plain w 0)

@@ -12,7 +12,7 @@ use Rattle.passes.specs.Chains.{from, chains}
 use Rattle.passes.specs.Passes.{Pass, Chain, begin, longer, touches, rule, joined, next, chainsOf, edgesOf, joinedOf, after, added, through, addedBy}
 use Rattle.passes.proofs.ChainsLaws.{from-none, from-some}
 
-first-above-cons : (e : NumEdge) (es : List NumEdge) → above e ≡ false → firstAbove es ≡ none → firstAbove (e ∷ es) ≡ none
+pub first-above-cons : (e : NumEdge) (es : List NumEdge) → above e ≡ false → firstAbove es ≡ none → firstAbove (e ∷ es) ≡ none
 unfolding firstAbove
 first-above-cons e es h k = rw h k
 
