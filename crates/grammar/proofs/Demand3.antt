@@ -1,6 +1,6 @@
 -- Demand 3 (00). For every line of the sixteen characters, read with the plain table, that is not refused: the list after the fifth pass is one edge over the
 -- whole line exactly when the line is a numeral; then any two readings are the same division, and the edge's f64 is, as a whole number, the reading's value.
--- The words are defined in `specs/Grammar.antt` (Reading), `specs/Plain.antt` (plain), and in the specs/ of `passes` (charEdges, through, addedBy, firstAbove),
+-- The words are defined in `specs/Grammar.antt` (Reading), `specs/Plain.antt` (plain), and in the specs/ of `passes` (fifthList, aboveAt),
 -- `text` (wellFormed, chars) and `whole` (ofNat). Assumes nothing.
 use Prim.Native.Nat.{ℕ, _≤_}
 use mathlib.Core.Path.{_≡_, refl, sym, ap, _∙_}
@@ -16,8 +16,7 @@ use Rattle.text.specs.Line.{wellFormed, chars}
 use Rattle.whole.specs.Whole.{TOP, ofNat}
 use Rattle.whole.proofs.WholeLaws.{ofNat-value, ofNat-bits-back}
 use Rattle.passes.specs.NumEdge.{NumEdge, firstAbove}
-use Rattle.passes.specs.Characters.{charEdges}
-use Rattle.passes.specs.Passes.{through, addedBy, five}
+use Rattle.passes.specs.Passes.{through, addedBy, five, fifthList, aboveAt}
 use Rattle.grammar.specs.Plain.{Char, codePoint, plain}
 use Rattle.grammar.specs.Grammar.{Reading, divisionValue}
 use Rattle.grammar.proofs.PlainEdges.{plainEdges, plain-line}
@@ -32,17 +31,9 @@ pub record IsLine (line : List ℕ) (w : List Char) : Type 0 where
   pub well-formed : wellFormed line ≡ true
   pub characters : chars line ≡ map codePoint w
 
--- D1's list
-abbrev pub firstList : List ℕ → List NumEdge
-firstList line = charEdges (plain .records) 0 (chars line)
-
--- no joined edge has a value above TOP
-abbrev pub NotRefused7 : List ℕ → Type 0
-NotRefused7 line = firstAbove (addedBy five (firstList line)) ≡ none
-
 -- the list after the fifth pass is the one edge e, over the whole line
 pub record OneEdge (line : List ℕ) (e : NumEdge) : Type 0 where
-  pub list : through five (firstList line) ≡ e ∷ []
+  pub list : fifthList plain line ≡ e ∷ []
   pub from-start : e .start ≡ 0
   pub to-end : e .end ≡ length (chars line)
 
@@ -58,7 +49,7 @@ pub record Settled (line : List ℕ) (w : List Char) : Type 0 where
   pub same-value : (e : NumEdge) → OneEdge line e → (r : Reading w) → Carries e (divisionValue (r .division))
 
 -- ---- why it holds
-pub demand3 : (line : List ℕ) (w : List Char) → IsLine line w → NotRefused7 line → Settled line w
+pub demand3 : (line : List ℕ) (w : List Char) → IsLine line w → aboveAt plain line ≡ none → Settled line w
 demand3 line w is fine = record {
   one-edge = (
     λ h. is-read w (h .0) (sym same-list ∙ h .1 .list) .0,
@@ -72,10 +63,10 @@ demand3 line w is fine = record {
       record { value = v; within = within; float = rw ofNat-bits-back (ofNat-value _ (omega arith)) };
 }
   where
-    same-list : through five (firstList line) ≡ through five (plainEdges 0 w)
+    same-list : fifthList plain line ≡ through five (plainEdges 0 w)
     same-list = ap (through five) (plain-line (chars line) w (is .characters))
 
-    same-added : firstAbove (addedBy five (firstList line)) ≡ firstAbove (addedBy five (plainEdges 0 w))
+    same-added : aboveAt plain line ≡ firstAbove (addedBy five (plainEdges 0 w))
     same-added = ap (λ (l : List NumEdge). firstAbove (addedBy five l)) (plain-line (chars line) w (is .characters))
 
     same-length : length (chars line) ≡ length w

@@ -8,16 +8,20 @@
 --     through ps l   the list after the passes ps in turn
 --     addedBy ps l   the edges that the passes ps join in turn, in order
 --     five           the five passes
+--     fifthList t line     the list after the fifth pass, of a line read with the table t
+--     joinedEdges t line   the edges that the five passes join, in order
+--     aboveAt t line       where the call is refused 7: the start of the first joined edge with a value above TOP, where there is one
 --     Assumes nothing.
 use Prim.Native.Nat.{ℕ, zero, suc, _+_, _*_, _/_, _%_}
 use mathlib.Core.Bool.{Bool, true, false, _&&_, _||_, not, cond}
 use mathlib.Core.List.{List, [], _∷_, _++_, map}
 use mathlib.Core.Option.{Option, none, some}
 use lib.Dec.{leb, ltb, eqb}
-use Rattle.dicts.specs.Table.{Text}
+use Rattle.dicts.specs.Table.{Text, Table}
 use Rattle.text.specs.Sequence.{encode}
 use Rattle.whole.specs.Decimal.{decimal}
-use Rattle.passes.specs.NumEdge.{NumEdge, same, orZero, has}
+use Rattle.passes.specs.NumEdge.{NumEdge, same, orZero, has, firstAbove}
+use Rattle.passes.specs.Characters.{firstList}
 use Rattle.passes.specs.Chains.{chains}
 
 pub data Pass : Type 0 where
@@ -217,10 +221,20 @@ unfoldable pub through : List Pass → List NumEdge → List NumEdge
 through [] l = l
 through (p ∷ ps) l = through ps (after p l)
 
--- "Every joined edge is added to the lattice too": the order of addition, and refusal 7's order of passes (`firstAbove (addedBy five l)`)
+-- "Every joined edge is added to the lattice too"
 unfoldable pub addedBy : List Pass → List NumEdge → List NumEdge
 addedBy [] l = []
 addedBy (p ∷ ps) l = added p l ++ addedBy ps (after p l)
 
 abbrev pub five : List Pass
 five = D1 ∷ G1 ∷ G2 ∷ G3 ∷ G4 ∷ []
+
+abbrev pub fifthList : Table → List ℕ → List NumEdge
+fifthList t line = through five (firstList t line)
+
+abbrev pub joinedEdges : Table → List ℕ → List NumEdge
+joinedEdges t line = addedBy five (firstList t line)
+
+-- refusal 7: "a value above TOP made by D1 to G4", at the "start of the first such edge, in pass order"
+abbrev pub aboveAt : Table → List ℕ → Option ℕ
+aboveAt t line = firstAbove (joinedEdges t line)
