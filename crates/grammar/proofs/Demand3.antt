@@ -12,14 +12,15 @@ use native.Mathlib.Omega.{arith}
 use lib.ListN.{length, length-map}
 use lib.Ieee.{binary64, ofBits, toBits}
 use lib.Ieee.Exact.{HasValue}
-use Rattle.text.specs.Line.{wellFormed, chars}
+use Rattle.text.specs.Line.{wellFormed, chars, encodes}
+use Rattle.text.proofs.LineLaws.{encodes-chars, encodes-well-formed}
 use Rattle.whole.specs.Whole.{TOP, ofNat}
 use Rattle.whole.proofs.WholeLaws.{ofNat-value, ofNat-bits-back}
 use Rattle.passes.specs.NumEdge.{NumEdge, firstAbove}
 use Rattle.passes.specs.Passes.{through, addedBy, five, fifthList, aboveAt}
 use Rattle.grammar.specs.Plain.{Char, codePoint, plain}
 use Rattle.grammar.specs.Grammar.{Reading, divisionValue}
-use Rattle.grammar.proofs.PlainEdges.{plainEdges, plain-line}
+use Rattle.grammar.proofs.PlainEdges.{plainEdges, plain-line, plain-scalars}
 use Rattle.grammar.proofs.PlainWithin.{one-within}
 use Rattle.grammar.proofs.Readings.{same-division}
 use Rattle.grammar.proofs.Settled.{is-read, is-one}
@@ -30,6 +31,10 @@ use Rattle.grammar.proofs.Settled.{is-read, is-one}
 pub record IsLine (line : List ℕ) (w : List Char) : Type 0 where
   pub well-formed : wellFormed line ≡ true
   pub characters : chars line ≡ map codePoint w
+
+-- every w has such a line: its characters in UTF-8
+pub line-of : (w : List Char) → IsLine (encodes (map codePoint w)) w
+line-of w = record { well-formed = encodes-well-formed (map codePoint w) (plain-scalars w); characters = encodes-chars (map codePoint w) (plain-scalars w) }
 
 -- the list after the fifth pass is the one edge e, over the whole line
 pub record OneEdge (line : List ℕ) (e : NumEdge) : Type 0 where

@@ -5,7 +5,8 @@ use mathlib.Core.Bool.{true}
 use mathlib.Core.List.{List, [], _∷_, map}
 use mathlib.Core.Option.{none, some}
 use Rattle.dicts.specs.Table.{find}
-use Rattle.text.specs.Sequence.{encode}
+use Rattle.text.specs.Line.{Scalars}
+use Rattle.text.specs.Sequence.{encode, scalar}
 use Rattle.whole.specs.Decimal.{decimal}
 use Rattle.passes.specs.NumEdge.{NumEdge}
 use Rattle.passes.specs.Characters.{charEdge, charEdges}
@@ -62,3 +63,26 @@ char-edges-plain (c ∷ w) i = rw (find-plain c, char-edges-plain w (suc i))
 pub plain-line : (cs : List ℕ) (w : List Char) → cs ≡ map codePoint w → charEdges (plain .records) 0 cs ≡ plainEdges 0 w
 unfolding plain
 plain-line cs w e = rw e (char-edges-plain w 0)
+
+-- the code points of the sixteen are scalar values
+char-scalar : (c : Char) → scalar (codePoint c) ≡ true
+char-scalar (digit 零) = refl
+char-scalar (digit 一) = refl
+char-scalar (digit 二) = refl
+char-scalar (digit 三) = refl
+char-scalar (digit 四) = refl
+char-scalar (digit 五) = refl
+char-scalar (digit 六) = refl
+char-scalar (digit 七) = refl
+char-scalar (digit 八) = refl
+char-scalar (digit 九) = refl
+char-scalar (ten 十) = refl
+char-scalar (ten 百) = refl
+char-scalar (ten 千) = refl
+char-scalar (large 万) = refl
+char-scalar (large 億) = refl
+char-scalar (large 兆) = refl
+
+pub plain-scalars : (w : List Char) → Scalars (map codePoint w)
+plain-scalars [] = tt
+plain-scalars (c ∷ w) = (char-scalar c, plain-scalars w)
