@@ -17,8 +17,8 @@ use Rattle.grammar.specs.Row.{Row, one, _▷_, _<>>_, last, head}
 use Rattle.grammar.specs.Grammar.{Atom, run, times, power, Member, small, block, lone, Division, runValue, atomValue, atomBase, smallValue, smallBase, memberValue, memberBase, IsAtom, Follows, loneZero, nearBase, IsSmall, IsMember, IsBlock, singleDigit, countValue, countBase, IsNumeral, divisionValue}
 use Rattle.grammar.proofs.ChainParts.{OnSome, Tiles, Next, Along}
 use Rattle.grammar.proofs.Pieces.{T→true, true→T, true-le, le-true, false-lt, joins}
-use Rattle.grammar.proofs.Readings.{Apart, Sep4, and-left, and-right}
-use Rattle.grammar.proofs.FourPasses.{Shows, View, R4, member-view, run-size, atom-size, small-size, eqb-self, digit-small}
+use Rattle.grammar.proofs.Readings.{SmallsApart, Apart₄, and-left, and-right}
+use Rattle.grammar.proofs.FourPasses.{Shows, View, MemberEdge, memberView, runSize, atomSize, smallSize, eqb-self, digit-small}
 
 -- a test by its other form
 pub eqb-true : (m n : ℕ) → eqb m n ≡ true → m ≡ n
@@ -42,24 +42,24 @@ place j k s h = go (eqb s 1) refl
     go true e = let p : s ≡ 1 = eqb-true s 1 e in let q : k ≡ suc j = omega arith in rw q (eqb-self (suc j))
     go false e = eqb-false k (suc j) (λ q. let p : s ≡ 1 = omega arith in absurd-bool (sym (rw p at (sym e)) ∙ refl))
 
-run-size-pos : (r : Row Digit) → 1 ≤ run-size r
+run-size-pos : (r : Row Digit) → 1 ≤ runSize r
 run-size-pos (one d) = omega arith
 run-size-pos (r ▷ d) = omega arith
 
-atom-size-pos : (a : Atom) → 1 ≤ atom-size a
+atom-size-pos : (a : Atom) → 1 ≤ atomSize a
 atom-size-pos (run r) = run-size-pos r
 atom-size-pos (times r t) = omega arith
 atom-size-pos (power t) = omega arith
 
-small-size-pos : (s : Row Atom) → 1 ≤ small-size s
+small-size-pos : (s : Row Atom) → 1 ≤ smallSize s
 small-size-pos (one a) = atom-size-pos a
 small-size-pos (s ▷ a) = omega (arith, atom-size-pos a)
 
 abbrev size : Member → ℕ
-size m = member-view m .size
+size m = memberView m .size
 
 abbrev val : Member → ℕ
-val m = member-view m .value
+val m = memberView m .value
 
 ten-over : (t : Ten) → leb (tenValue t) 9 ≡ false
 ten-over 十 = refl
@@ -93,7 +93,7 @@ single-val (small (s ▷ a)) e = absurd-bool (sym e)
 single-val (block s l) e = absurd-bool (sym e)
 single-val (lone l) e = absurd-bool (sym e)
 
-val-member : (m : Member) → (val m ≡ memberValue m) × (member-view m .base ≡ memberBase m)
+val-member : (m : Member) → (val m ≡ memberValue m) × (memberView m .base ≡ memberBase m)
 val-member (small s) = (refl, refl)
 val-member (block s l) = (refl, refl)
 val-member (lone l) = (refl, refl)
@@ -103,26 +103,26 @@ regroup true x y z = refl
 regroup false x y z = refl
 
 -- what a chain of members adds up to
-abbrev pub total-base : Division → ℕ
-total-base (one m) = memberBase m
-total-base (d ▷ m) = countBase (memberBase (last d)) m
+abbrev pub totalBase : Division → ℕ
+totalBase (one m) = memberBase m
+totalBase (d ▷ m) = countBase (memberBase (last d)) m
 
 pub record Counts (i : ℕ) (d : Division) (e : NumEdge) (j : ℕ) : Type 0 where
   pub start : e .start ≡ i
   pub end : e .end ≡ j
   pub value : e .value ≡ some (divisionValue d)
-  pub base : e .base ≡ some (total-base d)
+  pub base : e .base ≡ some (totalBase d)
   pub script : e .script ≡ some cjk
 
 abbrev high : ℕ → Bool
 high b = leb 1000 b && powerOfTen b
 
 -- what the next member counts as
-abbrev as-value : ℕ → Member → ℕ
-as-value b m = cond (high b && leb 1 (singleDigit m)) (singleDigit m * (b / 10)) (memberValue m)
+abbrev asValue : ℕ → Member → ℕ
+asValue b m = cond (high b && leb 1 (singleDigit m)) (singleDigit m * (b / 10)) (memberValue m)
 
-abbrev as-base : ℕ → Member → ℕ
-as-base b m = cond (high b && leb 1 (singleDigit m)) (b / 10) (memberBase m)
+abbrev asBase : ℕ → Member → ℕ
+asBase b m = cond (high b && leb 1 (singleDigit m)) (b / 10) (memberBase m)
 
 pick-value : (m : Member) (p q : Bool) (b : ℕ) → leb 1 (singleDigit m) ≡ q
     → cond (p && q) (some (val m * (b / 10))) (some (val m)) ≡ some (cond (p && q) (singleDigit m * (b / 10)) (memberValue m))
@@ -130,31 +130,31 @@ pick-value m true true b h = rw (single-val m h)
 pick-value m true false b h = rw (val-member m .0)
 pick-value m false q b h = rw (val-member m .0)
 
-pick-base : (m : Member) (p : Bool) (b : ℕ) → cond p (some (b / 10)) (some (member-view m .base)) ≡ some (cond p (b / 10) (memberBase m))
+pick-base : (m : Member) (p : Bool) (b : ℕ) → cond p (some (b / 10)) (some (memberView m .base)) ≡ some (cond p (b / 10) (memberBase m))
 pick-base m true b = refl
 pick-base m false b = rw (val-member m .1)
 
-module _ (i j k : ℕ) (d : Division) (m : Member) (c : Chain) (e : NumEdge) (C : Counts i d (c .edge) j) (R : R4 j m e k) where
-  retag : retags (c .edge) e ≡ high (total-base d) && leb 1 (singleDigit m)
+module _ (i j k : ℕ) (d : Division) (m : Member) (c : Chain) (e : NumEdge) (C : Counts i d (c .edge) j) (R : MemberEdge j m e k) where
+  retag : retags (c .edge) e ≡ high (totalBase d) && leb 1 (singleDigit m)
   unfolding retags same
   retag =
       rw (C .script, C .base, R .start, R .end, place j k (size m) (R .width), R .value)
-      (regroup (high (total-base d)) _ _ _ ∙ ap (λ b. high (total-base d) && b) (single-test m))
+      (regroup (high (totalBase d)) _ _ _ ∙ ap (λ b. high (totalBase d) && b) (single-test m))
 
-  value-as : countedValue (c .edge) e ≡ some (as-value (total-base d) m)
+  value-as : countedValue (c .edge) e ≡ some (asValue (totalBase d) m)
   unfolding countedValue
-  value-as = rw (retag, C .base, R .value) (pick-value m (high (total-base d)) _ _ refl)
+  value-as = rw (retag, C .base, R .value) (pick-value m (high (totalBase d)) _ _ refl)
 
-  base-as : countedBase (c .edge) e ≡ some (as-base (total-base d) m)
+  base-as : countedBase (c .edge) e ≡ some (asBase (totalBase d) m)
   unfolding countedBase
-  base-as = rw (retag, C .base, R .base) (pick-base m (high (total-base d) && leb 1 (singleDigit m)) (total-base d))
+  base-as = rw (retag, C .base, R .base) (pick-base m (high (totalBase d) && leb 1 (singleDigit m)) (totalBase d))
 
-  rule-as : g4Rule c e ≡ ltb (as-value (total-base d) m) (total-base d) && ltb (as-base (total-base d) m) (total-base d)
+  rule-as : g4Rule c e ≡ ltb (asValue (totalBase d) m) (totalBase d) && ltb (asBase (totalBase d) m) (totalBase d)
   unfolding g4Rule
   rule-as = rw (value-as, base-as, C .value, C .base)
 
 -- after a block
-block-base : (d : Division) → IsBlock (last d) → total-base d ≡ memberBase (last d)
+block-base : (d : Division) → IsBlock (last d) → totalBase d ≡ memberBase (last d)
 block-base (one m) h = refl
 block-base (d ▷ small s) h = absurd h
 block-base (d ▷ block s l) h = refl
@@ -174,14 +174,14 @@ block-high (lone l) h = large-high l
 abbrev fits : ℕ → Member → Bool
 fits b m = ltb (countValue b m) b && ltb (countBase b m) b
 
-module _ (i j k : ℕ) (d : Division) (m : Member) (c : Chain) (e : NumEdge) (C : Counts i d (c .edge) j) (R : R4 j m e k) (B : IsBlock (last d)) where
+module _ (i j k : ℕ) (d : Division) (m : Member) (c : Chain) (e : NumEdge) (C : Counts i d (c .edge) j) (R : MemberEdge j m e k) (B : IsBlock (last d)) where
   abbrev b : ℕ
   b = memberBase (last d)
 
-  same-value : as-value (total-base d) m ≡ countValue b m
+  same-value : asValue (totalBase d) m ≡ countValue b m
   same-value = rw (block-base d B, block-high (last d) B)
 
-  same-base : as-base (total-base d) m ≡ countBase b m
+  same-base : asBase (totalBase d) m ≡ countBase b m
   same-base = rw (block-base d B, block-high (last d) B)
 
   block-rule : g4Rule c e ≡ fits b m
@@ -198,7 +198,7 @@ module _ (i j k : ℕ) (d : Division) (m : Member) (c : Chain) (e : NumEdge) (C 
   }
 
 -- after a small nothing joins
-total-small : (d : Division) (s : Row Atom) → last d ≡ small s → leb 1 (singleDigit (small s)) ≡ false → total-base d ≡ smallBase s
+total-small : (d : Division) (s : Row Atom) → last d ≡ small s → leb 1 (singleDigit (small s)) ≡ false → totalBase d ≡ smallBase s
 total-small (one m) s e z = rw e
 total-small (d ▷ m) s e z = rw (e, z)
 
@@ -266,10 +266,10 @@ single-head (one (power t)) e = absurd-bool (sym e)
 single-head (s ▷ a) e = absurd-bool (sym e)
 
 -- two smalls that touch and are apart: the second's first atom is not below the first's base
-apart : (s t : Row Atom) → Apart s t → 2 ≤ smallBase s → atomValue (head t) < smallBase s → atomBase (head t) < smallBase s → ⊥
+apart : (s t : Row Atom) → SmallsApart s t → 2 ≤ smallBase s → atomValue (head t) < smallBase s → atomBase (head t) < smallBase s → ⊥
 apart s t h two v b = absurd-bool (sym (rw (near-some s two, le-true v, le-true b) refl) ∙ h .1)
 
-plainly : (s t : Row Atom) → Apart s t → IsSmall t → ltb (smallValue t) (smallBase s) && ltb (smallBase t) (smallBase s) ≡ true → ⊥
+plainly : (s t : Row Atom) → SmallsApart s t → IsSmall t → ltb (smallValue t) (smallBase s) && ltb (smallBase t) (smallBase s) ≡ true → ⊥
 plainly s t h k e =
     let v : smallValue t < smallBase s = true-le _ _ (and-left _ _ e) in
     let b : smallBase t < smallBase s = true-le _ _ (and-right (ltb (smallValue t) (smallBase s)) _ e) in
@@ -277,10 +277,10 @@ plainly s t h k e =
     let v′ : atomValue (head t) < smallBase s = omega (arith, head-le t) in
     apart s t h two v′ (base-lt (head t) (smallBase s) (head-atom t k) two v′)
 
-stuck : (s : Row Atom) (m : Member) → Sep4 (small s) m → IsMember m → ltb (as-value (smallBase s) m) (smallBase s) && ltb (as-base (smallBase s) m) (smallBase s) ≡ true → ⊥
+stuck : (s : Row Atom) (m : Member) → Apart₄ (small s) m → IsMember m → ltb (asValue (smallBase s) m) (smallBase s) && ltb (asBase (smallBase s) m) (smallBase s) ≡ true → ⊥
 stuck s (lone l) h k e = h
 stuck s (block t l) h k e =
-    let q : largeValue l < smallBase s = true-le _ _ (rw (and-false (high (smallBase s))) at (and-right (ltb (as-value (smallBase s) (block t l)) (smallBase s)) _ e)) in
+    let q : largeValue l < smallBase s = true-le _ _ (rw (and-false (high (smallBase s))) at (and-right (ltb (asValue (smallBase s) (block t l)) (smallBase s)) _ e)) in
     omega (arith, large-range l, atom-range (last s) .1)
 stuck s (small t) h k e = go (high (smallBase s)) (leb 1 (singleDigit (small t))) refl refl e
   where
@@ -303,13 +303,13 @@ on-next P c e f = go (touches c e) (g4Rule c e) refl
     go true false h = tt
     go false r h = tt
 
-small-stuck : (s : Row Atom) (m : Member) → Sep4 (small s) m → leb 1 (singleDigit (small s)) ≡ true → ⊥
+small-stuck : (s : Row Atom) (m : Member) → Apart₄ (small s) m → leb 1 (singleDigit (small s)) ≡ true → ⊥
 small-stuck s (small t) S e = after-single s (head t) e (S .0)
 small-stuck s (block t l) S e = after-single s (head t) e (S .0)
 small-stuck s (lone l) S e = S
 
 -- a member joins only by the grammar
-step : (i j k : ℕ) (d : Division) (m : Member) (c : Chain) (e : NumEdge) → Counts i d (c .edge) j → R4 j m e k → IsNumeral d → Sep4 (last d) m → IsMember m
+step : (i j k : ℕ) (d : Division) (m : Member) (c : Chain) (e : NumEdge) → Counts i d (c .edge) j → MemberEdge j m e k → IsNumeral d → Apart₄ (last d) m → IsMember m
     → OnSome (λ x. IsNumeral (d ▷ m) × Counts i (d ▷ m) (x .edge) k) (next G4 c e)
 step i j k d m c e C R N S M = go (last d) refl S
   where
@@ -324,11 +324,11 @@ step i j k d m c e C R N S M = go (last d) refl S
         let h : fits (memberBase (last d)) m ≡ true = sym (block-rule i j k d m c e C R B) ∙ r in
         ((N, B, M, true-le _ _ (and-left _ _ h), true-le _ _ (and-right (ltb (countValue (memberBase (last d)) m) (memberBase (last d))) _ h)), block-counts i j k d m c e C R B))
 
-    no-small : (s : Row Atom) → last d ≡ small s → Sep4 (small s) m → g4Rule c e ≡ true → (z : Bool) → leb 1 (singleDigit (small s)) ≡ z → ⊥
+    no-small : (s : Row Atom) → last d ≡ small s → Apart₄ (small s) m → g4Rule c e ≡ true → (z : Bool) → leb 1 (singleDigit (small s)) ≡ z → ⊥
     no-small s h S r true z = small-stuck s m S z
     no-small s h S r false z = stuck s m S M (rw (total-small d s h z) at (sym (rule-as i j k d m c e C R) ∙ r))
 
-    go : (l : Member) → last d ≡ l → Sep4 l m → goal
+    go : (l : Member) → last d ≡ l → Apart₄ l m → goal
     go (small s) h S = on-next Good c e (λ r. absurd (no-small s h S r _ refl))
     go (block s l) h S = by-block (rw h tt)
     go (lone l) h S = by-block (rw h tt)
@@ -347,7 +347,7 @@ sums c l = map (λ c. c .edge) (from begin (next G4) c l)
 
 -- one chain over all the members is a numeral
 pub close : (L : List Member) (l : List NumEdge) (i j n : ℕ) (d : Division) (c : Chain) (x : NumEdge) → Counts i d (c .edge) j → IsNumeral d
-    → Next Sep4 (last d) L → Along IsMember Sep4 L → Tiles R4 j L l n → sums c l ≡ x ∷ []
+    → Next Apart₄ (last d) L → Along IsMember Apart₄ L → Tiles MemberEdge j L l n → sums c l ≡ x ∷ []
     → (d′ : Division) × IsNumeral d′ × (d′ <>> [] ≡ d <>> L) × Counts i d′ x n
 unfolding from
 close [] [] i j n d c x C N S A t e = (d, N, refl, let q : c .edge ≡ x = cc in rw (← q, ← t) C)
@@ -356,7 +356,7 @@ close (m ∷ L) [] i j n d c x C N S A t e = absurd t
 close (m ∷ L) (b ∷ l) i j n d c x C N S A (k, R, t) e = go (next G4 c b) refl (step i j k d m c b C R N S (A .0)) (close L l)
   where
     go : (o : Option Chain) → next G4 c b ≡ o → OnSome (λ y. IsNumeral (d ▷ m) × Counts i (d ▷ m) (y .edge) k) o
-        → ((i j n : ℕ) (d : Division) (c : Chain) (x : NumEdge) → Counts i d (c .edge) j → IsNumeral d → Next Sep4 (last d) L → Along IsMember Sep4 L → Tiles R4 j L l n → sums c l ≡ x ∷ [] → (d′ : Division) × IsNumeral d′ × (d′ <>> [] ≡ d <>> L) × Counts i d′ x n)
+        → ((i j n : ℕ) (d : Division) (c : Chain) (x : NumEdge) → Counts i d (c .edge) j → IsNumeral d → Next Apart₄ (last d) L → Along IsMember Apart₄ L → Tiles MemberEdge j L l n → sums c l ≡ x ∷ [] → (d′ : Division) × IsNumeral d′ × (d′ <>> [] ≡ d <>> L) × Counts i d′ x n)
         → (d′ : Division) × IsNumeral d′ × (d′ <>> [] ≡ d <>> (m ∷ L)) × Counts i d′ x n
     go none h s ih =
         let (u, us, f) = from-cons begin (next G4) (begin b) l in
@@ -365,7 +365,7 @@ close (m ∷ L) (b ∷ l) i j n d c x C N S A (k, R, t) e = go (next G4 c b) ref
     go (some y) h s ih = ih i k n (d ▷ m) y x (s .1) (s .0) (A .1) (A .2) t (rw (h, from) at e)
 
 -- a member joins where the grammar says so
-joins-on : (i j k : ℕ) (d : Division) (m : Member) (c : Chain) (e : NumEdge) → Counts i d (c .edge) j → R4 j m e k → IsNumeral (d ▷ m)
+joins-on : (i j k : ℕ) (d : Division) (m : Member) (c : Chain) (e : NumEdge) → Counts i d (c .edge) j → MemberEdge j m e k → IsNumeral (d ▷ m)
     → (x : Chain) × (next G4 c e ≡ some x) × Counts i (d ▷ m) (x .edge) k
 unfolding next
 joins-on i j k d m c e C R N = (
@@ -374,18 +374,18 @@ joins-on i j k d m c e C R N = (
   block-counts i j k d m c e C R (N .1),
 )
 
-pub first : (i j : ℕ) (m : Member) (e : NumEdge) → R4 i m e j → Counts i (one m) e j
+pub first : (i j : ℕ) (m : Member) (e : NumEdge) → MemberEdge i m e j → Counts i (one m) e j
 first i j m e R = record { start = R .start; end = R .end; value = rw (← (val-member m .0)) (R .value); base = rw (← (val-member m .1)) (R .base); script = R .script }
 
-pub resume : (d : Division) (L : List Member) (l : List NumEdge) (i n : ℕ) → IsNumeral d → Tiles R4 i (d <>> L) l n
-    → (c : Chain) × (j : ℕ) × (r : List NumEdge) × (chains begin (next G4) l ≡ from begin (next G4) c r) × Counts i d (c .edge) j × Tiles R4 j L r n
+pub resume : (d : Division) (L : List Member) (l : List NumEdge) (i n : ℕ) → IsNumeral d → Tiles MemberEdge i (d <>> L) l n
+    → (c : Chain) × (j : ℕ) × (r : List NumEdge) × (chains begin (next G4) l ≡ from begin (next G4) c r) × Counts i d (c .edge) j × Tiles MemberEdge j L r n
 unfolding from chains begin
 resume (one m) L [] i n N t = absurd t
 resume (one m) L (e ∷ l) i n N (j, R, t) = (begin e, j, l, refl, first i j m e R, t)
 resume (d ▷ m) L l i n N t = go (resume d (m ∷ L) l i n (N .0) t)
   where
-    go : (c : Chain) × (j : ℕ) × (r : List NumEdge) × (chains begin (next G4) l ≡ from begin (next G4) c r) × Counts i d (c .edge) j × Tiles R4 j (m ∷ L) r n
-        → (c : Chain) × (j : ℕ) × (r : List NumEdge) × (chains begin (next G4) l ≡ from begin (next G4) c r) × Counts i (d ▷ m) (c .edge) j × Tiles R4 j L r n
+    go : (c : Chain) × (j : ℕ) × (r : List NumEdge) × (chains begin (next G4) l ≡ from begin (next G4) c r) × Counts i d (c .edge) j × Tiles MemberEdge j (m ∷ L) r n
+        → (c : Chain) × (j : ℕ) × (r : List NumEdge) × (chains begin (next G4) l ≡ from begin (next G4) c r) × Counts i (d ▷ m) (c .edge) j × Tiles MemberEdge j L r n
     go (c, j, [], h, C, t) = absurd t
     go (c, j, e ∷ r, h, C, (k, R, t)) =
         let (x, f, D) = joins-on i j k d m c e C R N in

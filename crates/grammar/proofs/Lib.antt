@@ -3,6 +3,7 @@ pub mod ChainParts
 pub mod Pieces
 pub mod Readings
 pub mod Maximal
+pub mod Sixteen
 pub mod PlainEdges
 pub mod PlainWithin
 pub mod FourPasses

@@ -34,218 +34,218 @@ pub false-lt : (m n : ℕ) → leb m n ≡ false → n < m
 false-lt m n e = nleb→lt m n (rw e tt)
 
 -- LEVEL 1: runs and single characters
-pub data Tok : Type 0 where
-  digits : Row Digit → Tok
-  unit : Ten → Tok
-  big : Large → Tok
+pub data Token : Type 0 where
+  digits : Row Digit → Token
+  ten₁ : Ten → Token
+  large₁ : Large → Token
 
-abbrev pub b1 : Char → Tok
-b1 (digit d) = digits (one d)
-b1 (ten t) = unit t
-b1 (large l) = big l
+abbrev pub begin₁ : Char → Token
+begin₁ (digit d) = digits (one d)
+begin₁ (ten t) = ten₁ t
+begin₁ (large l) = large₁ l
 
-abbrev pub n1 : Tok → Char → Option Tok
-n1 (digits r) (digit d) = some (digits (r ▷ d))
-n1 (digits r) (ten t) = none
-n1 (digits r) (large l) = none
-n1 (unit t) c = none
-n1 (big l) c = none
+abbrev pub next₁ : Token → Char → Option Token
+next₁ (digits r) (digit d) = some (digits (r ▷ d))
+next₁ (digits r) (ten t) = none
+next₁ (digits r) (large l) = none
+next₁ (ten₁ t) c = none
+next₁ (large₁ l) c = none
 
-abbrev pub parts1 : Tok → Row Char
-parts1 (digits r) = row-map digit r
-parts1 (unit t) = one (ten t)
-parts1 (big l) = one (large l)
+abbrev pub parts₁ : Token → Row Char
+parts₁ (digits r) = row-map digit r
+parts₁ (ten₁ t) = one (ten t)
+parts₁ (large₁ l) = one (large l)
 
-abbrev pub Ok1 : Tok → Type 0
-Ok1 t = Unit {0}
+abbrev pub Ok₁ : Token → Type 0
+Ok₁ t = Unit {0}
 
-pub begin1 : (c : Char) → parts1 (b1 c) ≡ one c
-begin1 (digit d) = refl
-begin1 (ten t) = refl
-begin1 (large l) = refl
+pub parts-begin₁ : (c : Char) → parts₁ (begin₁ c) ≡ one c
+parts-begin₁ (digit d) = refl
+parts-begin₁ (ten t) = refl
+parts-begin₁ (large l) = refl
 
-pub law1 : (s : Tok) (c : Char) → Ok1 s → OnSome (λ t. (parts1 t ≡ parts1 s ▷ c) × Ok1 t) (n1 s c)
-law1 (digits r) (digit d) h = (refl, tt)
-law1 (digits r) (ten t) h = tt
-law1 (digits r) (large l) h = tt
-law1 (unit t) c h = tt
-law1 (big l) c h = tt
+pub next-parts₁ : (s : Token) (c : Char) → Ok₁ s → OnSome (λ t. (parts₁ t ≡ parts₁ s ▷ c) × Ok₁ t) (next₁ s c)
+next-parts₁ (digits r) (digit d) h = (refl, tt)
+next-parts₁ (digits r) (ten t) h = tt
+next-parts₁ (digits r) (large l) h = tt
+next-parts₁ (ten₁ t) c h = tt
+next-parts₁ (large₁ l) c h = tt
 
-resume-run : (r : Row Digit) (l : List Char) → chains b1 n1 (row-map digit r <>> l) ≡ from b1 n1 (digits r) l
+resume-run : (r : Row Digit) (l : List Char) → chains begin₁ next₁ (row-map digit r <>> l) ≡ from begin₁ next₁ (digits r) l
 unfolding from chains
 resume-run (one d) l = refl
 resume-run (r ▷ d) l = resume-run r (digit d ∷ l)
 
-pub resume1 : (s : Tok) → Ok1 s → (l : List Char) → chains b1 n1 (parts1 s <>> l) ≡ from b1 n1 s l
+pub resume₁ : (s : Token) → Ok₁ s → (l : List Char) → chains begin₁ next₁ (parts₁ s <>> l) ≡ from begin₁ next₁ s l
 unfolding from chains
-resume1 (digits r) h l = resume-run r l
-resume1 (unit t) h l = refl
-resume1 (big k) h l = refl
+resume₁ (digits r) h l = resume-run r l
+resume₁ (ten₁ t) h l = refl
+resume₁ (large₁ k) h l = refl
 
 -- LEVEL 2: atoms
 pub data Piece : Type 0 where
   atom : Atom → Piece
-  big₂ : Large → Piece
+  large₂ : Large → Piece
 
-abbrev pub b2 : Tok → Piece
-b2 (digits r) = atom (run r)
-b2 (unit t) = atom (power t)
-b2 (big l) = big₂ l
+abbrev pub begin₂ : Token → Piece
+begin₂ (digits r) = atom (run r)
+begin₂ (ten₁ t) = atom (power t)
+begin₂ (large₁ l) = large₂ l
 
-abbrev pub n2 : Piece → Tok → Option Piece
-n2 (atom (run r)) (digits q) = none
-n2 (atom (run r)) (unit t) = cond (leb 1 (runValue r)) (some (atom (times r t))) none
-n2 (atom (run r)) (big l) = none
-n2 (atom (times r t)) u = none
-n2 (atom (power t)) u = none
-n2 (big₂ l) u = none
+abbrev pub next₂ : Piece → Token → Option Piece
+next₂ (atom (run r)) (digits q) = none
+next₂ (atom (run r)) (ten₁ t) = cond (leb 1 (runValue r)) (some (atom (times r t))) none
+next₂ (atom (run r)) (large₁ l) = none
+next₂ (atom (times r t)) u = none
+next₂ (atom (power t)) u = none
+next₂ (large₂ l) u = none
 
-abbrev pub parts2 : Piece → Row Tok
-parts2 (atom (run r)) = one (digits r)
-parts2 (atom (times r t)) = one (digits r) ▷ unit t
-parts2 (atom (power t)) = one (unit t)
-parts2 (big₂ l) = one (big l)
+abbrev pub parts₂ : Piece → Row Token
+parts₂ (atom (run r)) = one (digits r)
+parts₂ (atom (times r t)) = one (digits r) ▷ ten₁ t
+parts₂ (atom (power t)) = one (ten₁ t)
+parts₂ (large₂ l) = one (large₁ l)
 
-abbrev pub Ok2 : Piece → Type 0
-Ok2 (atom a) = IsAtom a
-Ok2 (big₂ l) = Unit {0}
+abbrev pub Ok₂ : Piece → Type 0
+Ok₂ (atom a) = IsAtom a
+Ok₂ (large₂ l) = Unit {0}
 
-pub begin2 : (c : Tok) → parts2 (b2 c) ≡ one c
-begin2 (digits r) = refl
-begin2 (unit t) = refl
-begin2 (big l) = refl
+pub parts-begin₂ : (c : Token) → parts₂ (begin₂ c) ≡ one c
+parts-begin₂ (digits r) = refl
+parts-begin₂ (ten₁ t) = refl
+parts-begin₂ (large₁ l) = refl
 
-pub ok-begin2 : (c : Tok) → Ok2 (b2 c)
-ok-begin2 (digits r) = tt
-ok-begin2 (unit t) = tt
-ok-begin2 (big l) = tt
+pub ok-begin₂ : (c : Token) → Ok₂ (begin₂ c)
+ok-begin₂ (digits r) = tt
+ok-begin₂ (ten₁ t) = tt
+ok-begin₂ (large₁ l) = tt
 
-pub law2 : (s : Piece) (c : Tok) → Ok2 s → OnSome (λ t. (parts2 t ≡ parts2 s ▷ c) × Ok2 t) (n2 s c)
-law2 (atom (run r)) (digits q) h = tt
-law2 (atom (run r)) (unit t) h = go (leb 1 (runValue r)) refl
+pub next-parts₂ : (s : Piece) (c : Token) → Ok₂ s → OnSome (λ t. (parts₂ t ≡ parts₂ s ▷ c) × Ok₂ t) (next₂ s c)
+next-parts₂ (atom (run r)) (digits q) h = tt
+next-parts₂ (atom (run r)) (ten₁ t) h = go (leb 1 (runValue r)) refl
   where
-    go : (b : Bool) → leb 1 (runValue r) ≡ b → OnSome (λ p. (parts2 p ≡ one (digits r) ▷ unit t) × Ok2 p) (cond b (some (atom (times r t))) none)
+    go : (b : Bool) → leb 1 (runValue r) ≡ b → OnSome (λ p. (parts₂ p ≡ one (digits r) ▷ ten₁ t) × Ok₂ p) (cond b (some (atom (times r t))) none)
     go true e = (refl, true-le 1 (runValue r) e)
     go false e = tt
-law2 (atom (run r)) (big l) h = tt
-law2 (atom (times r t)) u h = tt
-law2 (atom (power t)) u h = tt
-law2 (big₂ l) u h = tt
+next-parts₂ (atom (run r)) (large₁ l) h = tt
+next-parts₂ (atom (times r t)) u h = tt
+next-parts₂ (atom (power t)) u h = tt
+next-parts₂ (large₂ l) u h = tt
 
-pub resume2 : (s : Piece) → Ok2 s → (l : List Tok) → chains b2 n2 (parts2 s <>> l) ≡ from b2 n2 s l
+pub resume₂ : (s : Piece) → Ok₂ s → (l : List Token) → chains begin₂ next₂ (parts₂ s <>> l) ≡ from begin₂ next₂ s l
 unfolding from chains
-resume2 (atom (run r)) h l = refl
-resume2 (atom (times r t)) h l = let e : leb 1 (runValue r) ≡ true = le-true h in rw (e, from)
-resume2 (atom (power t)) h l = refl
-resume2 (big₂ k) h l = refl
+resume₂ (atom (run r)) h l = refl
+resume₂ (atom (times r t)) h l = let e : leb 1 (runValue r) ≡ true = le-true h in rw (e, from)
+resume₂ (atom (power t)) h l = refl
+resume₂ (large₂ k) h l = refl
 
 -- LEVEL 3: smalls
 pub data Part : Type 0 where
   atoms : Row Atom → Part
-  big₃ : Large → Part
+  large₃ : Large → Part
 
-abbrev pub b3 : Piece → Part
-b3 (atom a) = atoms (one a)
-b3 (big₂ l) = big₃ l
+abbrev pub begin₃ : Piece → Part
+begin₃ (atom a) = atoms (one a)
+begin₃ (large₂ l) = large₃ l
 
 abbrev pub joins : Option ℕ → Atom → Bool
 joins none a = loneZero a
 joins (some n) a = ltb (atomValue a) n && ltb (atomBase a) n
 
-abbrev pub n3 : Part → Piece → Option Part
-n3 (atoms s) (atom a) = cond (joins (nearBase s) a) (some (atoms (s ▷ a))) none
-n3 (atoms s) (big₂ l) = none
-n3 (big₃ l) p = none
+abbrev pub next₃ : Part → Piece → Option Part
+next₃ (atoms s) (atom a) = cond (joins (nearBase s) a) (some (atoms (s ▷ a))) none
+next₃ (atoms s) (large₂ l) = none
+next₃ (large₃ l) p = none
 
-abbrev pub parts3 : Part → Row Piece
-parts3 (atoms s) = row-map atom s
-parts3 (big₃ l) = one (big₂ l)
+abbrev pub parts₃ : Part → Row Piece
+parts₃ (atoms s) = row-map atom s
+parts₃ (large₃ l) = one (large₂ l)
 
 abbrev pub Joined : Row Atom → Type 0
 Joined (one a) = Unit {0}
 Joined (s ▷ a) = Joined s × (joins (nearBase s) a ≡ true)
 
-abbrev pub Ok3 : Part → Type 0
-Ok3 (atoms s) = Joined s
-Ok3 (big₃ l) = Unit {0}
+abbrev pub Ok₃ : Part → Type 0
+Ok₃ (atoms s) = Joined s
+Ok₃ (large₃ l) = Unit {0}
 
-pub begin3 : (c : Piece) → parts3 (b3 c) ≡ one c
-begin3 (atom a) = refl
-begin3 (big₂ l) = refl
+pub parts-begin₃ : (c : Piece) → parts₃ (begin₃ c) ≡ one c
+parts-begin₃ (atom a) = refl
+parts-begin₃ (large₂ l) = refl
 
-pub ok-begin3 : (c : Piece) → Ok3 (b3 c)
-ok-begin3 (atom a) = tt
-ok-begin3 (big₂ l) = tt
+pub ok-begin₃ : (c : Piece) → Ok₃ (begin₃ c)
+ok-begin₃ (atom a) = tt
+ok-begin₃ (large₂ l) = tt
 
-pub law3 : (s : Part) (c : Piece) → Ok3 s → OnSome (λ t. (parts3 t ≡ parts3 s ▷ c) × Ok3 t) (n3 s c)
-law3 (atoms s) (atom a) h = go (joins (nearBase s) a) refl
+pub next-parts₃ : (s : Part) (c : Piece) → Ok₃ s → OnSome (λ t. (parts₃ t ≡ parts₃ s ▷ c) × Ok₃ t) (next₃ s c)
+next-parts₃ (atoms s) (atom a) h = go (joins (nearBase s) a) refl
   where
-    go : (b : Bool) → joins (nearBase s) a ≡ b → OnSome (λ p. (parts3 p ≡ row-map atom s ▷ atom a) × Ok3 p) (cond b (some (atoms (s ▷ a))) none)
+    go : (b : Bool) → joins (nearBase s) a ≡ b → OnSome (λ p. (parts₃ p ≡ row-map atom s ▷ atom a) × Ok₃ p) (cond b (some (atoms (s ▷ a))) none)
     go true e = (refl, (h, e))
     go false e = tt
-law3 (atoms s) (big₂ l) h = tt
-law3 (big₃ l) p h = tt
+next-parts₃ (atoms s) (large₂ l) h = tt
+next-parts₃ (large₃ l) p h = tt
 
-resume-row : (s : Row Atom) → Joined s → (l : List Piece) → chains b3 n3 (row-map atom s <>> l) ≡ from b3 n3 (atoms s) l
+resume-row : (s : Row Atom) → Joined s → (l : List Piece) → chains begin₃ next₃ (row-map atom s <>> l) ≡ from begin₃ next₃ (atoms s) l
 unfolding from chains
 resume-row (one a) h l = refl
 resume-row (s ▷ a) h l = resume-row s (h .0) (atom a ∷ l) ∙ rw (h .1, from)
 
-pub resume3 : (s : Part) → Ok3 s → (l : List Piece) → chains b3 n3 (parts3 s <>> l) ≡ from b3 n3 s l
+pub resume₃ : (s : Part) → Ok₃ s → (l : List Piece) → chains begin₃ next₃ (parts₃ s <>> l) ≡ from begin₃ next₃ s l
 unfolding from chains
-resume3 (atoms s) h l = resume-row s h l
-resume3 (big₃ k) h l = refl
+resume₃ (atoms s) h l = resume-row s h l
+resume₃ (large₃ k) h l = refl
 
 -- LEVEL 4: members
-abbrev pub b4 : Part → Member
-b4 (atoms s) = small s
-b4 (big₃ l) = lone l
+abbrev pub begin₄ : Part → Member
+begin₄ (atoms s) = small s
+begin₄ (large₃ l) = lone l
 
-abbrev pub n4 : Member → Part → Option Member
-n4 (small s) (atoms t) = none
-n4 (small s) (big₃ l) = some (block s l)
-n4 (block s l) p = none
-n4 (lone l) p = none
+abbrev pub next₄ : Member → Part → Option Member
+next₄ (small s) (atoms t) = none
+next₄ (small s) (large₃ l) = some (block s l)
+next₄ (block s l) p = none
+next₄ (lone l) p = none
 
-abbrev pub parts4 : Member → Row Part
-parts4 (small s) = one (atoms s)
-parts4 (block s l) = one (atoms s) ▷ big₃ l
-parts4 (lone l) = one (big₃ l)
+abbrev pub parts₄ : Member → Row Part
+parts₄ (small s) = one (atoms s)
+parts₄ (block s l) = one (atoms s) ▷ large₃ l
+parts₄ (lone l) = one (large₃ l)
 
-abbrev pub Ok4 : Member → Type 0
-Ok4 m = Unit {0}
+abbrev pub Ok₄ : Member → Type 0
+Ok₄ m = Unit {0}
 
-pub begin4 : (c : Part) → parts4 (b4 c) ≡ one c
-begin4 (atoms s) = refl
-begin4 (big₃ l) = refl
+pub parts-begin₄ : (c : Part) → parts₄ (begin₄ c) ≡ one c
+parts-begin₄ (atoms s) = refl
+parts-begin₄ (large₃ l) = refl
 
-pub law4 : (s : Member) (c : Part) → Ok4 s → OnSome (λ t. (parts4 t ≡ parts4 s ▷ c) × Ok4 t) (n4 s c)
-law4 (small s) (atoms t) h = tt
-law4 (small s) (big₃ l) h = (refl, tt)
-law4 (block s l) p h = tt
-law4 (lone l) p h = tt
+pub next-parts₄ : (s : Member) (c : Part) → Ok₄ s → OnSome (λ t. (parts₄ t ≡ parts₄ s ▷ c) × Ok₄ t) (next₄ s c)
+next-parts₄ (small s) (atoms t) h = tt
+next-parts₄ (small s) (large₃ l) h = (refl, tt)
+next-parts₄ (block s l) p h = tt
+next-parts₄ (lone l) p h = tt
 
-pub resume4 : (s : Member) → Ok4 s → (l : List Part) → chains b4 n4 (parts4 s <>> l) ≡ from b4 n4 s l
+pub resume₄ : (s : Member) → Ok₄ s → (l : List Part) → chains begin₄ next₄ (parts₄ s <>> l) ≡ from begin₄ next₄ s l
 unfolding from chains
-resume4 (small s) h l = refl
-resume4 (block s k) h l = refl
-resume4 (lone k) h l = refl
+resume₄ (small s) h l = refl
+resume₄ (block s k) h l = refl
+resume₄ (lone k) h l = refl
 
 -- the four in turn
-abbrev pub toks : List Char → List Tok
-toks w = chains b1 n1 w
+abbrev pub tokens : List Char → List Token
+tokens w = chains begin₁ next₁ w
 
 abbrev pub pieces : List Char → List Piece
-pieces w = chains b2 n2 (toks w)
+pieces w = chains begin₂ next₂ (tokens w)
 
 abbrev pub smalls : List Char → List Part
-smalls w = chains b3 n3 (pieces w)
+smalls w = chains begin₃ next₃ (pieces w)
 
 abbrev pub members : List Char → List Member
-members w = chains b4 n4 (smalls w)
+members w = chains begin₄ next₄ (smalls w)
 
-abbrev pub syms : List Member → List Char
-syms L = flat parts1 (flat parts2 (flat parts3 (flat parts4 L)))
+abbrev pub charsOf : List Member → List Char
+charsOf L = flat parts₁ (flat parts₂ (flat parts₃ (flat parts₄ L)))
 
-pub syms-members : (w : List Char) → syms (members w) ≡ w
-syms-members w = rw (flat-chains b4 n4 parts4 Ok4 begin4 (λ c. tt) law4 (smalls w), flat-chains b3 n3 parts3 Ok3 begin3 ok-begin3 law3 (pieces w), flat-chains b2 n2 parts2 Ok2 begin2 ok-begin2 law2 (toks w), flat-chains b1 n1 parts1 Ok1 begin1 (λ c. tt) law1 w)
+pub chars-members : (w : List Char) → charsOf (members w) ≡ w
+chars-members w = rw (flat-chains begin₄ next₄ parts₄ Ok₄ parts-begin₄ (λ c. tt) next-parts₄ (smalls w), flat-chains begin₃ next₃ parts₃ Ok₃ parts-begin₃ ok-begin₃ next-parts₃ (pieces w), flat-chains begin₂ next₂ parts₂ Ok₂ parts-begin₂ ok-begin₂ next-parts₂ (tokens w), flat-chains begin₁ next₁ parts₁ Ok₁ parts-begin₁ (λ c. tt) next-parts₁ w)

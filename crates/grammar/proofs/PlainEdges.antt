@@ -11,7 +11,8 @@ use Rattle.whole.specs.Decimal.{decimal}
 use Rattle.passes.specs.NumEdge.{NumEdge}
 use Rattle.passes.specs.Characters.{charEdge, charEdges}
 use Rattle.passes.specs.Passes.{cjk}
-use Rattle.grammar.specs.Plain.{Char, digit, ten, large, codePoint, typeOf, charValue, charBase, isLarge, plainRecord, plainRecords, plain, 零, 一, 二, 三, 四, 五, 六, 七, 八, 九, 十, 百, 千, 万, 億, 兆}
+use Rattle.grammar.specs.Plain.{Char, codePoint, typeOf, charValue, charBase, isLarge, plainRecord, plainRecords, plain}
+use Rattle.grammar.proofs.Sixteen.{each}
 
 abbrev pub plainEdge : ℕ → Char → NumEdge
 plainEdge i c = record {
@@ -33,22 +34,7 @@ plainEdge i c = record {
 -- each of the sixteen is found in the table
 find-plain : (c : Char) → find plainRecords (codePoint c) ≡ some (plainRecord c)
 unfolding find plainRecords plainRecord
-find-plain (digit 零) = refl
-find-plain (digit 一) = refl
-find-plain (digit 二) = refl
-find-plain (digit 三) = refl
-find-plain (digit 四) = refl
-find-plain (digit 五) = refl
-find-plain (digit 六) = refl
-find-plain (digit 七) = refl
-find-plain (digit 八) = refl
-find-plain (digit 九) = refl
-find-plain (ten 十) = refl
-find-plain (ten 百) = refl
-find-plain (ten 千) = refl
-find-plain (large 万) = refl
-find-plain (large 億) = refl
-find-plain (large 兆) = refl
+find-plain = each (λ c. find plainRecords (codePoint c) ≡ some (plainRecord c)) (refl, refl, refl, refl, refl, refl, refl, refl, refl, refl, refl, refl, refl, refl, refl, refl)
 
 abbrev pub plainEdges : ℕ → List Char → List NumEdge
 plainEdges i [] = []
@@ -66,22 +52,7 @@ plain-line cs w e = rw e (char-edges-plain w 0)
 
 -- the code points of the sixteen are scalar values
 char-scalar : (c : Char) → scalar (codePoint c) ≡ true
-char-scalar (digit 零) = refl
-char-scalar (digit 一) = refl
-char-scalar (digit 二) = refl
-char-scalar (digit 三) = refl
-char-scalar (digit 四) = refl
-char-scalar (digit 五) = refl
-char-scalar (digit 六) = refl
-char-scalar (digit 七) = refl
-char-scalar (digit 八) = refl
-char-scalar (digit 九) = refl
-char-scalar (ten 十) = refl
-char-scalar (ten 百) = refl
-char-scalar (ten 千) = refl
-char-scalar (large 万) = refl
-char-scalar (large 億) = refl
-char-scalar (large 兆) = refl
+char-scalar = each (λ c. scalar (codePoint c) ≡ true) (refl, refl, refl, refl, refl, refl, refl, refl, refl, refl, refl, refl, refl, refl, refl, refl)
 
 pub plain-scalars : (w : List Char) → Scalars (map codePoint w)
 plain-scalars [] = tt

@@ -8,31 +8,17 @@ use Rattle.whole.specs.Whole.{TOP}
 use Rattle.passes.specs.NumEdge.{NumEdge, above, firstAbove}
 use Rattle.passes.specs.Passes.{through, addedBy, five}
 use Rattle.passes.proofs.AboveLaws.{first-above-cons, first-above-head, above-le, through-within}
-use Rattle.grammar.specs.Plain.{Char, digit, ten, large, 零, 一, 二, 三, 四, 五, 六, 七, 八, 九, 十, 百, 千, 万, 億, 兆}
+use Rattle.grammar.specs.Plain.{Char}
+use Rattle.grammar.proofs.Sixteen.{each}
 use Rattle.grammar.proofs.PlainEdges.{plainEdge, plainEdges}
 
-char-within : (c : Char) (i : ℕ) → above (plainEdge i c) ≡ false
-char-within (digit 零) i = refl
-char-within (digit 一) i = refl
-char-within (digit 二) i = refl
-char-within (digit 三) i = refl
-char-within (digit 四) i = refl
-char-within (digit 五) i = refl
-char-within (digit 六) i = refl
-char-within (digit 七) i = refl
-char-within (digit 八) i = refl
-char-within (digit 九) i = refl
-char-within (ten 十) i = refl
-char-within (ten 百) i = refl
-char-within (ten 千) i = refl
-char-within (large 万) i = refl
-char-within (large 億) i = refl
-char-within (large 兆) i = refl
+char-within : (i : ℕ) (c : Char) → above (plainEdge i c) ≡ false
+char-within i = each (λ c. above (plainEdge i c) ≡ false) (refl, refl, refl, refl, refl, refl, refl, refl, refl, refl, refl, refl, refl, refl, refl, refl)
 
 plain-within : (w : List Char) (i : ℕ) → firstAbove (plainEdges i w) ≡ none
 unfolding firstAbove
 plain-within [] i = refl
-plain-within (c ∷ w) i = first-above-cons (plainEdge i c) (plainEdges (suc i) w) (char-within c i) (plain-within w (suc i))
+plain-within (c ∷ w) i = first-above-cons (plainEdge i c) (plainEdges (suc i) w) (char-within i c) (plain-within w (suc i))
 
 -- the value of the one edge
 pub one-within : (w : List Char) (e : NumEdge) (n : ℕ) → firstAbove (addedBy five (plainEdges 0 w)) ≡ none → through five (plainEdges 0 w) ≡ e ∷ [] → e .value ≡ some n → n ≤ TOP

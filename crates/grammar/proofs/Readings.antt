@@ -11,7 +11,7 @@ use Rattle.grammar.specs.Row.{Row, one, _▷_, _<>>_, last, head}
 use Rattle.grammar.proofs.ChainParts.{OnSome, Along, Next, Inside, flat, Stop, Good, flat-chains, good-chains, chains-flat, along-flat, flat-along, along-zip, along-map, along-row, row-along}
 use Rattle.grammar.specs.Plain.{Digit, Ten, Large, Char, digit, ten, large, digitValue, tenValue, largeValue}
 use Rattle.grammar.specs.Grammar.{Atom, run, times, power, Member, small, block, lone, Division, runValue, atomValue, atomBase, IsAtom, Follows, loneZero, nearBase, Below, IsSmall, IsMember, IsBlock, IsNumeral, runText, atomText, smallText, memberText, divisionText, Reading}
-use Rattle.grammar.proofs.Pieces.{row-map, true-le, false-lt, le-true, Tok, digits, unit, big, Piece, atom, big₂, Part, atoms, big₃, b1, n1, parts1, Ok1, begin1, law1, resume1, b2, n2, parts2, Ok2, begin2, ok-begin2, law2, resume2, b3, n3, parts3, Ok3, begin3, ok-begin3, law3, resume3, b4, n4, parts4, Ok4, begin4, law4, resume4, joins, Joined, toks, pieces, smalls, members, syms, syms-members}
+use Rattle.grammar.proofs.Pieces.{row-map, true-le, false-lt, le-true, Token, digits, ten₁, large₁, Piece, atom, large₂, Part, atoms, large₃, begin₁, next₁, parts₁, Ok₁, parts-begin₁, next-parts₁, resume₁, begin₂, next₂, parts₂, Ok₂, parts-begin₂, ok-begin₂, next-parts₂, resume₂, begin₃, next₃, parts₃, Ok₃, parts-begin₃, ok-begin₃, next-parts₃, resume₃, begin₄, next₄, parts₄, Ok₄, parts-begin₄, next-parts₄, resume₄, joins, Joined, tokens, pieces, smalls, members, charsOf, chars-members}
 
 head-map : {A B : Type 0} (f : A → B) (r : Row A) → head (row-map f r) ≡ f (head r)
 head-map f (one a) = refl
@@ -30,12 +30,12 @@ and-right true b e = e
 and-right false b e = let z : _≡_ {A = ℕ} 0 1 = cc in absurd (omega arith)
 
 -- LEVEL 2
-abbrev pub After2 : Piece → Piece → Type 0
-After2 (atom a) (atom b) = Follows a b
-After2 (atom a) (big₂ l) = Unit {0}
-After2 (big₂ l) q = Unit {0}
+abbrev pub After₂ : Piece → Piece → Type 0
+After₂ (atom a) (atom b) = Follows a b
+After₂ (atom a) (large₂ l) = Unit {0}
+After₂ (large₂ l) q = Unit {0}
 
-no-digit : (r q : Row Digit) → n1 (digits r) (head (row-map digit q)) ≡ none → ⊥
+no-digit : (r q : Row Digit) → next₁ (digits r) (head (row-map digit q)) ≡ none → ⊥
 no-digit r q e = Option·some-ne-none _ (rw (head-map digit q) at e)
 
 no-times : (v : ℕ) (p : Piece) → cond (leb 1 v) (some p) none ≡ none → v ≡ 0
@@ -45,39 +45,39 @@ no-times v p e = go (leb 1 v) refl e
     go true h e = absurd (Option·some-ne-none _ e)
     go false h e = let l : v < 1 = false-lt 1 v h in omega arith
 
-after2 : (p q : Piece) → Stop n1 parts1 (last (parts2 p)) (head (parts2 q)) → Stop n2 parts2 p q → After2 p q
-after2 (atom (run r)) (atom (run q)) e h = no-digit r q e
-after2 (atom (run r)) (atom (times q t)) e h = no-digit r q e
-after2 (atom (run r)) (atom (power t)) e h = no-times (runValue r) (atom (times r t)) h
-after2 (atom (run r)) (big₂ l) e h = tt
-after2 (atom (times r t)) (atom b) e h = tt
-after2 (atom (times r t)) (big₂ l) e h = tt
-after2 (atom (power t)) (atom b) e h = tt
-after2 (atom (power t)) (big₂ l) e h = tt
-after2 (big₂ l) q e h = tt
+after₂ : (p q : Piece) → Stop next₁ parts₁ (last (parts₂ p)) (head (parts₂ q)) → Stop next₂ parts₂ p q → After₂ p q
+after₂ (atom (run r)) (atom (run q)) e h = no-digit r q e
+after₂ (atom (run r)) (atom (times q t)) e h = no-digit r q e
+after₂ (atom (run r)) (atom (power t)) e h = no-times (runValue r) (atom (times r t)) h
+after₂ (atom (run r)) (large₂ l) e h = tt
+after₂ (atom (times r t)) (atom b) e h = tt
+after₂ (atom (times r t)) (large₂ l) e h = tt
+after₂ (atom (power t)) (atom b) e h = tt
+after₂ (atom (power t)) (large₂ l) e h = tt
+after₂ (large₂ l) q e h = tt
 
-along2 : (w : List Char) → Along Ok2 After2 (pieces w)
-along2 w =
+along₂ : (w : List Char) → Along Ok₂ After₂ (pieces w)
+along₂ w =
     let L = pieces w in
-    let back : flat parts2 L ≡ toks w = flat-chains b2 n2 parts2 Ok2 begin2 ok-begin2 law2 (toks w) in
-    let p1 : Along Ok1 (Stop n1 parts1) (flat parts2 L) = rw back (good-chains b1 n1 parts1 Ok1 begin1 (λ c. tt) law1 w) in
-    let p2 : Along Ok2 (Stop n2 parts2) L = good-chains b2 n2 parts2 Ok2 begin2 ok-begin2 law2 (toks w) in
-    along-map (λ p h. h .1) (λ p q h k e. after2 p q (e .0) (e .1)) L
-    (along-zip _ Ok2 _ (Stop n2 parts2) L (along-flat Ok1 (Stop n1 parts1) parts2 L p1) p2)
+    let back : flat parts₂ L ≡ tokens w = flat-chains begin₂ next₂ parts₂ Ok₂ parts-begin₂ ok-begin₂ next-parts₂ (tokens w) in
+    let p1 : Along Ok₁ (Stop next₁ parts₁) (flat parts₂ L) = rw back (good-chains begin₁ next₁ parts₁ Ok₁ parts-begin₁ (λ c. tt) next-parts₁ w) in
+    let p2 : Along Ok₂ (Stop next₂ parts₂) L = good-chains begin₂ next₂ parts₂ Ok₂ parts-begin₂ ok-begin₂ next-parts₂ (tokens w) in
+    along-map (λ p h. h .1) (λ p q h k e. after₂ p q (e .0) (e .1)) L
+    (along-zip _ Ok₂ _ (Stop next₂ parts₂) L (along-flat Ok₁ (Stop next₁ parts₁) parts₂ L p1) p2)
 
 -- LEVEL 3
 abbrev pub OkPart : Part → Type 0
 OkPart (atoms s) = IsSmall s
-OkPart (big₃ l) = Unit {0}
+OkPart (large₃ l) = Unit {0}
 
 -- two smalls that touch: the second does not go on with the first
-abbrev pub Apart : Row Atom → Row Atom → Type 0
-Apart s t = Follows (last s) (head t) × (joins (nearBase s) (head t) ≡ false)
+abbrev pub SmallsApart : Row Atom → Row Atom → Type 0
+SmallsApart s t = Follows (last s) (head t) × (joins (nearBase s) (head t) ≡ false)
 
-abbrev pub Sep3 : Part → Part → Type 0
-Sep3 (atoms s) (atoms t) = Apart s t
-Sep3 (atoms s) (big₃ l) = Unit {0}
-Sep3 (big₃ l) q = Unit {0}
+abbrev pub Apart₃ : Part → Part → Type 0
+Apart₃ (atoms s) (atoms t) = SmallsApart s t
+Apart₃ (atoms s) (large₃ l) = Unit {0}
+Apart₃ (large₃ l) q = Unit {0}
 
 near-none : (s : Row Atom) → nearBase s ≡ none → loneZero (last s) ≡ true
 near-none (one a) e = go (loneZero a) refl e
@@ -106,7 +106,7 @@ below s a f e = go (nearBase s) refl e
     go none h e = zero-zero (last s) a (near-none s h) e f
     go (some n) h e = (true-le _ _ (and-left _ _ e), true-le _ _ (and-right (ltb (atomValue a) n) _ e))
 
-small-of : (s : Row Atom) → Inside Ok2 After2 (row-map atom s) → Joined s → IsSmall s
+small-of : (s : Row Atom) → Inside Ok₂ After₂ (row-map atom s) → Joined s → IsSmall s
 small-of (one a) i j = i
 small-of (s ▷ a) i j =
     let f : Follows (last s) a = rw (last-map atom s) at (i .1) in
@@ -116,52 +116,52 @@ no-join : (b : Bool) (p : Part) → cond b (some p) none ≡ none → b ≡ fals
 no-join true p e = absurd (Option·some-ne-none _ e)
 no-join false p e = refl
 
-ok-part : (p : Part) → Inside Ok2 After2 (parts3 p) × Ok3 p → OkPart p
+ok-part : (p : Part) → Inside Ok₂ After₂ (parts₃ p) × Ok₃ p → OkPart p
 ok-part (atoms s) h = small-of s (h .0) (h .1)
-ok-part (big₃ l) h = tt
+ok-part (large₃ l) h = tt
 
-sep3 : (p q : Part) → After2 (last (parts3 p)) (head (parts3 q)) → Stop n3 parts3 p q → Sep3 p q
-sep3 (atoms s) (atoms t) a e = (rw (last-map atom s, head-map atom t) at a, no-join (joins (nearBase s) (head t)) (atoms (s ▷ head t)) (rw (head-map atom t) at e))
-sep3 (atoms s) (big₃ l) a e = tt
-sep3 (big₃ l) q a e = tt
+apart₃ : (p q : Part) → After₂ (last (parts₃ p)) (head (parts₃ q)) → Stop next₃ parts₃ p q → Apart₃ p q
+apart₃ (atoms s) (atoms t) a e = (rw (last-map atom s, head-map atom t) at a, no-join (joins (nearBase s) (head t)) (atoms (s ▷ head t)) (rw (head-map atom t) at e))
+apart₃ (atoms s) (large₃ l) a e = tt
+apart₃ (large₃ l) q a e = tt
 
-along3 : (w : List Char) → Along OkPart Sep3 (smalls w)
-along3 w =
+along₃ : (w : List Char) → Along OkPart Apart₃ (smalls w)
+along₃ w =
     let L = smalls w in
-    let back : flat parts3 L ≡ pieces w = flat-chains b3 n3 parts3 Ok3 begin3 ok-begin3 law3 (pieces w) in
-    let p2 : Along Ok2 After2 (flat parts3 L) = rw back (along2 w) in
-    let p3 : Along Ok3 (Stop n3 parts3) L = good-chains b3 n3 parts3 Ok3 begin3 ok-begin3 law3 (pieces w) in
-    along-map ok-part (λ p q h k e. sep3 p q (e .0) (e .1)) L
-    (along-zip _ Ok3 _ (Stop n3 parts3) L (along-flat Ok2 After2 parts3 L p2) p3)
+    let back : flat parts₃ L ≡ pieces w = flat-chains begin₃ next₃ parts₃ Ok₃ parts-begin₃ ok-begin₃ next-parts₃ (pieces w) in
+    let p2 : Along Ok₂ After₂ (flat parts₃ L) = rw back (along₂ w) in
+    let p3 : Along Ok₃ (Stop next₃ parts₃) L = good-chains begin₃ next₃ parts₃ Ok₃ parts-begin₃ ok-begin₃ next-parts₃ (pieces w) in
+    along-map ok-part (λ p q h k e. apart₃ p q (e .0) (e .1)) L
+    (along-zip _ Ok₃ _ (Stop next₃ parts₃) L (along-flat Ok₂ After₂ parts₃ L p2) p3)
 
 -- LEVEL 4
-abbrev pub Sep4 : Member → Member → Type 0
-Sep4 (small s) (small t) = Apart s t
-Sep4 (small s) (block t l) = Apart s t
-Sep4 (small s) (lone l) = ⊥
-Sep4 (block s l) m = Unit {0}
-Sep4 (lone l) m = Unit {0}
+abbrev pub Apart₄ : Member → Member → Type 0
+Apart₄ (small s) (small t) = SmallsApart s t
+Apart₄ (small s) (block t l) = SmallsApart s t
+Apart₄ (small s) (lone l) = ⊥
+Apart₄ (block s l) m = Unit {0}
+Apart₄ (lone l) m = Unit {0}
 
-ok-member : (m : Member) → Inside OkPart Sep3 (parts4 m) × Ok4 m → IsMember m
+ok-member : (m : Member) → Inside OkPart Apart₃ (parts₄ m) × Ok₄ m → IsMember m
 ok-member (small s) h = h .0
 ok-member (block s l) h = h .0 .0
 ok-member (lone l) h = tt
 
-sep4 : (m n : Member) → Sep3 (last (parts4 m)) (head (parts4 n)) → Stop n4 parts4 m n → Sep4 m n
-sep4 (small s) (small t) a e = a
-sep4 (small s) (block t l) a e = a
-sep4 (small s) (lone l) a e = Option·some-ne-none _ e
-sep4 (block s l) m a e = tt
-sep4 (lone l) m a e = tt
+apart₄ : (m n : Member) → Apart₃ (last (parts₄ m)) (head (parts₄ n)) → Stop next₄ parts₄ m n → Apart₄ m n
+apart₄ (small s) (small t) a e = a
+apart₄ (small s) (block t l) a e = a
+apart₄ (small s) (lone l) a e = Option·some-ne-none _ e
+apart₄ (block s l) m a e = tt
+apart₄ (lone l) m a e = tt
 
-pub along4 : (w : List Char) → Along IsMember Sep4 (members w)
-along4 w =
+pub along₄ : (w : List Char) → Along IsMember Apart₄ (members w)
+along₄ w =
     let L = members w in
-    let back : flat parts4 L ≡ smalls w = flat-chains b4 n4 parts4 Ok4 begin4 (λ c. tt) law4 (smalls w) in
-    let p3 : Along OkPart Sep3 (flat parts4 L) = rw back (along3 w) in
-    let p4 : Along Ok4 (Stop n4 parts4) L = good-chains b4 n4 parts4 Ok4 begin4 (λ c. tt) law4 (smalls w) in
-    along-map ok-member (λ p q h k e. sep4 p q (e .0) (e .1)) L
-    (along-zip _ Ok4 _ (Stop n4 parts4) L (along-flat OkPart Sep3 parts4 L p3) p4)
+    let back : flat parts₄ L ≡ smalls w = flat-chains begin₄ next₄ parts₄ Ok₄ parts-begin₄ (λ c. tt) next-parts₄ (smalls w) in
+    let p3 : Along OkPart Apart₃ (flat parts₄ L) = rw back (along₃ w) in
+    let p4 : Along Ok₄ (Stop next₄ parts₄) L = good-chains begin₄ next₄ parts₄ Ok₄ parts-begin₄ (λ c. tt) next-parts₄ (smalls w) in
+    along-map ok-member (λ p q h k e. apart₄ p q (e .0) (e .1)) L
+    (along-zip _ Ok₄ _ (Stop next₄ parts₄) L (along-flat OkPart Apart₃ parts₄ L p3) p4)
 
 -- THE OTHER WAY: from the grammar to good lists
 abbrev Ends : Member → Member → Type 0
@@ -173,20 +173,20 @@ numeral-along (d ▷ m) L h n k = numeral-along d (m ∷ L) (h .0) (h .1) (h .2,
 
 abbrev Alternate : Part → Part → Type 0
 Alternate (atoms s) (atoms t) = ⊥
-Alternate (atoms s) (big₃ l) = Unit {0}
-Alternate (big₃ l) q = Unit {0}
+Alternate (atoms s) (large₃ l) = Unit {0}
+Alternate (large₃ l) q = Unit {0}
 
-ends-stop : (m n : Member) → IsBlock m → Stop n4 parts4 m n
+ends-stop : (m n : Member) → IsBlock m → Stop next₄ parts₄ m n
 ends-stop (small s) n h = absurd h
 ends-stop (block s l) n h = refl
 ends-stop (lone l) n h = refl
 
-member-parts : (m : Member) → IsMember m → Inside OkPart Alternate (parts4 m)
+member-parts : (m : Member) → IsMember m → Inside OkPart Alternate (parts₄ m)
 member-parts (small s) h = h
 member-parts (block s l) h = (h, tt, tt)
 member-parts (lone l) h = tt
 
-ends-alternate : (m n : Member) → IsBlock m → Alternate (last (parts4 m)) (head (parts4 n))
+ends-alternate : (m n : Member) → IsBlock m → Alternate (last (parts₄ m)) (head (parts₄ n))
 ends-alternate (small s) n h = absurd h
 ends-alternate (block s l) n h = tt
 ends-alternate (lone l) n h = tt
@@ -199,94 +199,94 @@ joined (s ▷ a) h = (joined s (h .0), go (nearBase s) (h .3))
     go none h = absurd h
     go (some n) h = rw (le-true (h .0), le-true (h .1))
 
-part-ok : (p : Part) → OkPart p → Ok3 p
+part-ok : (p : Part) → OkPart p → Ok₃ p
 part-ok (atoms s) h = joined s h
-part-ok (big₃ l) h = tt
+part-ok (large₃ l) h = tt
 
-alternate-stop : (p q : Part) → Alternate p q → Stop n3 parts3 p q
+alternate-stop : (p q : Part) → Alternate p q → Stop next₃ parts₃ p q
 alternate-stop (atoms s) (atoms t) h = absurd h
-alternate-stop (atoms s) (big₃ l) h = refl
-alternate-stop (big₃ l) q h = refl
+alternate-stop (atoms s) (large₃ l) h = refl
+alternate-stop (large₃ l) q h = refl
 
-small-pieces : (s : Row Atom) → IsSmall s → Inside Ok2 After2 (row-map atom s)
+small-pieces : (s : Row Atom) → IsSmall s → Inside Ok₂ After₂ (row-map atom s)
 small-pieces (one a) h = h
 small-pieces (s ▷ a) h = (small-pieces s (h .0), rw (last-map atom s) (h .1), h .2)
 
-part-pieces : (p : Part) → OkPart p → Inside Ok2 After2 (parts3 p)
+part-pieces : (p : Part) → OkPart p → Inside Ok₂ After₂ (parts₃ p)
 part-pieces (atoms s) h = small-pieces s h
-part-pieces (big₃ l) h = tt
+part-pieces (large₃ l) h = tt
 
-alternate-after : (p q : Part) → Alternate p q → After2 (last (parts3 p)) (head (parts3 q))
+alternate-after : (p q : Part) → Alternate p q → After₂ (last (parts₃ p)) (head (parts₃ q))
 alternate-after (atoms s) (atoms t) h = absurd h
-alternate-after (atoms s) (big₃ l) h = rw (last-map atom s) tt
-alternate-after (big₃ l) q h = tt
+alternate-after (atoms s) (large₃ l) h = rw (last-map atom s) tt
+alternate-after (large₃ l) q h = tt
 
-after-stop2 : (p q : Piece) → After2 p q → Stop n2 parts2 p q
-after-stop2 (atom (run r)) (atom (run q)) h = absurd h
-after-stop2 (atom (run r)) (atom (times q t)) h = absurd h
-after-stop2 (atom (run r)) (atom (power t)) h = rw h
-after-stop2 (atom (run r)) (big₂ l) h = refl
-after-stop2 (atom (times r t)) q h = refl
-after-stop2 (atom (power t)) q h = refl
-after-stop2 (big₂ l) q h = refl
+after-stop₂ : (p q : Piece) → After₂ p q → Stop next₂ parts₂ p q
+after-stop₂ (atom (run r)) (atom (run q)) h = absurd h
+after-stop₂ (atom (run r)) (atom (times q t)) h = absurd h
+after-stop₂ (atom (run r)) (atom (power t)) h = rw h
+after-stop₂ (atom (run r)) (large₂ l) h = refl
+after-stop₂ (atom (times r t)) q h = refl
+after-stop₂ (atom (power t)) q h = refl
+after-stop₂ (large₂ l) q h = refl
 
-piece-toks : (p : Piece) → Ok2 p → Inside Ok1 (Stop n1 parts1) (parts2 p)
-piece-toks (atom (run r)) h = tt
-piece-toks (atom (times r t)) h = (tt, refl, tt)
-piece-toks (atom (power t)) h = tt
-piece-toks (big₂ l) h = tt
+piece-tokens : (p : Piece) → Ok₂ p → Inside Ok₁ (Stop next₁ parts₁) (parts₂ p)
+piece-tokens (atom (run r)) h = tt
+piece-tokens (atom (times r t)) h = (tt, refl, tt)
+piece-tokens (atom (power t)) h = tt
+piece-tokens (large₂ l) h = tt
 
-after-stop1 : (p q : Piece) → After2 p q → Stop n1 parts1 (last (parts2 p)) (head (parts2 q))
-after-stop1 (atom (run r)) (atom (run q)) h = absurd h
-after-stop1 (atom (run r)) (atom (times q t)) h = absurd h
-after-stop1 (atom (run r)) (atom (power t)) h = refl
-after-stop1 (atom (run r)) (big₂ l) h = refl
-after-stop1 (atom (times r t)) q h = refl
-after-stop1 (atom (power t)) q h = refl
-after-stop1 (big₂ l) q h = refl
+after-stop₁ : (p q : Piece) → After₂ p q → Stop next₁ parts₁ (last (parts₂ p)) (head (parts₂ q))
+after-stop₁ (atom (run r)) (atom (run q)) h = absurd h
+after-stop₁ (atom (run r)) (atom (times q t)) h = absurd h
+after-stop₁ (atom (run r)) (atom (power t)) h = refl
+after-stop₁ (atom (run r)) (large₂ l) h = refl
+after-stop₁ (atom (times r t)) q h = refl
+after-stop₁ (atom (power t)) q h = refl
+after-stop₁ (large₂ l) q h = refl
 
 -- a division by the grammar is found again
-pub members-syms : (d : Division) → IsNumeral d → members (syms (d <>> [])) ≡ d <>> []
-members-syms d h =
+pub members-chars : (d : Division) → IsNumeral d → members (charsOf (d <>> [])) ≡ d <>> []
+members-chars d h =
     let L4 = d <>> [] in
     let a4 : Along IsMember Ends L4 = numeral-along d [] h tt tt in
-    let L3 = flat parts4 L4 in
-    let a3 : Along OkPart Alternate L3 = flat-along OkPart Alternate parts4 L4 (along-map member-parts (λ m n _ _ e. ends-alternate m n e) L4 a4) in
-    let L2 = flat parts3 L3 in
-    let a2 : Along Ok2 After2 L2 = flat-along Ok2 After2 parts3 L3 (along-map part-pieces (λ m n _ _ e. alternate-after m n e) L3 a3) in
-    let L1 = flat parts2 L2 in
-    let a1 : Along Ok1 (Stop n1 parts1) L1 = flat-along Ok1 (Stop n1 parts1) parts2 L2 (along-map piece-toks (λ m n _ _ e. after-stop1 m n e) L2 a2) in
-    let e1 : toks (flat parts1 L1) ≡ L1 = chains-flat b1 n1 parts1 Ok1 resume1 L1 a1 in
-    let e2 : chains b2 n2 L1 ≡ L2 = chains-flat b2 n2 parts2 Ok2 resume2 L2 (along-map (λ p k. k) (λ m n _ _ e. after-stop2 m n e) L2 a2) in
-    let e3 : chains b3 n3 L2 ≡ L3 = chains-flat b3 n3 parts3 Ok3 resume3 L3 (along-map part-ok (λ m n _ _ e. alternate-stop m n e) L3 a3) in
-    let e4 : chains b4 n4 L3 ≡ L4 = chains-flat b4 n4 parts4 Ok4 resume4 L4 (along-map (λ p k. tt) (λ m n _ _ e. ends-stop m n e) L4 a4) in
+    let L3 = flat parts₄ L4 in
+    let a3 : Along OkPart Alternate L3 = flat-along OkPart Alternate parts₄ L4 (along-map member-parts (λ m n _ _ e. ends-alternate m n e) L4 a4) in
+    let L2 = flat parts₃ L3 in
+    let a2 : Along Ok₂ After₂ L2 = flat-along Ok₂ After₂ parts₃ L3 (along-map part-pieces (λ m n _ _ e. alternate-after m n e) L3 a3) in
+    let L1 = flat parts₂ L2 in
+    let a1 : Along Ok₁ (Stop next₁ parts₁) L1 = flat-along Ok₁ (Stop next₁ parts₁) parts₂ L2 (along-map piece-tokens (λ m n _ _ e. after-stop₁ m n e) L2 a2) in
+    let e1 : tokens (flat parts₁ L1) ≡ L1 = chains-flat begin₁ next₁ parts₁ Ok₁ resume₁ L1 a1 in
+    let e2 : chains begin₂ next₂ L1 ≡ L2 = chains-flat begin₂ next₂ parts₂ Ok₂ resume₂ L2 (along-map (λ p k. k) (λ m n _ _ e. after-stop₂ m n e) L2 a2) in
+    let e3 : chains begin₃ next₃ L2 ≡ L3 = chains-flat begin₃ next₃ parts₃ Ok₃ resume₃ L3 (along-map part-ok (λ m n _ _ e. alternate-stop m n e) L3 a3) in
+    let e4 : chains begin₄ next₄ L3 ≡ L4 = chains-flat begin₄ next₄ parts₄ Ok₄ resume₄ L4 (along-map (λ p k. tt) (λ m n _ _ e. ends-stop m n e) L4 a4) in
     rw (e1, e2, e3, e4)
 
 -- the text of a division is that of its parts
-run-syms : (r : Row Digit) (w : List Char) → row-map digit r <>> w ≡ runText r w
-run-syms (one d) w = refl
-run-syms (r ▷ d) w = run-syms r (digit d ∷ w)
+run-chars : (r : Row Digit) (w : List Char) → row-map digit r <>> w ≡ runText r w
+run-chars (one d) w = refl
+run-chars (r ▷ d) w = run-chars r (digit d ∷ w)
 
-atom-syms : (a : Atom) (X : List Tok) → flat parts1 (parts2 (atom a) <>> X) ≡ atomText a (flat parts1 X)
-atom-syms (run r) X = run-syms r _
-atom-syms (times r t) X = run-syms r _
-atom-syms (power t) X = refl
+atom-chars : (a : Atom) (X : List Token) → flat parts₁ (parts₂ (atom a) <>> X) ≡ atomText a (flat parts₁ X)
+atom-chars (run r) X = run-chars r _
+atom-chars (times r t) X = run-chars r _
+atom-chars (power t) X = refl
 
-small-syms : (s : Row Atom) (X : List Piece) → flat parts1 (flat parts2 (row-map atom s <>> X)) ≡ smallText s (flat parts1 (flat parts2 X))
-small-syms (one a) X = atom-syms a (flat parts2 X)
-small-syms (s ▷ a) X = small-syms s (atom a ∷ X) ∙ ap (smallText s) (atom-syms a (flat parts2 X))
+small-chars : (s : Row Atom) (X : List Piece) → flat parts₁ (flat parts₂ (row-map atom s <>> X)) ≡ smallText s (flat parts₁ (flat parts₂ X))
+small-chars (one a) X = atom-chars a (flat parts₂ X)
+small-chars (s ▷ a) X = small-chars s (atom a ∷ X) ∙ ap (smallText s) (atom-chars a (flat parts₂ X))
 
-member-syms : (m : Member) (L : List Member) → syms (m ∷ L) ≡ memberText m (syms L)
-member-syms (small s) L = small-syms s _
-member-syms (block s l) L = small-syms s _
-member-syms (lone l) L = refl
+member-chars : (m : Member) (L : List Member) → charsOf (m ∷ L) ≡ memberText m (charsOf L)
+member-chars (small s) L = small-chars s _
+member-chars (block s l) L = small-chars s _
+member-chars (lone l) L = refl
 
-pub text-syms : (d : Division) (L : List Member) → syms (d <>> L) ≡ divisionText d (syms L)
-text-syms (one m) L = member-syms m L
-text-syms (d ▷ m) L = text-syms d (m ∷ L) ∙ ap (divisionText d) (member-syms m L)
+pub division-chars : (d : Division) (L : List Member) → charsOf (d <>> L) ≡ divisionText d (charsOf L)
+division-chars (one m) L = member-chars m L
+division-chars (d ▷ m) L = division-chars d (m ∷ L) ∙ ap (divisionText d) (member-chars m L)
 
-pub found : (w : List Char) (d : Division) → IsNumeral d → divisionText d [] ≡ w → members w ≡ d <>> []
-found w d h e = rw (← e) (rw (← (text-syms d [])) (members-syms d h))
+pub members-found : (w : List Char) (d : Division) → IsNumeral d → divisionText d [] ≡ w → members w ≡ d <>> []
+members-found w d h e = rw (← e) (rw (← (division-chars d [])) (members-chars d h))
 
 -- a row is known by its list
 abbrev build : {A : Type 0} → Row A → List A → Row A
@@ -305,4 +305,4 @@ pub row-inj : {A : Type 0} (r q : Row A) → r <>> [] ≡ q <>> [] → r ≡ q
 row-inj r q e = Option·some-injective r q (sym (row-build r []) ∙ ap row-of e ∙ row-build q [])
 
 pub same-division : (w : List Char) (x y : Reading w) → x .division ≡ y .division
-same-division w x y = row-inj _ _ (sym (found w (x .division) (x .rules) (x .whole)) ∙ found w (y .division) (y .rules) (y .whole))
+same-division w x y = row-inj _ _ (sym (members-found w (x .division) (x .rules) (x .whole)) ∙ members-found w (y .division) (y .rules) (y .whole))

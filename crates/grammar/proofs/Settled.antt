@@ -11,14 +11,14 @@ use Rattle.grammar.specs.Plain.{Char}
 use Rattle.grammar.specs.Row.{Row, one, _▷_, _<>>_}
 use Rattle.grammar.specs.Grammar.{Member, IsMember, Division, IsNumeral, divisionText, Reading}
 use Rattle.grammar.proofs.ChainParts.{Along, Tiles}
-use Rattle.grammar.proofs.Pieces.{members, syms, syms-members}
-use Rattle.grammar.proofs.Readings.{Sep4, along4, found, text-syms, same-division}
+use Rattle.grammar.proofs.Pieces.{members, charsOf, chars-members}
+use Rattle.grammar.proofs.Readings.{Apart₄, along₄, members-found, division-chars, same-division}
 use Rattle.grammar.proofs.PlainEdges.{plainEdges}
-use Rattle.grammar.proofs.FourPasses.{R4, four-passes}
+use Rattle.grammar.proofs.FourPasses.{MemberEdge, four-passes}
 use Rattle.grammar.proofs.FifthPass.{Counts, close, resume, first}
 
 -- one edge is a numeral's
-read : (w : List Char) (L : List Member) (l : List NumEdge) (e : NumEdge) → members w ≡ L → Along IsMember Sep4 L → Tiles R4 0 L l (length w) → after G4 l ≡ e ∷ []
+read : (w : List Char) (L : List Member) (l : List NumEdge) (e : NumEdge) → members w ≡ L → Along IsMember Apart₄ L → Tiles MemberEdge 0 L l (length w) → after G4 l ≡ e ∷ []
     → (r : Reading w) × Counts 0 (r .division) e (length w)
 unfolding after chainsOf chains begin
 read w [] [] e h A t g = let z : _≡_ {A = ℕ} 0 1 = cc in absurd (omega arith)
@@ -26,20 +26,20 @@ read w [] (b ∷ l) e h A t g = absurd t
 read w (m ∷ L) [] e h A t g = absurd t
 read w (m ∷ L) (b ∷ l) e h A (j, R, t) g =
     let (d, N, f, C) = close L l 0 j (length w) (one m) (begin b) e (first 0 j m b R) (A .0) (A .1) (A .2) t g in
-    (record { division = d; whole = sym (text-syms d []) ∙ ap syms (f ∙ sym h) ∙ syms-members w; rules = N }, C)
+    (record { division = d; whole = sym (division-chars d []) ∙ ap charsOf (f ∙ sym h) ∙ chars-members w; rules = N }, C)
 
 pub is-read : (w : List Char) (e : NumEdge) → through five (plainEdges 0 w) ≡ e ∷ [] → (r : Reading w) × Counts 0 (r .division) e (length w)
 unfolding through
-is-read w e h = read w (members w) (after G3 (after G2 (after G1 (after D1 (plainEdges 0 w))))) e refl (along4 w) (four-passes w) h
+is-read w e h = read w (members w) (after G3 (after G2 (after G1 (after D1 (plainEdges 0 w))))) e refl (along₄ w) (four-passes w) h
 
 -- a numeral's list is one edge
 pub is-one : (w : List Char) (r : Reading w) → (e : NumEdge) × (through five (plainEdges 0 w) ≡ e ∷ []) × Counts 0 (r .division) e (length w)
 unfolding through after chainsOf from
 is-one w r =
-    let t : Tiles R4 0 (r .division <>> []) (after G3 (after G2 (after G1 (after D1 (plainEdges 0 w))))) (length w) = rw (found w (r .division) (r .rules) (r .whole)) at (four-passes w) in
+    let t : Tiles MemberEdge 0 (r .division <>> []) (after G3 (after G2 (after G1 (after D1 (plainEdges 0 w))))) (length w) = rw (members-found w (r .division) (r .rules) (r .whole)) at (four-passes w) in
     go (after G3 (after G2 (after G1 (after D1 (plainEdges 0 w))))) (resume (r .division) [] _ 0 (length w) (r .rules) t)
   where
-    go : (l : List NumEdge) → (c : Chain) × (j : ℕ) × (q : List NumEdge) × (chains begin (next G4) l ≡ from begin (next G4) c q) × Counts 0 (r .division) (c .edge) j × Tiles R4 j [] q (length w)
+    go : (l : List NumEdge) → (c : Chain) × (j : ℕ) × (q : List NumEdge) × (chains begin (next G4) l ≡ from begin (next G4) c q) × Counts 0 (r .division) (c .edge) j × Tiles MemberEdge j [] q (length w)
         → (e : NumEdge) × (edgesOf (chains begin (next G4) l) ≡ e ∷ []) × Counts 0 (r .division) e (length w)
     go l (c, j, [], h, C, t) = (c .edge, ap edgesOf h, rw (← t) C)
     go l (c, j, e ∷ q, h, C, t) = absurd t
