@@ -1,6 +1,8 @@
--- What holds of the chains of any rule. Assumes nothing.
-use mathlib.Core.Path.{_≡_, refl, sym, ap, _∙_}
-use mathlib.Core.List.{List, [], _∷_, _++_, map}
+-- What holds of the chains of any rule (`chains` of passes). `parts` says what a chain is made of.
+-- In order: what holds along a list; the chains' parts are the list again, and each chain stops before the next; such chains are found again; two rules that go
+-- alike on lists that are related one by one.
+use mathlib.Core.Path.{_≡_, refl, ap, _∙_}
+use mathlib.Core.List.{List, [], _∷_, map}
 use mathlib.Core.Option.{Option, none, some}
 use Prim.Native.Nat.{ℕ}
 use Rattle.passes.proofs.ChainsLaws.{from-none}

@@ -3,7 +3,7 @@
 -- The words are defined in `specs/Grammar.antt` (Reading), `specs/Plain.antt` (plain), and in the specs/ of `passes` (fifthList, aboveAt),
 -- `text` (wellFormed, chars) and `whole` (ofNat). Assumes nothing.
 use Prim.Native.Nat.{ℕ, _≤_}
-use mathlib.Core.Path.{_≡_, refl, sym, ap, _∙_}
+use mathlib.Core.Path.{_≡_, sym, ap, _∙_}
 use mathlib.Core.Logic.{_↔_}
 use mathlib.Core.Bool.{true, false}
 use mathlib.Core.List.{List, [], _∷_, map}

@@ -1,31 +1,27 @@
 -- D1 to G3 on the edges of a plain line: each pass's list is, one by one, the list of the grammar's pieces that `proofs/Pieces.antt` makes of the characters.
--- A relation R says of a piece and an edge that they lie on the same places and have the same value, base and size. It is carried through a pass by
--- `sim` of `proofs/ChainParts.antt`: where the pieces' chain takes the next, the edges' chain does.
-use Prim.Native.Nat.{ℕ, zero, suc, _+_, _*_, _≤_, _<_}
-use mathlib.Core.Path.{_≡_, refl, sym, ap, _∙_}
-use mathlib.Core.Bool.{Bool, true, false, cond, _&&_, _||_, not, and-true, and-false}
-use mathlib.Core.List.{List, [], _∷_, _++_, map}
+-- TokenEdge, PieceEdge, PartEdge and MemberEdge say of a piece and an edge that the edge lies on the piece's places, with its value and base. Each is carried through
+-- a pass by `sim` of `proofs/ChainParts.antt`, since the edges' chain takes the next exactly where the pieces' chain does (TokenChain, .., MemberChain).
+use Prim.Native.Nat.{ℕ, zero, suc, _+_, _*_, _≤_}
+use mathlib.Core.Path.{_≡_, refl, ap}
+use mathlib.Core.Bool.{Bool, true, false, cond, _&&_, and-true, and-false, _||_}
+use mathlib.Core.List.{List, [], _∷_, _++_}
 use mathlib.Core.Option.{Option, none, some}
 use native.Mathlib.Omega.{arith}
 use native.Mathlib.Nat.{zero-add}
-use lib.Dec.{leb, ltb, eqb, eqb-refl}
+use lib.Dec.{leb, ltb, eqb}
 use lib.ListN.{length, length-append}
 use Rattle.dicts.specs.Table.{Text}
 use Rattle.text.specs.Sequence.{encode}
-use Rattle.passes.specs.NumEdge.{NumEdge, same, orZero, has}
-use Rattle.passes.specs.Chains.{chains}
+use Rattle.passes.specs.NumEdge.{NumEdge, same}
 use Rattle.passes.specs.Passes.{Pass, D1, G1, G2, G3, Chain, cjk, gap, nearest, begin, longer, touches, digitEdge, d1Rule, g1Rule, g2Rule, g3Rule, exceeds, rule, over, overDigits, joined, next, chainsOf, after}
-use Rattle.grammar.specs.Plain.{Digit, Ten, Large, Char, digit, ten, large, digitValue, tenValue, largeValue, codePoint, 零, 一, 二, 三, 四, 五, 六, 七, 八, 九, 十, 百, 千, 万, 億, 兆}
-use Rattle.grammar.specs.Row.{Row, one, _▷_, last}
+use Rattle.grammar.specs.Plain.{Digit, Ten, Large, Char, digit, ten, large, digitValue, tenValue, largeValue, codePoint, charValue, charBase, isLarge, 零, 一, 二, 三, 四, 五, 六, 七, 八, 九, 十, 百, 千, 万, 億, 兆}
+use Rattle.grammar.specs.Row.{Row, one, _▷_}
 use Rattle.grammar.specs.Grammar.{Atom, run, times, power, Member, small, block, lone, runValue, atomValue, atomBase, smallValue, smallBase, loneZero, nearBase}
 use Rattle.grammar.proofs.ChainParts.{Both, Tiles, sim, tiles-map}
-use Rattle.grammar.proofs.Pieces.{T→true, true-le, Token, digits, ten₁, large₁, Piece, atom, large₂, Part, atoms, large₃, begin₁, next₁, begin₂, next₂, begin₃, next₃, begin₄, next₄, joins, tokens, pieces, smalls, members}
-use Rattle.grammar.proofs.Readings.{and-right}
+use Rattle.grammar.proofs.Pieces.{Token, digits, ten₁, large₁, Piece, atom, large₂, Part, atoms, large₃, begin₁, next₁, begin₂, next₂, begin₃, next₃, begin₄, next₄, joins, tokens, pieces, smalls, members}
 use Rattle.grammar.proofs.Sixteen.{each}
 use Rattle.grammar.proofs.PlainEdges.{plainEdge, plainEdges}
-
-pub eqb-self : (n : ℕ) → eqb n n ≡ true
-eqb-self n = T→true (eqb n n) (eqb-refl n)
+use Rattle.grammar.proofs.Tests.{and-right, eqb-self}
 
 -- ---- what a pass sees of an edge
 pub record View : Type 0 where
@@ -111,7 +107,7 @@ module _ {S : Type 0} (P : S → Chain → Type 0) (p : Pass) (c : Chain) (e : N
   unfolding next
   both-none r = rw (r, and-false (touches c e)) tt
 
--- ---- the line: R0 c e, the edge of a character
+-- ---- the line
 abbrev pub CharEdge : ℕ → Char → NumEdge → ℕ → Type 0
 CharEdge i c e j = (e ≡ plainEdge i c) × (j ≡ suc i)
 
@@ -173,10 +169,13 @@ is-digit i (digit d) = rw (eqb-self (suc i), digit-small d)
 is-digit i (ten t) = refl
 is-digit i (large l) = refl
 
+view-char : (c : Char) → tokenView (begin₁ c) ≡ record { value = charValue c; base = charBase c; size = 1; large = isLarge c; zero = isZero c }
+view-char (digit d) = refl
+view-char (ten t) = refl
+view-char (large l) = refl
+
 char-shows : (i : ℕ) (c : Char) → Shows i (tokenView (begin₁ c)) (plainEdge i c) (suc i)
-char-shows i (digit d) = record { start = refl; end = refl; width = omega arith; value = refl; base = refl; large = refl; script = refl; lone = char-gap i (digit d); long = omega (arith, three-bytes (digit d)) }
-char-shows i (ten t) = record { start = refl; end = refl; width = omega arith; value = refl; base = refl; large = refl; script = refl; lone = char-gap i (ten t); long = omega (arith, three-bytes (ten t)) }
-char-shows i (large l) = record { start = refl; end = refl; width = omega arith; value = refl; base = refl; large = refl; script = refl; lone = char-gap i (large l); long = omega (arith, three-bytes (large l)) }
+char-shows i c = rw (view-char c) (record { start = refl; end = refl; width = omega arith; value = refl; base = refl; large = refl; script = refl; lone = char-gap i c; long = omega (arith, three-bytes c) })
 
 begin-token : (i j : ℕ) (c : Char) (e : NumEdge) → CharEdge i c e j → TokenChain i (begin₁ c) (begin e) j
 unfolding begin

@@ -1,4 +1,5 @@
 -- What is shown of the grammar and of the passes with the plain table.
+pub mod Tests
 pub mod ChainParts
 pub mod Pieces
 pub mod Readings

@@ -14,7 +14,7 @@ use Rattle.passes.specs.Chains.{from, chains}
 use Rattle.passes.specs.NumEdge.{NumEdge, same, firstAbove}
 use Rattle.passes.specs.Characters.{charEdges, charEdge}
 use Rattle.passes.specs.Passes.{fifthList, aboveAt, through, addedBy, after, added, chainsOf, joinedOf, next, joined, over, overDigits, d1Rule, g1Rule, g2Rule, g3Rule, g4Rule, digitEdge, gap, nearest, begin, longer, retags, countedValue, countedBase, powerOfTen, powerWithin}
-use Rattle.grammar.specs.Plain.{Char, digit, ten, large, codePoint, plain, plainRecords, plainRecord, 零, 一, 二, 三, 四, 五, 六, 七, 八, 九, 十, 百, 千, 万, 億, 兆}
+use Rattle.grammar.specs.Plain.{Char, digit, ten, large, codePoint, plain, plainRecords, plainRecord, 零, 一, 二, 四, 五, 七, 九, 十, 百, 千, 万, 億}
 
 pub data Answer : Type 0 where
   Edges : List (ℕ × ℕ × Option ℕ) → Answer

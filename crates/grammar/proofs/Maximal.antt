@@ -1,8 +1,8 @@
 -- "A run is a maximal stretch of 零 to 九" (01, "Grammar"): the grammar says so by `Follows`, atom by atom. Here is why that is maximality in the line.
 --     follows-run   after a run, `Follows` says that no digit comes next, and 01's rule for 十, 百, 千 alone; no more, no less
 --     maximal       each run of a reading stands in the line with no digit directly before it and none directly after it
-use Prim.Native.Nat.{ℕ, _≤_}
-use mathlib.Core.Path.{_≡_, refl, sym, ap, _∙_}
+use Prim.Native.Nat.{ℕ}
+use mathlib.Core.Path.{_≡_, refl, sym, _∙_}
 use mathlib.Core.Logic.{_↔_}
 use mathlib.Core.List.{List, [], _∷_, _++_, append-assoc}
 use native.Mathlib.Omega.{arith}

@@ -1,39 +1,28 @@
--- The passes on trees: what the first four passes make of a line of plain characters, as pieces of a division. Assumes nothing.
-use Prim.Native.Nat.{ℕ, zero, suc, _+_, _*_, _≤_, _<_}
-use mathlib.Core.Path.{_≡_, refl, sym, ap, _∙_}
+-- What D1 to G3 make of a line of plain characters, as pieces of a division: chains of characters, of tokens, of pieces, of parts.
+--     level 1, D1   Token: a run's digits, or one of 十百千, 万億兆
+--     level 2, G1   Piece: an atom, or one of 万億兆
+--     level 3, G2   Part: a row of atoms, or one of 万億兆
+--     level 4, G3   Member
+-- At each level k: begin-k and next-k make the chains, parts-k is what a piece is made of, Ok-k is what holds of it; next-parts-k says that a chain which goes on
+-- has one part more, resume-k that the chain of a piece's parts is the piece.
+use Prim.Native.Nat.{ℕ}
+use mathlib.Core.Path.{_≡_, refl, _∙_}
 use mathlib.Core.Bool.{Bool, true, false, cond, _&&_}
 use mathlib.Core.List.{List, [], _∷_}
 use mathlib.Core.Option.{Option, none, some}
-use native.Mathlib.Omega.{arith}
-use lib.Dec.{T, leb, ltb, eqb, leb→le, le→leb, ltb→lt, lt→ltb, eqb→eq, not-T, nleb→lt, nltb→le}
+use lib.Dec.{leb, ltb}
 use Rattle.passes.specs.Chains.{from, chains}
-use Rattle.grammar.specs.Row.{Row, one, _▷_, _<>>_, last, head}
-use Rattle.grammar.proofs.ChainParts.{OnSome, Along, Next, Inside, flat, Stop, Good, flat-chains, good-chains, chains-flat, along-flat, flat-along, along-zip, along-map, along-row, row-along}
-use Rattle.grammar.specs.Plain.{Digit, Ten, Large, Char, digit, ten, large, digitValue, tenValue, largeValue}
-use Rattle.grammar.specs.Grammar.{Atom, run, times, power, Member, small, block, lone, Division, runValue, atomValue, atomBase, smallValue, smallBase, memberValue, memberBase, IsAtom, Follows, loneZero, nearBase, Below, IsSmall, IsMember, IsBlock, singleDigit, countValue, countBase, IsNumeral, runText, atomText, smallText, memberText, divisionText}
+use Rattle.grammar.specs.Row.{Row, one, _▷_, _<>>_}
+use Rattle.grammar.proofs.ChainParts.{OnSome, flat, flat-chains}
+use Rattle.grammar.specs.Plain.{Digit, Ten, Large, Char, digit, ten, large}
+use Rattle.grammar.specs.Grammar.{Atom, run, times, power, Member, small, block, lone, runValue, atomValue, atomBase, IsAtom, loneZero, nearBase}
+use Rattle.grammar.proofs.Tests.{le-true, true-le}
 
 abbrev pub row-map : {A B : Type 0} → (A → B) → Row A → Row B
 row-map f (one a) = one (f a)
 row-map f (r ▷ a) = row-map f r ▷ f a
 
--- a test as an equation
-pub true→T : {b : Bool} → b ≡ true → T b
-true→T e = rw e tt
-
-pub T→true : (b : Bool) → T b → b ≡ true
-T→true true t = refl
-T→true false t = absurd t
-
-pub le-true : {m n : ℕ} → m ≤ n → leb m n ≡ true
-le-true {m} {n} h = T→true (leb m n) (le→leb m n h)
-
-pub true-le : (m n : ℕ) → leb m n ≡ true → m ≤ n
-true-le m n e = leb→le m n (true→T e)
-
-pub false-lt : (m n : ℕ) → leb m n ≡ false → n < m
-false-lt m n e = nleb→lt m n (rw e tt)
-
--- LEVEL 1: runs and single characters
+-- ---- level 1
 pub data Token : Type 0 where
   digits : Row Digit → Token
   ten₁ : Ten → Token
@@ -82,7 +71,7 @@ resume₁ (digits r) h l = resume-run r l
 resume₁ (ten₁ t) h l = refl
 resume₁ (large₁ k) h l = refl
 
--- LEVEL 2: atoms
+-- ---- level 2
 pub data Piece : Type 0 where
   atom : Atom → Piece
   large₂ : Large → Piece
@@ -139,7 +128,7 @@ resume₂ (atom (times r t)) h l = let e : leb 1 (runValue r) ≡ true = le-true
 resume₂ (atom (power t)) h l = refl
 resume₂ (large₂ k) h l = refl
 
--- LEVEL 3: smalls
+-- ---- level 3
 pub data Part : Type 0 where
   atoms : Row Atom → Part
   large₃ : Large → Part
@@ -196,7 +185,7 @@ unfolding from chains
 resume₃ (atoms s) h l = resume-row s h l
 resume₃ (large₃ k) h l = refl
 
--- LEVEL 4: members
+-- ---- level 4
 abbrev pub begin₄ : Part → Member
 begin₄ (atoms s) = small s
 begin₄ (large₃ l) = lone l
@@ -231,7 +220,7 @@ resume₄ (small s) h l = refl
 resume₄ (block s k) h l = refl
 resume₄ (lone k) h l = refl
 
--- the four in turn
+-- ---- the four in turn
 abbrev pub tokens : List Char → List Token
 tokens w = chains begin₁ next₁ w
 

@@ -1,17 +1,19 @@
--- The members that the passes find: each is one by the grammar, and a division by the grammar is found again. Assumes nothing.
-use Prim.Native.Nat.{ℕ, zero, suc, _+_, _*_, _≤_, _<_}
-use mathlib.Core.Path.{_≡_, refl, sym, ap, _∙_, subst}
-use mathlib.Core.Bool.{Bool, true, false, cond, _&&_}
+-- The members that `proofs/Pieces.antt` makes of a line: each is one by the grammar, and every reading's members are found again, so that two readings are the same.
+-- In order: from the chains to the grammar, level by level; from the grammar to the chains; the characters of a division; one reading.
+use Prim.Native.Nat.{ℕ, _<_}
+use mathlib.Core.Path.{_≡_, refl, sym, ap, _∙_}
+use mathlib.Core.Bool.{Bool, true, false, cond}
 use mathlib.Core.List.{List, [], _∷_}
 use mathlib.Core.Option.{Option, none, some, Option·some-ne-none, Option·some-injective}
 use native.Mathlib.Omega.{arith}
-use lib.Dec.{T, leb, ltb, eqb}
-use Rattle.passes.specs.Chains.{from, chains}
+use lib.Dec.{leb, ltb}
+use Rattle.passes.specs.Chains.{chains}
 use Rattle.grammar.specs.Row.{Row, one, _▷_, _<>>_, last, head}
-use Rattle.grammar.proofs.ChainParts.{OnSome, Along, Next, Inside, flat, Stop, Good, flat-chains, good-chains, chains-flat, along-flat, flat-along, along-zip, along-map, along-row, row-along}
-use Rattle.grammar.specs.Plain.{Digit, Ten, Large, Char, digit, ten, large, digitValue, tenValue, largeValue}
-use Rattle.grammar.specs.Grammar.{Atom, run, times, power, Member, small, block, lone, Division, runValue, atomValue, atomBase, IsAtom, Follows, loneZero, nearBase, Below, IsSmall, IsMember, IsBlock, IsNumeral, runText, atomText, smallText, memberText, divisionText, Reading}
-use Rattle.grammar.proofs.Pieces.{row-map, true-le, false-lt, le-true, Token, digits, ten₁, large₁, Piece, atom, large₂, Part, atoms, large₃, begin₁, next₁, parts₁, Ok₁, parts-begin₁, next-parts₁, resume₁, begin₂, next₂, parts₂, Ok₂, parts-begin₂, ok-begin₂, next-parts₂, resume₂, begin₃, next₃, parts₃, Ok₃, parts-begin₃, ok-begin₃, next-parts₃, resume₃, begin₄, next₄, parts₄, Ok₄, parts-begin₄, next-parts₄, resume₄, joins, Joined, tokens, pieces, smalls, members, charsOf, chars-members}
+use Rattle.grammar.proofs.ChainParts.{Along, Next, Inside, flat, Stop, flat-chains, good-chains, chains-flat, along-flat, flat-along, along-zip, along-map}
+use Rattle.grammar.specs.Plain.{Digit, Char, digit}
+use Rattle.grammar.specs.Grammar.{Atom, run, times, power, Member, small, block, lone, Division, runValue, atomValue, atomBase, Follows, loneZero, nearBase, Below, IsSmall, IsMember, IsBlock, IsNumeral, runText, atomText, smallText, memberText, divisionText, Reading}
+use Rattle.grammar.proofs.Pieces.{row-map, Token, digits, Piece, atom, large₂, Part, atoms, large₃, begin₁, next₁, parts₁, Ok₁, parts-begin₁, next-parts₁, resume₁, begin₂, next₂, parts₂, Ok₂, parts-begin₂, ok-begin₂, next-parts₂, resume₂, begin₃, next₃, parts₃, Ok₃, parts-begin₃, ok-begin₃, next-parts₃, resume₃, begin₄, next₄, parts₄, Ok₄, parts-begin₄, next-parts₄, resume₄, joins, Joined, tokens, pieces, smalls, members, charsOf}
+use Rattle.grammar.proofs.Tests.{le-true, true-le, false-lt, and-left, and-right}
 
 head-map : {A B : Type 0} (f : A → B) (r : Row A) → head (row-map f r) ≡ f (head r)
 head-map f (one a) = refl
@@ -21,15 +23,7 @@ last-map : {A B : Type 0} (f : A → B) (r : Row A) → last (row-map f r) ≡ f
 last-map f (one a) = refl
 last-map f (r ▷ a) = refl
 
-pub and-left : (a b : Bool) → a && b ≡ true → a ≡ true
-and-left true b e = refl
-and-left false b e = e
-
-pub and-right : (a b : Bool) → a && b ≡ true → b ≡ true
-and-right true b e = e
-and-right false b e = let z : _≡_ {A = ℕ} 0 1 = cc in absurd (omega arith)
-
--- LEVEL 2
+-- ---- from the chains to the grammar: level 2, atoms
 abbrev pub After₂ : Piece → Piece → Type 0
 After₂ (atom a) (atom b) = Follows a b
 After₂ (atom a) (large₂ l) = Unit {0}
@@ -65,7 +59,7 @@ along₂ w =
     along-map (λ p h. h .1) (λ p q h k e. after₂ p q (e .0) (e .1)) L
     (along-zip _ Ok₂ _ (Stop next₂ parts₂) L (along-flat Ok₁ (Stop next₁ parts₁) parts₂ L p1) p2)
 
--- LEVEL 3
+-- ---- level 3, smalls
 abbrev pub OkPart : Part → Type 0
 OkPart (atoms s) = IsSmall s
 OkPart (large₃ l) = Unit {0}
@@ -134,7 +128,7 @@ along₃ w =
     along-map ok-part (λ p q h k e. apart₃ p q (e .0) (e .1)) L
     (along-zip _ Ok₃ _ (Stop next₃ parts₃) L (along-flat Ok₂ After₂ parts₃ L p2) p3)
 
--- LEVEL 4
+-- ---- level 4, members
 abbrev pub Apart₄ : Member → Member → Type 0
 Apart₄ (small s) (small t) = SmallsApart s t
 Apart₄ (small s) (block t l) = SmallsApart s t
@@ -163,7 +157,7 @@ along₄ w =
     along-map ok-member (λ p q h k e. apart₄ p q (e .0) (e .1)) L
     (along-zip _ Ok₄ _ (Stop next₄ parts₄) L (along-flat OkPart Apart₃ parts₄ L p3) p4)
 
--- THE OTHER WAY: from the grammar to good lists
+-- ---- from the grammar to the chains
 abbrev Ends : Member → Member → Type 0
 Ends m n = IsBlock m
 
@@ -262,7 +256,7 @@ members-chars d h =
     let e4 : chains begin₄ next₄ L3 ≡ L4 = chains-flat begin₄ next₄ parts₄ Ok₄ resume₄ L4 (along-map (λ p k. tt) (λ m n _ _ e. ends-stop m n e) L4 a4) in
     rw (e1, e2, e3, e4)
 
--- the text of a division is that of its parts
+-- ---- the characters of a division are those of its parts
 run-chars : (r : Row Digit) (w : List Char) → row-map digit r <>> w ≡ runText r w
 run-chars (one d) w = refl
 run-chars (r ▷ d) w = run-chars r (digit d ∷ w)
@@ -288,7 +282,7 @@ division-chars (d ▷ m) L = division-chars d (m ∷ L) ∙ ap (divisionText d) 
 pub members-found : (w : List Char) (d : Division) → IsNumeral d → divisionText d [] ≡ w → members w ≡ d <>> []
 members-found w d h e = rw (← e) (rw (← (division-chars d [])) (members-chars d h))
 
--- a row is known by its list
+-- ---- one reading: a row is known by its list
 abbrev build : {A : Type 0} → Row A → List A → Row A
 build r [] = r
 build r (a ∷ l) = build (r ▷ a) l

@@ -1,5 +1,4 @@
 -- What holds of each of the sixteen characters holds of all.
-use mathlib.Core.Path.{_≡_}
 use Rattle.grammar.specs.Plain.{Char, digit, ten, large, 零, 一, 二, 三, 四, 五, 六, 七, 八, 九, 十, 百, 千, 万, 億, 兆}
 
 -- P of 零 to 九, 十百千, 万億兆

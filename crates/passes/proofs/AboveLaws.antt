@@ -1,11 +1,11 @@
 -- Where no joined edge has a value above TOP (no refusal 7), no edge of the later lists has.
 -- In order: `firstAbove` of lists; of one pass; of passes in turn.
-use Prim.Native.Nat.{ℕ, _≤_}
+use Prim.Native.Nat.{_≤_}
 use mathlib.Core.Path.{_≡_, refl, sym, ap, _∙_}
 use mathlib.Core.Bool.{Bool, true, false, cond, _&&_, true≢false}
 use mathlib.Core.List.{List, [], _∷_, _++_}
 use mathlib.Core.Option.{Option, none, some, Option·some-ne-none, Option·some-injective}
-use lib.Dec.{T, ltb, nltb→le}
+use lib.Dec.{nltb→le}
 use Rattle.whole.specs.Whole.{TOP}
 use Rattle.passes.specs.NumEdge.{NumEdge, orZero, above, firstAbove}
 use Rattle.passes.specs.Chains.{from, chains}

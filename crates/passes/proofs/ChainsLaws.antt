@@ -26,6 +26,16 @@ module _ {A S : Type 0} (begin : A → S) (next : S → A → Option S) where
   unfolding from
   from-some s t a l e = rw (e, from)
 
+  -- at least one chain is made
+  pub from-not-empty : (s : S) (l : List A) → (t : S) × (ts : List S) × (from begin next s l ≡ t ∷ ts)
+  unfolding from
+  from-not-empty s [] = (s, [], refl)
+  from-not-empty s (a ∷ l) = go (next s a) refl (λ t. from-not-empty t l)
+    where
+      go : (o : Option S) → next s a ≡ o → ((t : S) → (u : S) × (us : List S) × (from begin next t l ≡ u ∷ us)) → (t : S) × (ts : List S) × (from begin next s (a ∷ l) ≡ t ∷ ts)
+      go none e ih = (s, from begin next (begin a) l, from-none s a l e)
+      go (some t) e ih = let (u, us, h) = ih t in (u, us, rw (from-some s t a l e) h)
+
   -- ---- a turn of a pass's loop: `done` are the chains that ended, s is open, a comes next
   pub turn-ends : (done : List S) {all : List S} (s : S) (a : A) (l : List A) → next s a ≡ none → done ++ from begin next s (a ∷ l) ≡ all
       → (done ++ (s ∷ [])) ++ from begin next (begin a) l ≡ all
