@@ -1,3 +1,4 @@
 -- Laws of the passes' definitions that callers cite.
 pub mod ChainsLaws
 pub mod AboveLaws
+pub mod Cases
