@@ -12,3 +12,4 @@ pub mod FifthPass
 pub mod Settled
 pub mod Demand3
 pub mod Marked
+pub mod MarkedReadings
