@@ -12,8 +12,8 @@ use native.Mathlib.Omega.{arith}
 use lib.ListN.{length, length-map}
 use lib.Ieee.{binary64, ofBits, toBits}
 use lib.Ieee.Exact.{HasValue}
-use Rattle.text.specs.Line.{wellFormed, chars, encodes}
-use Rattle.text.proofs.LineLaws.{encodes-chars, encodes-well-formed}
+use Rattle.text.specs.Text.{wellFormed, chars, encodes}
+use Rattle.text.proofs.TextLaws.{encodes-chars, encodes-well-formed}
 use Rattle.whole.specs.Whole.{TOP, ofNat}
 use Rattle.whole.proofs.WholeLaws.{ofNat-value, ofNat-bits-back}
 use Rattle.passes.specs.NumEdge.{NumEdge, firstAbove}
@@ -38,7 +38,7 @@ line-of w = record { well-formed = encodes-well-formed (map codePoint w) (plain-
 
 -- the list after the fifth pass is the one edge e, over the whole line
 pub record OneEdge (line : List ℕ) (e : NumEdge) : Type 0 where
-  pub list : fifthList plain line ≡ e ∷ []
+  pub list : fifthList plain (chars line) ≡ e ∷ []
   pub from-start : e .start ≡ 0
   pub to-end : e .end ≡ length (chars line)
 
@@ -54,7 +54,7 @@ pub record Settled (line : List ℕ) (w : List Char) : Type 0 where
   pub same-value : (e : NumEdge) → OneEdge line e → (r : Reading w) → Carries e (divisionValue (r .division))
 
 -- ---- why it holds
-pub demand3 : (line : List ℕ) (w : List Char) → IsLine line w → aboveAt plain line ≡ none → Settled line w
+pub demand3 : (line : List ℕ) (w : List Char) → IsLine line w → aboveAt plain (chars line) ≡ none → Settled line w
 demand3 line w is fine = record {
   one-edge = (
     λ h. is-read w (h .0) (sym same-list ∙ h .1 .list) .0,
@@ -68,10 +68,10 @@ demand3 line w is fine = record {
       record { value = v; within = within; float = rw ofNat-bits-back (ofNat-value _ (omega arith)) };
 }
   where
-    same-list : fifthList plain line ≡ through five (plainEdges 0 w)
+    same-list : fifthList plain (chars line) ≡ through five (plainEdges 0 w)
     same-list = ap (through five) (plain-line (chars line) w (is .characters))
 
-    same-added : aboveAt plain line ≡ firstAbove (addedBy five (plainEdges 0 w))
+    same-added : aboveAt plain (chars line) ≡ firstAbove (addedBy five (plainEdges 0 w))
     same-added = ap (λ (l : List NumEdge). firstAbove (addedBy five l)) (plain-line (chars line) w (is .characters))
 
     same-length : length (chars line) ≡ length w

@@ -10,7 +10,8 @@ use mathlib.Core.Option.{Option, none, some}
 use native.Mathlib.Omega.{arith}
 use native.Mathlib.Nat.{mul-le-mul-right}
 use lib.Dec.{leb, ltb, eqb}
-use Rattle.passes.specs.NumEdge.{NumEdge, same}
+use Rattle.text.specs.Bytes.{same}
+use Rattle.passes.specs.NumEdge.{NumEdge}
 use Rattle.passes.specs.Chains.{from, chains}
 use Rattle.passes.proofs.ChainsLaws.{from-not-empty}
 use Rattle.passes.specs.Passes.{G4, Chain, cjk, begin, longer, touches, over, joined, next, g4Rule, retags, countedValue, countedBase, powerOfTen, powerWithin}

@@ -12,7 +12,8 @@ use lib.Dec.{leb, ltb, eqb}
 use lib.ListN.{length, length-append}
 use Rattle.dicts.specs.Table.{Text}
 use Rattle.text.specs.Sequence.{encode}
-use Rattle.passes.specs.NumEdge.{NumEdge, same}
+use Rattle.text.specs.Bytes.{same}
+use Rattle.passes.specs.NumEdge.{NumEdge}
 use Rattle.passes.specs.Passes.{Pass, D1, G1, G2, G3, Chain, cjk, gap, nearest, begin, longer, touches, digitEdge, d1Rule, g1Rule, g2Rule, g3Rule, exceeds, rule, over, overDigits, joined, next, chainsOf, after}
 use Rattle.grammar.specs.Plain.{Digit, Ten, Large, Char, digit, ten, large, digitValue, tenValue, largeValue, codePoint, charValue, charBase, isLarge, 零, 一, 二, 三, 四, 五, 六, 七, 八, 九, 十, 百, 千, 万, 億, 兆}
 use Rattle.grammar.specs.Row.{Row, one, _▷_}

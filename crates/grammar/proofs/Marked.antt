@@ -8,11 +8,12 @@ use mathlib.Core.List.{List, [], _∷_, _++_, map}
 use lib.ListN.{replicate}
 use mathlib.Core.Option.{Option, none, some}
 use Rattle.dicts.specs.Table.{find}
-use Rattle.text.specs.Line.{chars, decode, encodes}
+use Rattle.text.specs.Text.{chars, decode, encodes}
 use Rattle.text.specs.Sequence.{seq, encode}
 use Rattle.whole.specs.Decimal.{decimal, decimalWithin}
 use Rattle.passes.specs.Chains.{from, chains}
-use Rattle.passes.specs.NumEdge.{NumEdge, same, firstAbove}
+use Rattle.text.specs.Bytes.{same}
+use Rattle.passes.specs.NumEdge.{NumEdge, firstAbove}
 use Rattle.passes.specs.Characters.{charEdges, charEdge}
 use Rattle.passes.specs.Passes.{fifthList, aboveAt, through, addedBy, after, added, chainsOf, joinedOf, next, joined, over, overDigits, d1Rule, g1Rule, g2Rule, g3Rule, g4Rule, digitEdge, gap, nearest, begin, longer, retags, countedValue, countedBase, powerOfTen, powerWithin}
 use Rattle.grammar.specs.Plain.{Char, digit, ten, large, codePoint, plain, plainRecords, plainRecord, 零, 一, 二, 四, 五, 七, 九, 十, 百, 千, 万, 億}
@@ -27,7 +28,7 @@ answerOf es (some place) = Refused7 place
 
 pub answer : List ℕ → Answer
 unfolding through addedBy after added chainsOf joinedOf next joined over overDigits d1Rule g1Rule g2Rule g3Rule g4Rule digitEdge gap nearest begin longer retags countedValue countedBase powerOfTen powerWithin from chains firstAbove charEdges charEdge find same chars decode seq encode decimal decimalWithin plain plainRecords plainRecord
-answer line = answerOf (fifthList plain line) (aboveAt plain line)
+answer line = answerOf (fifthList plain (chars line)) (aboveAt plain (chars line))
 
 -- the answer for the characters w
 pub read : List Char → Answer

@@ -5,7 +5,7 @@ use mathlib.Core.Bool.{true}
 use mathlib.Core.List.{List, [], _∷_, map}
 use mathlib.Core.Option.{none, some}
 use Rattle.dicts.specs.Table.{find}
-use Rattle.text.specs.Line.{Scalars}
+use Rattle.text.specs.Text.{Scalars}
 use Rattle.text.specs.Sequence.{encode, scalar}
 use Rattle.whole.specs.Decimal.{decimal}
 use Rattle.passes.specs.NumEdge.{NumEdge}

@@ -10,7 +10,8 @@ use Rattle.dicts.specs.Table.{Text}
 use Rattle.text.specs.Sequence.{encode}
 use Rattle.whole.specs.Decimal.{decimal, decimalWithin}
 use Rattle.whole.specs.Whole.{TOP}
-use Rattle.passes.specs.NumEdge.{NumEdge, same, firstAbove}
+use Rattle.text.specs.Bytes.{same}
+use Rattle.passes.specs.NumEdge.{NumEdge, firstAbove}
 use Rattle.passes.specs.Characters.{lowest, gcd, gcdWithin}
 use Rattle.passes.specs.Chains.{from, chains}
 use Rattle.passes.specs.Passes.{Pass, D1, G1, G2, G3, G4, digitType, cjk, after, chainsOf, next, joined, over, overDigits, d1Rule, g1Rule, g2Rule, g3Rule, g4Rule, digitEdge, gap, nearest, begin, longer, retags, countedValue, countedBase, powerOfTen, powerWithin}

@@ -2,7 +2,7 @@
 --     lowest f          the fraction f in lowest terms; 0/d is 0/1
 --     charEdge i c r    the edge of the code point c with record r, at place i
 --     charEdges rs i w  the edges of the code points w, the first of them at place i, in line order
---     firstList t line  D1's list: the edges of the characters of a line, read with the table t
+--     firstList t w     D1's list: the edges of a line of the code points w, read with the table t
 --     Assumes nothing.
 use Prim.Native.Nat.{ℕ, zero, suc, _/_, _%_}
 use mathlib.Core.Bool.{true, false}
@@ -10,7 +10,6 @@ use mathlib.Core.List.{List, [], _∷_}
 use mathlib.Core.Option.{Option, none, some, Option·getD, Option·map}
 use lib.Dec.{eqb}
 use Rattle.dicts.specs.Table.{Record, Table, find}
-use Rattle.text.specs.Line.{chars}
 use Rattle.text.specs.Sequence.{encode}
 use Rattle.passes.specs.NumEdge.{NumEdge}
 
@@ -55,4 +54,4 @@ charEdges rs i (c ∷ w) = withEdge i c (find rs c) (charEdges rs (suc i) w)
 
 -- "D1's list is these edges in line order, without the given ones."
 abbrev pub firstList : Table → List ℕ → List NumEdge
-firstList t line = charEdges (t .records) 0 (chars line)
+firstList t w = charEdges (t .records) 0 w

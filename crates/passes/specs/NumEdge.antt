@@ -1,16 +1,15 @@
 -- A numeric edge with 01's fields, as the passes see it: values are whole numbers, texts are bytes. Definitions only.
 --     NumEdge         the edge; a field that is absent is none
---     same s t        the texts s and t are equal
 --     orZero o        a number, where a missing one counts as 0
 --     has o           the number is there
 --     above e         e has a value, and it is above TOP
 --     firstAbove es   the start of the first edge of es whose value is above TOP, where there is one
 --     Assumes nothing.
 use Prim.Native.Nat.{ℕ}
-use mathlib.Core.Bool.{Bool, true, false, cond, _&&_}
+use mathlib.Core.Bool.{Bool, true, false, cond}
 use mathlib.Core.List.{List, [], _∷_}
 use mathlib.Core.Option.{Option, none, some}
-use lib.Dec.{eqb, ltb}
+use lib.Dec.{ltb}
 use Rattle.dicts.specs.Table.{Text}
 use Rattle.whole.specs.Whole.{TOP}
 
@@ -30,12 +29,6 @@ pub record NumEdge : Type 0 where
   pub large-power : Bool
   pub active : Bool
   pub value-s : Option Text
-
-unfoldable pub same : Text → Text → Bool
-same [] [] = true
-same [] (b ∷ t) = false
-same (a ∷ s) [] = false
-same (a ∷ s) (b ∷ t) = eqb a b && same s t
 
 abbrev pub orZero : Option ℕ → ℕ
 orZero none = 0

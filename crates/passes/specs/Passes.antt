@@ -8,9 +8,9 @@
 --     through ps l   the list after the passes ps in turn
 --     addedBy ps l   the edges that the passes ps join in turn, in order
 --     five           the five passes
---     fifthList t line     the list after the fifth pass, of a line read with the table t
---     joinedEdges t line   the edges that the five passes join, in order
---     aboveAt t line       where the call is refused 7: the start of the first joined edge with a value above TOP, where there is one
+--     fifthList t w     the list after the fifth pass, of a line of the code points w read with the table t
+--     joinedEdges t w   the edges that the five passes join, in order
+--     aboveAt t w       where the call is refused 7: the start of the first joined edge with a value above TOP, where there is one
 --     Assumes nothing.
 use Prim.Native.Nat.{ℕ, zero, suc, _+_, _*_, _/_, _%_}
 use mathlib.Core.Bool.{Bool, true, false, _&&_, not, cond, _||_}
@@ -20,7 +20,8 @@ use lib.Dec.{leb, ltb, eqb}
 use Rattle.dicts.specs.Table.{Text, Table}
 use Rattle.text.specs.Sequence.{encode}
 use Rattle.whole.specs.Decimal.{decimal}
-use Rattle.passes.specs.NumEdge.{NumEdge, same, orZero, has, firstAbove}
+use Rattle.text.specs.Bytes.{same}
+use Rattle.passes.specs.NumEdge.{NumEdge, orZero, has, firstAbove}
 use Rattle.passes.specs.Characters.{firstList}
 use Rattle.passes.specs.Chains.{chains}
 
@@ -230,11 +231,11 @@ abbrev pub five : List Pass
 five = D1 ∷ G1 ∷ G2 ∷ G3 ∷ G4 ∷ []
 
 abbrev pub fifthList : Table → List ℕ → List NumEdge
-fifthList t line = through five (firstList t line)
+fifthList t w = through five (firstList t w)
 
 abbrev pub joinedEdges : Table → List ℕ → List NumEdge
-joinedEdges t line = addedBy five (firstList t line)
+joinedEdges t w = addedBy five (firstList t w)
 
 -- refusal 7: "a value above TOP made by D1 to G4", at the "start of the first such edge, in pass order"
 abbrev pub aboveAt : Table → List ℕ → Option ℕ
-aboveAt t line = firstAbove (joinedEdges t line)
+aboveAt t w = firstAbove (joinedEdges t w)
