@@ -106,21 +106,21 @@ module _ (b x y z : ℕ) where
 
 -- the rows of three and of four bytes, by what their limits rule out: overlong forms, surrogates and what is above 0x10FFFF
 module _ (b lo hi : ℕ) (s : List ℕ) where
-  three-sound : 0xE0 ≤ b → b ≤ 0xEF → 0x80 ≤ lo → hi ≤ 0xBF
+  three-sound : (0xE0 ≤ b) × (b ≤ 0xEF) × (0x80 ≤ lo) × (hi ≤ 0xBF)
       → ((x y : ℕ) → lo ≤ x → x ≤ hi → 0x80 ≤ y → y ≤ 0xBF → let c = six (six (b % 16) x) y in (0x800 ≤ c) × (scalar c ≡ true))
       → Sound (b ∷ s) (trailing 2 lo hi (b % 16) 1 s)
-  three-sound h k l m f =
+  three-sound h f =
       trailing-sound 2 lo hi (b % 16) (b ∷ []) s
-      (λ x p q y r t. let g = f x y p q r t in (three-bytes b x y 0 h k (omega arith) (omega arith) r t (g .0), g .1))
+      (λ x p q y r t. let g = f x y p q r t in (three-bytes b x y 0 (h .0) (h .1) (omega arith) (omega arith) r t (g .0), g .1))
 
-  four-sound : 0xF0 ≤ b → b ≤ 0xF4 → 0x80 ≤ lo → hi ≤ 0xBF
+  four-sound : (0xF0 ≤ b) × (b ≤ 0xF4) × (0x80 ≤ lo) × (hi ≤ 0xBF)
       → ((x y z : ℕ) → lo ≤ x → x ≤ hi → 0x80 ≤ y → y ≤ 0xBF → 0x80 ≤ z → z ≤ 0xBF
       → let c = six (six (six (b % 8) x) y) z in (0x10000 ≤ c) × (c ≤ 0x10FFFF))
       → Sound (b ∷ s) (trailing 3 lo hi (b % 8) 1 s)
-  four-sound h k l m f =
+  four-sound h f =
       trailing-sound 3 lo hi (b % 8) (b ∷ []) s
       (λ x p q y r t z u v. let g = f x y z p q r t u v in
-      (four-bytes b x y z h k (omega arith) (omega arith) r t u v (g .0), scalar-high (six (six (six (b % 8) x) y) z) (omega arith) (g .1)))
+      (four-bytes b x y z (h .0) (h .1) (omega arith) (omega arith) r t u v (g .0), scalar-high (six (six (six (b % 8) x) y) z) (omega arith) (g .1)))
 
 seq-sound : (s : List ℕ) → Sound s (seq s)
 unfolding seq bySize
@@ -129,14 +129,14 @@ seq-sound (b ∷ s) =
     by-row b (λ r. Sound (b ∷ s) (bySize (r .0) (r .1) (r .2) b s))
     (λ h. trailing-sound 0 0 0 b (b ∷ []) s (encode-one b (omega arith), scalar-low b (omega arith)))
     (λ h k. trailing-sound 1 0x80 0xBF (b % 32) (b ∷ []) s (λ x p q. (two-bytes b x 0 0 h k p q, scalar-low (six (b % 32) x) (omega arith))))
-    (λ e. three-sound b 0xA0 0xBF s (omega arith) (omega arith) (omega arith) (omega arith) (λ x y p q r t. (omega arith, scalar-low (six (six (b % 16) x) y) (omega arith))))
-    (λ h k. three-sound b 0x80 0xBF s (omega arith) (omega arith) (omega arith) (omega arith) (λ x y p q r t. (omega arith, scalar-low (six (six (b % 16) x) y) (omega arith))))
-    (λ e. three-sound b 0x80 0x9F s (omega arith) (omega arith) (omega arith) (omega arith) (λ x y p q r t. (omega arith, scalar-low (six (six (b % 16) x) y) (omega arith))))
-    (λ h k. three-sound b 0x80 0xBF s (omega arith) (omega arith) (omega arith) (omega arith)
+    (λ e. three-sound b 0xA0 0xBF s (omega arith) (λ x y p q r t. (omega arith, scalar-low (six (six (b % 16) x) y) (omega arith))))
+    (λ h k. three-sound b 0x80 0xBF s (omega arith) (λ x y p q r t. (omega arith, scalar-low (six (six (b % 16) x) y) (omega arith))))
+    (λ e. three-sound b 0x80 0x9F s (omega arith) (λ x y p q r t. (omega arith, scalar-low (six (six (b % 16) x) y) (omega arith))))
+    (λ h k. three-sound b 0x80 0xBF s (omega arith)
     (λ x y p q r t. (omega arith, scalar-high (six (six (b % 16) x) y) (omega arith) (omega arith))))
-    (λ e. four-sound b 0x90 0xBF s (omega arith) (omega arith) (omega arith) (omega arith) (λ x y z p q r t u v. (omega arith, omega arith)))
-    (λ h k. four-sound b 0x80 0xBF s (omega arith) (omega arith) (omega arith) (omega arith) (λ x y z p q r t u v. (omega arith, omega arith)))
-    (λ e. four-sound b 0x80 0x8F s (omega arith) (omega arith) (omega arith) (omega arith) (λ x y z p q r t u v. (omega arith, omega arith)))
+    (λ e. four-sound b 0x90 0xBF s (omega arith) (λ x y z p q r t u v. (omega arith, omega arith)))
+    (λ h k. four-sound b 0x80 0xBF s (omega arith) (λ x y z p q r t u v. (omega arith, omega arith)))
+    (λ e. four-sound b 0x80 0x8F s (omega arith) (λ x y z p q r t u v. (omega arith, omega arith)))
     (λ h k. ill)
 
 -- the same for each answer of `seq`

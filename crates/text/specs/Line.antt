@@ -2,7 +2,7 @@
 --     walked s p      the first characters of s, at most p: how many they are, and their length in bytes
 --     maxChars        the most characters that a line may have
 --     lineCheck s     refusal 2, then refusal 3, or the count of characters
---     lineRefusal r, linePlace r    the scope's number of an answer, 0 where the line is accepted; its place, or the count
+--     lineRefusal r, lineAt r    the scope's number of an answer, 0 where the line is accepted; its offset, or the count
 use Prim.Native.Nat.{ℕ}
 use mathlib.Core.Bool.{cond}
 use mathlib.Core.List.{List}
@@ -30,7 +30,7 @@ lineRefusal (Chars n) = 0
 lineRefusal (IllFormed at) = 2
 lineRefusal (TooLong at) = 3
 
-abbrev pub linePlace : LineCheck → ℕ
-linePlace (Chars n) = n
-linePlace (IllFormed at) = at .0
-linePlace (TooLong at) = at .0
+abbrev pub lineAt : LineCheck → ℕ
+lineAt (Chars n) = n
+lineAt (IllFormed at) = at .0
+lineAt (TooLong at) = at .0
