@@ -13,3 +13,4 @@ pub mod Settled
 pub mod Demand3
 pub mod Marked
 pub mod MarkedReadings
+pub mod PlainTable

@@ -1,4 +1,5 @@
 -- The definitions of the plain table and the grammar.
 pub mod Plain
+pub mod PlainBytes
 pub mod Row
 pub mod Grammar

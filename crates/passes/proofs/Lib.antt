@@ -2,3 +2,4 @@
 pub mod ChainsLaws
 pub mod AboveLaws
 pub mod Cases
+pub mod LowestLaws
