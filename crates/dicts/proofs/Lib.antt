@@ -1,4 +1,5 @@
--- Laws for the proofs of this crate's functions.
+-- Laws for the proofs of this crate's functions and its callers'.
 pub mod LayoutLaws
 pub mod ContentLaws
 pub mod CheckLaws
+pub mod LookupLaws

@@ -77,6 +77,11 @@ digitRule r = cond (isDigitType (r .type)) (legalDigit (r .value) (r .rom)) true
 unfoldable pub legalRecord : ℕ → Record → Bool
 legalRecord least r = legalCodePoint least (r .code-point) && (legalTexts r && (legalNumbers (numbersIn r) && digitRule r))
 
+-- code points rise, the first no lower than `least`
+unfoldable pub rising : ℕ → List Record → Bool
+rising least [] = true
+rising least (r ∷ rs) = leb least (r .code-point) && rising (r .code-point + 1) rs
+
 -- ---- the table
 unfoldable pub readTexts : ℕ → List ℕ → ℕ → Checked (List Text)
 readTexts zero s at = Fine [] at

@@ -1,4 +1,6 @@
+-- The definitions that the contracts of `dicts` cite.
 pub mod Table
 pub mod Layout
 pub mod Check
 pub mod Answers
+pub mod Lookup
