@@ -1,0 +1,5 @@
+-- Laws of the definitions in specs/, for this crate's proofs and its callers'.
+pub mod PowerLaws
+pub mod ChainLaws
+pub mod StoredLaws
+pub mod RunLaws

@@ -1,0 +1,277 @@
+-- Laws of stored edges (specs/Stored.antt), for this crate's proofs and its callers'. No contract cites this file.
+-- In order: the fields of a record; a record written field by field; what was written is read; lists of records.
+-- Assumes nothing.
+use mathlib.Core.Path.{_≡_, refl, sym, ap, _∙_, subst}
+use mathlib.Core.Logic.{_⊎_, inl, inr}
+use mathlib.Core.Bool.{Bool, true, false}
+use mathlib.Core.List.{List, [], _∷_, _++_}
+use Prim.Native.Nat.{ℕ, zero, suc, _+_, _*_, _-_, _/_, _%_, _^_, _≤_, _<_}
+use native.Mathlib.Nat.{add-zero, zero-add, suc-add, add-suc}
+use native.Mathlib.Numerals.{add-one}
+use native.Mathlib.Omega.{arith}
+use lib.ListN.{length, take, drop, getD}
+use lib.Seq.{sets, length-sets, drop-drop}
+use lib.Dec.{eqb}
+use Rattle.fields.specs.Fields.{le, leAt, bytesOf}
+use Rattle.fields.specs.Part.{part}
+use Rattle.fields.proofs.FieldsLaws.{le-bytesOf, length-bytesOf, leAt-of-part, leAt-lt}
+use Rattle.fields.proofs.PartLaws.{part-sets, part-sets-other, drop-sets}
+use Rattle.whole.specs.Whole.{TOP}
+use Rattle.whole.proofs.SetsLaws.{sets-then}
+use Rattle.pass_list.specs.Item.{Item, numData, Small, AllSmall, nil, cons, Fits}
+use Rattle.pass_list.specs.Stored.{digitOf, bit, mapOf, numBytes, recordBytes, itemOf, itemAt, itemsAt}
+
+-- ---- the fields of a record, each at its own offset
+abbrev pub fieldsAt : List ℕ → ℕ → Item
+fieldsAt s at = record {
+  start = leAt s at 2;
+  end = leAt s (at + 2) 2;
+  kind = leAt s (at + 4) 2;
+  record-at = leAt s (at + 32) 8;
+  value = leAt s (at + 8) 8;
+  base = leAt s (at + 16) 8;
+  mult = leAt s (at + 24) 8;
+  script-at = leAt s (at + 40) 8;
+  script-len = leAt s (at + 48) 8;
+  has-value = bit (leAt s (at + 6) 2) 2;
+  has-base = bit (leAt s (at + 6) 2) 8;
+  has-mult = bit (leAt s (at + 6) 2) 16;
+  has-script = bit (leAt s (at + 6) 2) 32;
+  large-power = bit (leAt s (at + 6) 2) 64;
+  digit = bit (leAt s (at + 6) 2) 256;
+  gap = bit (leAt s (at + 6) 2) 512;
+  cjk = bit (leAt s (at + 6) 2) 1024;
+}
+
+pub itemAt-fields : (s : List ℕ) (at : ℕ) → itemAt s at ≡ fieldsAt s at
+unfolding itemAt itemOf
+itemAt-fields s at =
+    let at-field : (i w : ℕ) → i + w ≤ 56 → leAt (part s at 56) i w ≡ leAt s (at + i) w = λ i w h. leAt-of-part s at 56 i w h in
+    rw (at-field 0 2 (omega arith), add-zero at, at-field 2 2 (omega arith), at-field 4 2 (omega arith), at-field 6 2 (omega arith), at-field 8 8 (omega arith), at-field 16 8 (omega arith), at-field 24 8 (omega arith), at-field 32 8 (omega arith), at-field 40 8 (omega arith), at-field 48 8 (omega arith))
+
+-- a record of bytes fits, where 01's bounds hold
+pub itemAt-fits : (s : List ℕ) (at : ℕ) → ((j : ℕ) → getD s j 0 < 256) → Small (itemAt s at) → Fits (itemAt s at)
+itemAt-fits s at bytes small =
+    subst Fits (sym (itemAt-fields s at))
+    (record {
+      small = subst Small (itemAt-fields s at) small;
+      start = leAt-lt s at 2 bytes;
+      end = leAt-lt s (at + 2) 2 bytes;
+      kind = leAt-lt s (at + 4) 2 bytes;
+      record-at = leAt-lt s (at + 32) 8 bytes;
+      script-at = leAt-lt s (at + 40) 8 bytes;
+      script-len = leAt-lt s (at + 48) 8 bytes;
+    })
+
+-- ---- a record written field by field: a field, and behind it the rest
+put-field : (s : List ℕ) {t u : List ℕ} (at next w n : ℕ) (rest : List ℕ) → next ≡ at + w → t ≡ sets s at (bytesOf w n) → u ≡ sets t next rest → u ≡ sets s at (bytesOf w n ++ rest)
+put-field s at next w n rest e p q = sets-then s at next (bytesOf w n) rest p (e ∙ rw (length-bytesOf w n)) q
+
+module _ (s : List ℕ) {t u v w : List ℕ} (at : ℕ) where
+  pub put-head : (z : List ℕ) (x : Item) → t ≡ sets s at (bytesOf 2 (x .start)) → u ≡ sets t (at + 2) (bytesOf 2 (x .end)) → v ≡ sets u (at + 4) (bytesOf 2 (x .kind))
+      → w ≡ sets v (at + 6) (bytesOf 2 (mapOf (numData x))) → z ≡ sets w (at + 8) (numBytes x) → z ≡ sets s at (recordBytes x)
+  unfolding recordBytes
+  put-head z x a b c d e =
+      put-field s at (at + 2) 2 (x .start) _ refl a
+      (put-field t (at + 2) (at + 4) 2 (x .end) _ (omega arith) b
+      (put-field u (at + 4) (at + 6) 2 (x .kind) _ (omega arith) c
+      (put-field v (at + 6) (at + 8) 2 (mapOf (numData x)) _ (omega arith) d e)))
+
+  pub put-numbers : {y : List ℕ} (z : List ℕ) (x : Item) → t ≡ sets s at (bytesOf 8 (x .value)) → u ≡ sets t (at + 8) (bytesOf 8 (x .base)) → v ≡ sets u (at + 16) (bytesOf 8 (x .mult))
+      → w ≡ sets v (at + 24) (bytesOf 8 (x .record-at)) → y ≡ sets w (at + 32) (bytesOf 8 (x .script-at)) → z ≡ sets y (at + 40) (bytesOf 8 (x .script-len)) → z ≡ sets s at (numBytes x)
+  unfolding numBytes
+  put-numbers z x a b c d e f =
+      put-field s at (at + 8) 8 (x .value) _ refl a
+      (put-field t (at + 8) (at + 16) 8 (x .base) _ (omega arith) b
+      (put-field u (at + 16) (at + 24) 8 (x .mult) _ (omega arith) c
+      (put-field v (at + 24) (at + 32) 8 (x .record-at) _ (omega arith) d
+      (put-field w (at + 32) (at + 40) 8 (x .script-at) _ (omega arith) e f))))
+
+-- ---- what was written is read
+digit-small : (b : Bool) → digitOf b ≤ 1
+digit-small true = omega arith
+digit-small false = omega arith
+
+digit-back : (b : Bool) → eqb (digitOf b) 1 ≡ b
+digit-back true = refl
+digit-back false = refl
+
+record Marks (x : Item) : Type 0 where
+  has-value : digitOf (x .has-value) ≤ 1
+  has-base : digitOf (x .has-base) ≤ 1
+  has-mult : digitOf (x .has-mult) ≤ 1
+  has-script : digitOf (x .has-script) ≤ 1
+  large-power : digitOf (x .large-power) ≤ 1
+  digit : digitOf (x .digit) ≤ 1
+  gap : digitOf (x .gap) ≤ 1
+  cjk : digitOf (x .cjk) ≤ 1
+
+record MapBits (x : Item) : Type 0 where
+  has-value : mapOf (numData x) / 2 % 2 ≡ digitOf (x .has-value)
+  has-base : mapOf (numData x) / 8 % 2 ≡ digitOf (x .has-base)
+  has-mult : mapOf (numData x) / 16 % 2 ≡ digitOf (x .has-mult)
+  has-script : mapOf (numData x) / 32 % 2 ≡ digitOf (x .has-script)
+  large-power : mapOf (numData x) / 64 % 2 ≡ digitOf (x .large-power)
+  digit : mapOf (numData x) / 256 % 2 ≡ digitOf (x .digit)
+  gap : mapOf (numData x) / 512 % 2 ≡ digitOf (x .gap)
+  cjk : mapOf (numData x) / 1024 % 2 ≡ digitOf (x .cjk)
+
+-- each mark is its own bit of the map
+module _ (x : Item) where
+  marks-small : Marks x
+  marks-small = record {
+    has-value = digit-small (x .has-value);
+    has-base = digit-small (x .has-base);
+    has-mult = digit-small (x .has-mult);
+    has-script = digit-small (x .has-script);
+    large-power = digit-small (x .large-power);
+    digit = digit-small (x .digit);
+    gap = digit-small (x .gap);
+    cjk = digit-small (x .cjk);
+  }
+
+  map-bits : MapBits x
+  map-bits =
+      let m = marks-small in
+      record {
+        has-value = omega arith;
+        has-base = omega arith;
+        has-mult = omega arith;
+        has-script = omega arith;
+        large-power = omega arith;
+        digit = omega arith;
+        gap = omega arith;
+        cjk = omega arith;
+      }
+
+  map-small : mapOf (numData x) < 2 ^ 16
+  map-small = let m = marks-small in omega arith
+
+-- the numbers of a record's bytes
+record Back (x : Item) : Type 0 where
+  start : leAt (recordBytes x) 0 2 ≡ x .start
+  end : leAt (recordBytes x) 2 2 ≡ x .end
+  kind : leAt (recordBytes x) 4 2 ≡ x .kind
+  map : leAt (recordBytes x) 6 2 ≡ mapOf (numData x)
+  value : leAt (recordBytes x) 8 8 ≡ x .value
+  base : leAt (recordBytes x) 16 8 ≡ x .base
+  mult : leAt (recordBytes x) 24 8 ≡ x .mult
+  record-at : leAt (recordBytes x) 32 8 ≡ x .record-at
+  script-at : leAt (recordBytes x) 40 8 ≡ x .script-at
+  script-len : leAt (recordBytes x) 48 8 ≡ x .script-len
+
+numbers-back : (x : Item) → Fits x → Back x
+unfolding leAt le part bytesOf recordBytes numBytes
+numbers-back x f =
+    let small = f .small in
+    record {
+      start = le-bytesOf 2 (x .start) (f .start);
+      end = le-bytesOf 2 (x .end) (f .end);
+      kind = le-bytesOf 2 (x .kind) (f .kind);
+      map = le-bytesOf 2 (mapOf (numData x)) (map-small x);
+      value = le-bytesOf 8 (x .value) (omega arith);
+      base = le-bytesOf 8 (x .base) (omega arith);
+      mult = le-bytesOf 8 (x .mult) (omega arith);
+      record-at = le-bytesOf 8 (x .record-at) (f .record-at);
+      script-at = le-bytesOf 8 (x .script-at) (f .script-at);
+      script-len = le-bytesOf 8 (x .script-len) (f .script-len);
+    }
+
+record-back : (x : Item) → Fits x → itemOf (recordBytes x) ≡ x
+unfolding itemOf
+record-back x f =
+    let b = numbers-back x f in
+    let m = map-bits x in
+    rw (
+      b .start,
+      b .end,
+      b .kind,
+      b .map,
+      b .value,
+      b .base,
+      b .mult,
+      b .record-at,
+      b .script-at,
+      b .script-len,
+      m .has-value,
+      m .has-base,
+      m .has-mult,
+      m .has-script,
+      m .large-power,
+      m .digit,
+      m .gap,
+      m .cjk,
+      digit-back (x .has-value),
+      digit-back (x .has-base),
+      digit-back (x .has-mult),
+      digit-back (x .has-script),
+      digit-back (x .large-power),
+      digit-back (x .digit),
+      digit-back (x .gap),
+      digit-back (x .cjk),
+    )
+
+pub length-record : (x : Item) → length (recordBytes x) ≡ 56
+unfolding recordBytes numBytes bytesOf
+length-record x = refl
+
+pub item-same : (s : List ℕ) (at : ℕ) (x : Item) → Fits x → at + 56 ≤ length s → itemAt (sets s at (recordBytes x)) at ≡ x
+unfolding itemAt
+item-same s at x f h = ap itemOf (part-sets s at (recordBytes x) 56 (length-record x) h) ∙ record-back x f
+
+-- ---- lists of records
+-- what lies behind k records is read as before
+pub item-behind : (s t : List ℕ) (at : ℕ) → drop at t ≡ drop at s → itemAt t at ≡ itemAt s at
+unfolding itemAt part
+item-behind s t at e = ap (λ (l : List ℕ). itemOf (take 56 l)) e
+
+pub items-cons : (s : List ℕ) (i n : ℕ) → i < n → itemsAt s i (n - i) ≡ itemAt s (i * 56) ∷ itemsAt s (i + 1) (n - (i + 1))
+unfolding itemsAt
+items-cons s i n h = let e : n - i ≡ suc (n - suc i) = omega arith in rw (add-one i, e)
+
+pub items-first : (s : List ℕ) (n : ℕ) → 0 < n → itemsAt s 0 n ≡ itemAt s 0 ∷ itemsAt s 1 (n - 1)
+items-first s n h = let e : n - 0 ≡ n = omega arith in rw e at (items-cons s 0 n h)
+
+pub items-none : (s : List ℕ) (i n : ℕ) → n ≤ i → itemsAt s i (n - i) ≡ []
+unfolding itemsAt
+items-none s i n h = let e : n - i ≡ 0 = omega arith in rw e
+
+pub length-items : (s : List ℕ) (i n : ℕ) → length (itemsAt s i n) ≡ n
+unfolding itemsAt
+length-items s i zero = refl
+length-items s i (suc n) = ap suc (length-items s (suc i) n)
+
+pub items-other : (s : List ℕ) (at : ℕ) (bs : List ℕ) (i n : ℕ) → (i + n) * 56 ≤ at → itemsAt (sets s at bs) i n ≡ itemsAt s i n
+unfolding itemsAt itemAt
+items-other s at bs i zero h = refl
+items-other s at bs i (suc n) h = rw (part-sets-other s at bs (i * 56) 56 (inr (omega arith)), items-other s at bs (suc i) n (omega arith))
+
+pub items-snoc : (s : List ℕ) (i n : ℕ) → itemsAt s i (n + 1) ≡ itemsAt s i n ++ (itemAt s ((i + n) * 56) ∷ [])
+unfolding itemsAt
+items-snoc s i zero = rw add-zero
+items-snoc s i (suc n) = let e : i + suc n ≡ suc i + n = omega arith in rw (suc-add n 1, e) (ap (λ (l : List Item). itemAt s (i * 56) ∷ l) (items-snoc s (suc i) n))
+
+-- one more record, written right behind n of them
+pub items-put : (s : List ℕ) (n : ℕ) (x : Item) → Fits x → n * 56 + 56 ≤ length s → itemsAt (sets s (n * 56) (recordBytes x)) 0 (n + 1) ≡ itemsAt s 0 n ++ (x ∷ [])
+items-put s n x f h =
+    let e : (0 + n) * 56 ≡ n * 56 = omega arith in
+    items-snoc (sets s (n * 56) (recordBytes x)) 0 n
+    ∙ rw (e, items-other s (n * 56) (recordBytes x) 0 n (omega arith), item-same s (n * 56) x f h)
+
+small-at : (s : List ℕ) (i n j : ℕ) → AllSmall (itemsAt s i n) → j < n → Small (itemAt s ((i + j) * 56))
+unfolding itemsAt
+small-at s i zero j a h = absurd (omega arith)
+small-at s i (suc n) zero (cons x a) h = rw add-zero x
+small-at s i (suc n) (suc j) (cons x a) h = let e : i + suc j ≡ suc i + j = omega arith in rw e (small-at s (suc i) n j a (omega arith))
+
+pub small-in : (s : List ℕ) (n j : ℕ) → AllSmall (itemsAt s 0 n) → j < n → Small (itemAt s (j * 56))
+small-in s n j a h = let e : j * 56 ≡ (0 + j) * 56 = omega arith in rw e (small-at s 0 n j a h)
+
+-- the bytes behind the i-th record stay as they are where earlier ones are written
+pub behind-put : (s t : List ℕ) (i k : ℕ) (x : Item) → k < i → drop (i * 56) t ≡ drop (i * 56) s → drop (i * 56) (sets t (k * 56) (recordBytes x)) ≡ drop (i * 56) s
+behind-put s t i k x h e = let l = length-record x in drop-sets t (k * 56) (recordBytes x) (i * 56) (omega arith) ∙ e
+
+pub behind-next : (s t : List ℕ) (i : ℕ) → drop (i * 56) t ≡ drop (i * 56) s → drop ((i + 1) * 56) t ≡ drop ((i + 1) * 56) s
+behind-next s t i e =
+    let a : (i + 1) * 56 ≡ i * 56 + 56 = omega arith in
+    rw (a, ← (drop-drop 56 (i * 56) t), ← (drop-drop 56 (i * 56) s), e)

@@ -1,0 +1,25 @@
+-- `retagged` meets its contract: the f64 product is exact. Assumes nothing.
+use mathlib.Core.Path.{ap}
+use native.Mathlib.Omega.{arith}
+use Rattle.whole.proofs.WholeLaws.{ofNat-mul}
+use Prim.Native.Nat.{_/_}
+use Rattle.pass_list.specs.declared.record.PassEdge.{PassEdge}
+use Rattle.pass_list.specs.ItemPass.{withNumbers}
+use borrow.Author.Needs.{needs}
+use Rattle.pass_list.proofs.chain.retagged.Statement.{statement}
+use Rattle.pass_list.proofs.chain.retagged.Tie as tie
+
+of-u64-requires : tie.Need-of-u64-requires
+of-u64-requires c κs =
+    let x = c .before .pre .0 in
+    let s = x .1 .fits .small .base in
+    omega (arith, ap (λ (e : PassEdge). e .num .base) (x .1 .is))
+
+returns : tie.Need-returns
+unfolding withNumbers
+returns c x y p q =
+    let s = p .fits .small .base in
+    rw (c .before .before .before .before .before .of-u64 .ensures, p .is, q .is, ofNat-mul {n = x .base / 10} (q .fits .small .value) (omega arith))
+
+pub retagged-spec : {M : Type 1} → statement M
+retagged-spec = tie.close (tie.spec of-u64-requires returns)

@@ -1,0 +1,106 @@
+-- `num_at` meets its contract: it reads the fields one by one. Assumes nothing.
+use mathlib.Core.Path.{subst}
+use Rattle.pass_list.specs.Item.{Small}
+use Rattle.pass_list.proofs.StoredLaws.{itemAt-fields}
+use borrow.Author.Needs.{needs}
+use Rattle.pass_list.proofs.record.num_at.Statement.{statement}
+use Rattle.pass_list.proofs.record.num_at.Tie as tie
+
+add-u16-at : tie.Need-add-u16-at
+add-u16-at c = search needs
+
+u16-at-requires : tie.Need-u16-at-requires
+u16-at-requires c κs = search needs
+
+add-u64-at : tie.Need-add-u64-at
+add-u64-at c = search needs
+
+u64-at-requires : tie.Need-u64-at-requires
+u64-at-requires c κs = search needs
+
+of-u64-requires : tie.Need-of-u64-requires
+of-u64-requires c κs = rw (c .u64-at .ensures) (subst Small (itemAt-fields _ _) (c .before .before .before .pre .1) .value)
+
+add-u64-at-2 : tie.Need-add-u64-at-2
+add-u64-at-2 c = search needs
+
+u64-at-requires-2 : tie.Need-u64-at-requires-2
+u64-at-requires-2 c κs = search needs
+
+of-u64-requires-2 : tie.Need-of-u64-requires-2
+of-u64-requires-2 c κs = rw (c .u64-at2 .ensures) (subst Small (itemAt-fields _ _) (c .before .before .before .before .before .pre .1) .mult)
+
+add-u64-at-3 : tie.Need-add-u64-at-3
+add-u64-at-3 c = search needs
+
+u64-at-requires-3 : tie.Need-u64-at-requires-3
+u64-at-requires-3 c κs = search needs
+
+bit-requires : tie.Need-bit-requires
+bit-requires c κs = search needs
+
+bit-requires-2 : tie.Need-bit-requires-2
+bit-requires-2 c κs = search needs
+
+bit-requires-3 : tie.Need-bit-requires-3
+bit-requires-3 c κs = search needs
+
+bit-requires-4 : tie.Need-bit-requires-4
+bit-requires-4 c κs = search needs
+
+bit-requires-5 : tie.Need-bit-requires-5
+bit-requires-5 c κs = search needs
+
+bit-requires-6 : tie.Need-bit-requires-6
+bit-requires-6 c κs = search needs
+
+bit-requires-7 : tie.Need-bit-requires-7
+bit-requires-7 c κs = search needs
+
+bit-requires-8 : tie.Need-bit-requires-8
+bit-requires-8 c κs = search needs
+
+add-u64-at-4 : tie.Need-add-u64-at-4
+add-u64-at-4 c = search needs
+
+u64-at-requires-4 : tie.Need-u64-at-requires-4
+u64-at-requires-4 c κs = search needs
+
+add-u64-at-5 : tie.Need-add-u64-at-5
+add-u64-at-5 c = search needs
+
+u64-at-requires-5 : tie.Need-u64-at-requires-5
+u64-at-requires-5 c κs = search needs
+
+returns : tie.Need-returns
+returns c =
+    rw
+    (itemAt-fields _ _, c .u64-at5 .ensures, c .before .u64-at4 .ensures, c .before .before .bit8 .ensures, c .before .before .before .bit7 .ensures, c .before .before .before .before .bit6 .ensures, c .before .before .before .before .before .bit5 .ensures, c .before .before .before .before .before .before .bit4 .ensures, c .before .before .before .before .before .before .before .bit3 .ensures, c .before .before .before .before .before .before .before .before .bit2 .ensures, c .before .before .before .before .before .before .before .before .before .bit .ensures, c .before .before .before .before .before .before .before .before .before .before .u64-at3 .ensures, c .before .before .before .before .before .before .before .before .before .before .before .of-u642 .ensures, c .before .before .before .before .before .before .before .before .before .before .before .before .u64-at2 .ensures, c .before .before .before .before .before .before .before .before .before .before .before .before .before .of-u64 .ensures, c .before .before .before .before .before .before .before .before .before .before .before .before .before .before .u64-at .ensures, c .before .before .before .before .before .before .before .before .before .before .before .before .before .before .before .u16-at .ensures)
+
+pub num-at-spec : {M : Type 1} → statement M
+num-at-spec =
+    tie.close
+    (tie.spec
+    add-u16-at
+    u16-at-requires
+    add-u64-at
+    u64-at-requires
+    of-u64-requires
+    add-u64-at-2
+    u64-at-requires-2
+    of-u64-requires-2
+    add-u64-at-3
+    u64-at-requires-3
+    bit-requires
+    bit-requires-2
+    bit-requires-3
+    bit-requires-4
+    bit-requires-5
+    bit-requires-6
+    bit-requires-7
+    bit-requires-8
+    add-u64-at-4
+    u64-at-requires-4
+    add-u64-at-5
+    u64-at-requires-5
+    returns)
