@@ -3,3 +3,4 @@ pub mod Edge
 pub mod Layout
 pub mod Check
 pub mod View
+pub mod Write

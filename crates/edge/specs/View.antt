@@ -2,8 +2,6 @@
 --     viewAt s at         the head of the edge at an offset
 --     fieldsAt m s at     the fields of a numeric edge with map m whose orig_txt is at an offset; an absent number is 0, an absent string empty
 --     numericOf o c v d   the numeric data that the fields d say, their strings in the lists o (orig_txt), c (script) and v (value_s)
---     edgeOf ..           the edge of a span, type, txt and fields; regular ..: without fields
---     numData d           the fields d with their bits as f64; fieldsOf d is the way back
 --     Assumes nothing.
 use mathlib.Core.Path.{_≡_}
 use Prim.Native.Nat.{ℕ, _+_, _≤_}
