@@ -2,6 +2,7 @@
 -- In order: what holds along a list; the chains' parts are the list again, and each chain stops before the next; such chains are found again; two rules that go
 -- alike on lists that are related one by one.
 use mathlib.Core.Path.{_≡_, refl, ap, _∙_}
+use mathlib.Core.Bool.{Bool, true, false, cond}
 use mathlib.Core.List.{List, [], _∷_, map}
 use mathlib.Core.Option.{Option, none, some}
 use Prim.Native.Nat.{ℕ}
@@ -13,6 +14,10 @@ use Rattle.grammar.specs.Row.{Row, one, _▷_, _<>>_, last, head}
 abbrev pub OnSome : {A : Type 0} → (A → Type 0) → Option A → Type 0
 OnSome P none = Unit {0}
 OnSome P (some a) = P a
+
+pub on-cond : {A : Type 0} (P : A → Type 0) (b : Bool) (a : A) → (b ≡ true → P a) → OnSome P (cond b (some a) none)
+on-cond P true a f = f refl
+on-cond P false a f = tt
 
 -- both have no value, or both have one, and the two are related
 abbrev pub Both : {A B : Type 0} → (A → B → Type 0) → Option A → Option B → Type 0
@@ -127,6 +132,11 @@ module _ {A S : Type 0} (begin : A → S) (next : S → A → Option S) (parts :
   unfolding chains
   good-chains [] = tt
   good-chains (a ∷ l) = let (u, us, eq, hd, gd) = good-from l (begin a) (ok-begin a) in rw eq gd
+
+  -- what holds along the list holds inside the chains and between them, and each chain stops before the next
+  pub chains-along : (ok : A → Type 0) (stop : A → A → Type 0) (l : List A) → Along ok stop l
+      → Along (λ s. Inside ok stop (parts s) × Ok s) (λ s t. stop (last (parts s)) (head (parts t)) × Stop next parts s t) (chains begin next l)
+  chains-along ok stop l h = along-zip _ Ok _ (Stop next parts) (chains begin next l) (along-flat ok stop parts (chains begin next l) (rw (flat-chains l) h)) (good-chains l)
 
 -- good chains are found again
 module _ {A S : Type 0} (begin : A → S) (next : S → A → Option S) (parts : S → Row A) (Ok : S → Type 0)

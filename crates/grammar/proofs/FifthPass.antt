@@ -18,7 +18,7 @@ use Rattle.passes.specs.Passes.{G4, Chain, cjk, begin, longer, touches, over, j
 use Rattle.grammar.specs.Plain.{Digit, Ten, Large, digitValue, tenValue, largeValue, 十, 百, 千, 万, 億, 兆}
 use Rattle.grammar.specs.Row.{Row, one, _▷_, _<>>_, last, head}
 use Rattle.grammar.specs.Grammar.{Atom, run, times, power, Member, small, block, lone, Division, atomValue, atomBase, smallValue, smallBase, memberValue, memberBase, IsAtom, Follows, loneZero, nearBase, IsSmall, IsMember, IsBlock, singleDigit, countValue, countBase, IsNumeral, divisionValue}
-use Rattle.grammar.proofs.ChainParts.{OnSome, Tiles, Next, Along}
+use Rattle.grammar.proofs.ChainParts.{OnSome, on-cond, Tiles, Next, Along}
 use Rattle.grammar.proofs.Readings.{SmallsApart, Apart₄}
 use Rattle.grammar.proofs.FourPasses.{MemberEdge, memberView, runSize, atomSize, smallSize, digit-small}
 use Rattle.grammar.proofs.Tests.{le-true, true-le, and-left, and-right, eqb-self, eqb-true, eqb-false, regroup}
@@ -282,12 +282,7 @@ small-stops s (small t) h k e = go (isHigh (smallBase s)) (leb 1 (singleDigit (s
 -- what holds of the longer chain where the rule holds, holds of what `next` answers
 on-next : (P : Chain → Type 0) (c : Chain) (e : NumEdge) → (g4Rule c e ≡ true → P (longer c e (joined G4 (c .edge) e))) → OnSome P (next G4 c e)
 unfolding next
-on-next P c e f = go (touches c e) (g4Rule c e) refl
-  where
-    go : (t r : Bool) → g4Rule c e ≡ r → OnSome P (cond (t && r) (some (longer c e (joined G4 (c .edge) e))) none)
-    go true true h = f h
-    go true false h = tt
-    go false r h = tt
+on-next P c e f = on-cond P (touches c e && g4Rule c e) (longer c e (joined G4 (c .edge) e)) (λ t. f (and-right (touches c e) _ t))
 
 single-stops : (s : Row Atom) (m : Member) → Apart₄ (small s) m → leb 1 (singleDigit (small s)) ≡ true → ⊥
 single-stops s (small t) S e = after-single s (head t) e (S .0)

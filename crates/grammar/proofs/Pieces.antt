@@ -7,13 +7,13 @@
 -- has one part more, resume-k that the chain of a piece's parts is the piece.
 use Prim.Native.Nat.{ℕ}
 use mathlib.Core.Path.{_≡_, refl, _∙_}
-use mathlib.Core.Bool.{Bool, true, false, cond, _&&_}
+use mathlib.Core.Bool.{Bool, true, cond, _&&_}
 use mathlib.Core.List.{List, [], _∷_}
 use mathlib.Core.Option.{Option, none, some}
 use lib.Dec.{leb, ltb}
 use Rattle.passes.specs.Chains.{from, chains}
 use Rattle.grammar.specs.Row.{Row, one, _▷_, _<>>_}
-use Rattle.grammar.proofs.ChainParts.{OnSome, flat, flat-chains}
+use Rattle.grammar.proofs.ChainParts.{OnSome, on-cond, flat, flat-chains}
 use Rattle.grammar.specs.Plain.{Digit, Ten, Large, Char, digit, ten, large}
 use Rattle.grammar.specs.Grammar.{Atom, run, times, power, Member, small, block, lone, runValue, atomValue, atomBase, IsAtom, loneZero, nearBase}
 use Rattle.grammar.proofs.Tests.{le-true, true-le}
@@ -111,11 +111,7 @@ ok-begin₂ (large₁ l) = tt
 
 pub next-parts₂ : (s : Piece) (c : Token) → Ok₂ s → OnSome (λ t. (parts₂ t ≡ parts₂ s ▷ c) × Ok₂ t) (next₂ s c)
 next-parts₂ (atom (run r)) (digits q) h = tt
-next-parts₂ (atom (run r)) (ten₁ t) h = go (leb 1 (runValue r)) refl
-  where
-    go : (b : Bool) → leb 1 (runValue r) ≡ b → OnSome (λ p. (parts₂ p ≡ one (digits r) ▷ ten₁ t) × Ok₂ p) (cond b (some (atom (times r t))) none)
-    go true e = (refl, true-le 1 (runValue r) e)
-    go false e = tt
+next-parts₂ (atom (run r)) (ten₁ t) h = on-cond _ (leb 1 (runValue r)) (atom (times r t)) (λ e. (refl, true-le 1 (runValue r) e))
 next-parts₂ (atom (run r)) (large₁ l) h = tt
 next-parts₂ (atom (times r t)) u h = tt
 next-parts₂ (atom (power t)) u h = tt
@@ -167,11 +163,7 @@ ok-begin₃ (atom a) = tt
 ok-begin₃ (large₂ l) = tt
 
 pub next-parts₃ : (s : Part) (c : Piece) → Ok₃ s → OnSome (λ t. (parts₃ t ≡ parts₃ s ▷ c) × Ok₃ t) (next₃ s c)
-next-parts₃ (atoms s) (atom a) h = go (joins (nearBase s) a) refl
-  where
-    go : (b : Bool) → joins (nearBase s) a ≡ b → OnSome (λ p. (parts₃ p ≡ row-map atom s ▷ atom a) × Ok₃ p) (cond b (some (atoms (s ▷ a))) none)
-    go true e = (refl, (h, e))
-    go false e = tt
+next-parts₃ (atoms s) (atom a) h = on-cond _ (joins (nearBase s) a) (atoms (s ▷ a)) (λ e. (refl, (h, e)))
 next-parts₃ (atoms s) (large₂ l) h = tt
 next-parts₃ (large₃ l) p h = tt
 

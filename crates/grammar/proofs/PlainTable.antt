@@ -1,16 +1,14 @@
 -- The plain table as bytes is the plain table as records: the table that 01's layout reads from `plainBytes` is `plain`.
 use mathlib.Core.Path.{_≡_, refl}
-use mathlib.Core.List.{map}
 use lib.ListN.{length}
 use Rattle.text.specs.Bytes.{same}
-use Rattle.text.specs.Sequence.{seq, encode, scalar}
-use Rattle.text.specs.Text.{decode, left, wellFormed}
+use Rattle.text.specs.Sequence.{seq, encode}
+use Rattle.text.specs.Text.{decode, left}
 use Rattle.whole.specs.Decimal.{decimal, decimalWithin}
 use Rattle.fields.specs.Fields.{le, leAt, bytesOf}
 use Rattle.fields.specs.Part.{part}
-use Rattle.dicts.specs.Table.{Table}
 use Rattle.dicts.specs.Layout.{number, textOf, text, fraction, optional, readNumbers, readFields, readRecord}
-use Rattle.dicts.specs.Check.{Checked, Fine, item, allOf, legalMark, legalDigit, legalCodePoint, legalTexts, legalNumbers, digitRule, legalRecord, readTexts, readList, readRecords, readTable}
+use Rattle.dicts.specs.Check.{Fine, item, allOf, legalMark, legalDigit, legalCodePoint, legalTexts, legalNumbers, digitRule, legalRecord, readTexts, readList, readRecords, readTable}
 use Rattle.grammar.specs.Plain.{plain, plainRecords, plainRecord}
 use Rattle.grammar.specs.PlainBytes.{string, inRow, list, mapOf, recordBytes, tableBytes, plainBytes}
 

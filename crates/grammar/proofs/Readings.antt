@@ -9,7 +9,7 @@ use native.Mathlib.Omega.{arith}
 use lib.Dec.{leb, ltb}
 use Rattle.passes.specs.Chains.{chains}
 use Rattle.grammar.specs.Row.{Row, one, _▷_, _<>>_, last, head}
-use Rattle.grammar.proofs.ChainParts.{Along, Next, Inside, flat, Stop, flat-chains, good-chains, chains-flat, along-flat, flat-along, along-zip, along-map}
+use Rattle.grammar.proofs.ChainParts.{Along, Next, Inside, flat, Stop, good-chains, chains-along, chains-flat, flat-along, along-map}
 use Rattle.grammar.specs.Plain.{Digit, Char, digit}
 use Rattle.grammar.specs.Grammar.{Atom, run, times, power, Member, small, block, lone, Division, runValue, atomValue, atomBase, Follows, loneZero, nearBase, Below, IsSmall, IsMember, IsBlock, IsNumeral, runText, atomText, smallText, memberText, divisionText, Reading}
 use Rattle.grammar.proofs.Pieces.{row-map, Token, digits, Piece, atom, large₂, Part, atoms, large₃, begin₁, next₁, parts₁, Ok₁, parts-begin₁, next-parts₁, resume₁, begin₂, next₂, parts₂, Ok₂, parts-begin₂, ok-begin₂, next-parts₂, resume₂, begin₃, next₃, parts₃, Ok₃, parts-begin₃, ok-begin₃, next-parts₃, resume₃, begin₄, next₄, parts₄, Ok₄, parts-begin₄, next-parts₄, resume₄, joins, Joined, tokens, pieces, smalls, members, charsOf}
@@ -32,12 +32,12 @@ After₂ (large₂ l) q = Unit {0}
 no-digit : (r q : Row Digit) → next₁ (digits r) (head (row-map digit q)) ≡ none → ⊥
 no-digit r q e = Option·some-ne-none _ (rw (head-map digit q) at e)
 
+no-cond : {A : Type 0} (b : Bool) (a : A) → cond b (some a) none ≡ none → b ≡ false
+no-cond true a e = absurd (Option·some-ne-none _ e)
+no-cond false a e = refl
+
 no-times : (v : ℕ) (p : Piece) → cond (leb 1 v) (some p) none ≡ none → v ≡ 0
-no-times v p e = go (leb 1 v) refl e
-  where
-    go : (b : Bool) → leb 1 v ≡ b → cond b (some p) none ≡ none → v ≡ 0
-    go true h e = absurd (Option·some-ne-none _ e)
-    go false h e = let l : v < 1 = false-lt 1 v h in omega arith
+no-times v p e = let l : v < 1 = false-lt 1 v (no-cond (leb 1 v) p e) in omega arith
 
 after₂ : (p q : Piece) → Stop next₁ parts₁ (last (parts₂ p)) (head (parts₂ q)) → Stop next₂ parts₂ p q → After₂ p q
 after₂ (atom (run r)) (atom (run q)) e h = no-digit r q e
@@ -52,12 +52,9 @@ after₂ (large₂ l) q e h = tt
 
 along₂ : (w : List Char) → Along Ok₂ After₂ (pieces w)
 along₂ w =
-    let L = pieces w in
-    let back : flat parts₂ L ≡ tokens w = flat-chains begin₂ next₂ parts₂ Ok₂ parts-begin₂ ok-begin₂ next-parts₂ (tokens w) in
-    let p1 : Along Ok₁ (Stop next₁ parts₁) (flat parts₂ L) = rw back (good-chains begin₁ next₁ parts₁ Ok₁ parts-begin₁ (λ c. tt) next-parts₁ w) in
-    let p2 : Along Ok₂ (Stop next₂ parts₂) L = good-chains begin₂ next₂ parts₂ Ok₂ parts-begin₂ ok-begin₂ next-parts₂ (tokens w) in
-    along-map (λ p h. h .1) (λ p q h k e. after₂ p q (e .0) (e .1)) L
-    (along-zip _ Ok₂ _ (Stop next₂ parts₂) L (along-flat Ok₁ (Stop next₁ parts₁) parts₂ L p1) p2)
+    along-map (λ p h. h .1) (λ p q h k e. after₂ p q (e .0) (e .1)) (pieces w)
+    (chains-along begin₂ next₂ parts₂ Ok₂ parts-begin₂ ok-begin₂ next-parts₂ Ok₁ (Stop next₁ parts₁) (tokens w)
+    (good-chains begin₁ next₁ parts₁ Ok₁ parts-begin₁ (λ c. tt) next-parts₁ w))
 
 -- ---- level 3, smalls
 abbrev pub OkPart : Part → Type 0
@@ -73,17 +70,13 @@ Apart₃ (atoms s) (atoms t) = SmallsApart s t
 Apart₃ (atoms s) (large₃ l) = Unit {0}
 Apart₃ (large₃ l) q = Unit {0}
 
+is-zero : (b : Bool) (o : Option ℕ) (n : ℕ) → cond b o (some n) ≡ none → b ≡ true
+is-zero true o n e = refl
+is-zero false o n e = absurd (Option·some-ne-none _ e)
+
 near-none : (s : Row Atom) → nearBase s ≡ none → loneZero (last s) ≡ true
-near-none (one a) e = go (loneZero a) refl e
-  where
-    go : (b : Bool) → loneZero a ≡ b → cond b none (some (atomBase a)) ≡ none → loneZero a ≡ true
-    go true h e = h
-    go false h e = absurd (Option·some-ne-none _ e)
-near-none (s ▷ a) e = go (loneZero a) refl e
-  where
-    go : (b : Bool) → loneZero a ≡ b → cond b (nearBase s) (some (atomBase a)) ≡ none → loneZero a ≡ true
-    go true h e = h
-    go false h e = absurd (Option·some-ne-none _ e)
+near-none (one a) e = is-zero (loneZero a) none (atomBase a) e
+near-none (s ▷ a) e = is-zero (loneZero a) (nearBase s) (atomBase a) e
 
 -- no lone 零 follows another
 zero-zero : (a b : Atom) → loneZero a ≡ true → loneZero b ≡ true → Follows a b → ⊥
@@ -106,27 +99,19 @@ small-of (s ▷ a) i j =
     let f : Follows (last s) a = rw (last-map atom s) at (i .1) in
     (small-of s (i .0) (j .0), f, i .2, below s a f (j .1))
 
-no-join : (b : Bool) (p : Part) → cond b (some p) none ≡ none → b ≡ false
-no-join true p e = absurd (Option·some-ne-none _ e)
-no-join false p e = refl
-
 ok-part : (p : Part) → Inside Ok₂ After₂ (parts₃ p) × Ok₃ p → OkPart p
 ok-part (atoms s) h = small-of s (h .0) (h .1)
 ok-part (large₃ l) h = tt
 
 apart₃ : (p q : Part) → After₂ (last (parts₃ p)) (head (parts₃ q)) → Stop next₃ parts₃ p q → Apart₃ p q
-apart₃ (atoms s) (atoms t) a e = (rw (last-map atom s, head-map atom t) at a, no-join (joins (nearBase s) (head t)) (atoms (s ▷ head t)) (rw (head-map atom t) at e))
+apart₃ (atoms s) (atoms t) a e = (rw (last-map atom s, head-map atom t) at a, no-cond (joins (nearBase s) (head t)) (atoms (s ▷ head t)) (rw (head-map atom t) at e))
 apart₃ (atoms s) (large₃ l) a e = tt
 apart₃ (large₃ l) q a e = tt
 
 along₃ : (w : List Char) → Along OkPart Apart₃ (smalls w)
 along₃ w =
-    let L = smalls w in
-    let back : flat parts₃ L ≡ pieces w = flat-chains begin₃ next₃ parts₃ Ok₃ parts-begin₃ ok-begin₃ next-parts₃ (pieces w) in
-    let p2 : Along Ok₂ After₂ (flat parts₃ L) = rw back (along₂ w) in
-    let p3 : Along Ok₃ (Stop next₃ parts₃) L = good-chains begin₃ next₃ parts₃ Ok₃ parts-begin₃ ok-begin₃ next-parts₃ (pieces w) in
-    along-map ok-part (λ p q h k e. apart₃ p q (e .0) (e .1)) L
-    (along-zip _ Ok₃ _ (Stop next₃ parts₃) L (along-flat Ok₂ After₂ parts₃ L p2) p3)
+    along-map ok-part (λ p q h k e. apart₃ p q (e .0) (e .1)) (smalls w)
+    (chains-along begin₃ next₃ parts₃ Ok₃ parts-begin₃ ok-begin₃ next-parts₃ Ok₂ After₂ (pieces w) (along₂ w))
 
 -- ---- level 4, members
 abbrev pub Apart₄ : Member → Member → Type 0
@@ -150,12 +135,8 @@ apart₄ (lone l) m a e = tt
 
 pub along₄ : (w : List Char) → Along IsMember Apart₄ (members w)
 along₄ w =
-    let L = members w in
-    let back : flat parts₄ L ≡ smalls w = flat-chains begin₄ next₄ parts₄ Ok₄ parts-begin₄ (λ c. tt) next-parts₄ (smalls w) in
-    let p3 : Along OkPart Apart₃ (flat parts₄ L) = rw back (along₃ w) in
-    let p4 : Along Ok₄ (Stop next₄ parts₄) L = good-chains begin₄ next₄ parts₄ Ok₄ parts-begin₄ (λ c. tt) next-parts₄ (smalls w) in
-    along-map ok-member (λ p q h k e. apart₄ p q (e .0) (e .1)) L
-    (along-zip _ Ok₄ _ (Stop next₄ parts₄) L (along-flat OkPart Apart₃ parts₄ L p3) p4)
+    along-map ok-member (λ p q h k e. apart₄ p q (e .0) (e .1)) (members w)
+    (chains-along begin₄ next₄ parts₄ Ok₄ parts-begin₄ (λ c. tt) next-parts₄ OkPart Apart₃ (smalls w) (along₃ w))
 
 -- ---- from the grammar to the chains
 abbrev Ends : Member → Member → Type 0

@@ -1,7 +1,7 @@
 -- The five passes D1 to G4 (01, "Five passes, D1 to G4"), for the edges of any table. Definitions only.
 --     Chain          a chain as far as it goes
 --     rule p c e     pass p joins the edge e to the chain c, where they touch
---     joined p c e   the edge over the chain c and the edge e, as pass p makes it
+--     joined p l e   the edge over l and the edge e, as pass p makes it
 --     chainsOf p l   the chains of the list l by pass p
 --     after p l      the list after pass p: the edge over each chain
 --     added p l      the edges that pass p joins, in order: those over chains of two and more
