@@ -10,6 +10,8 @@ use Rattle.passes.proofs.ChainsLaws.{from-none}
 use Rattle.passes.specs.Chains.{from, chains}
 use Rattle.grammar.specs.Row.{Row, one, _▷_, _<>>_, last, head}
 
+-- ---- of options
+
 -- what holds of the value, where there is one
 abbrev pub OnSome : {A : Type 0} → (A → Type 0) → Option A → Type 0
 OnSome P none = Unit {0}
@@ -26,10 +28,13 @@ Both P none (some b) = ⊥
 Both P (some a) none = ⊥
 Both P (some a) (some b) = P a b
 
+-- ---- along a list
+
 pub head-row : {A : Type 0} (r : Row A) (l : List A) → (m : List A) × (r <>> l ≡ head r ∷ m)
 head-row (one a) l = (l, refl)
 head-row (r ▷ a) l = head-row r (a ∷ l)
 
+-- the parts of all, in a row
 module _ {A S : Type 0} (parts : S → Row A) where
   abbrev pub flat : List S → List A
   flat [] = []
@@ -44,6 +49,7 @@ abbrev pub Along : {A : Type 0} → (A → Type 0) → (A → A → Type 0) → 
 Along ok stop [] = Unit {0}
 Along ok stop (a ∷ l) = ok a × Next stop a l × Along ok stop l
 
+-- the same of a row
 abbrev pub Inside : {A : Type 0} → (A → Type 0) → (A → A → Type 0) → Row A → Type 0
 Inside ok stop (one a) = ok a
 Inside ok stop (r ▷ a) = Inside ok stop r × stop (last r) a × ok a
@@ -84,7 +90,9 @@ module _ {A : Type 0} {ok ok′ : A → Type 0} {stop stop′ : A → A → Type
   along-map f g (a ∷ []) h = (f a (h .0), tt, tt)
   along-map f g (a ∷ b ∷ l) h = (f a (h .0), g a b (h .0) (h .2 .0) (h .1), along-map f g (b ∷ l) (h .2))
 
--- every chain is one, and does not go on with what comes after it
+-- ---- the chains of a list
+
+-- every chain is as `Ok` says, and does not go on with what comes after it
 module _ {A S : Type 0} (next : S → A → Option S) (parts : S → Row A) where
   abbrev pub Stop : S → S → Type 0
   Stop s t = next s (head (parts t)) ≡ none
@@ -138,7 +146,7 @@ module _ {A S : Type 0} (begin : A → S) (next : S → A → Option S) (parts :
       → Along (λ s. Inside ok stop (parts s) × Ok s) (λ s t. stop (last (parts s)) (head (parts t)) × Stop next parts s t) (chains begin next l)
   chains-along ok stop l h = along-zip _ Ok _ (Stop next parts) (chains begin next l) (along-flat ok stop parts (chains begin next l) (rw (flat-chains l) h)) (good-chains l)
 
--- good chains are found again
+-- ---- good chains are found again: `resume` says that the chain of its own parts is the chain
 module _ {A S : Type 0} (begin : A → S) (next : S → A → Option S) (parts : S → Row A) (Ok : S → Type 0)
     (resume : (s : S) → Ok s → (l : List A) → chains begin next (parts s <>> l) ≡ from begin next s l) where
   pub chains-flat : (ss : List S) → Good next parts Ok ss → chains begin next (flat parts ss) ≡ ss
@@ -150,7 +158,7 @@ module _ {A S : Type 0} (begin : A → S) (next : S → A → Option S) (parts :
       let ih : chains begin next (flat parts (t ∷ ss)) ≡ t ∷ ss = chains-flat (t ∷ ss) g in
       resume s ok _ ∙ rw (eq, from-none begin next s (head (parts t)) m stop) (ap {B = List S} (λ r. s ∷ r) (rw eq at ih))
 
--- two rules that go alike on related lists
+-- ---- two rules that go alike on lists that are related one by one
 module _ {A B : Type 0} (R : ℕ → A → B → ℕ → Type 0) where
   -- related one by one, each from where the one before it ends
   abbrev pub Tiles : ℕ → List A → List B → ℕ → Type 0
