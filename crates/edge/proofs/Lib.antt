@@ -2,3 +2,5 @@
 pub mod LayoutLaws
 pub mod CheckLaws
 pub mod WriteLaws
+pub mod ReadBackLaws
+pub mod Theorems

@@ -5,8 +5,10 @@
 --     str t             a string as it is listed: a u16 length and its bytes
 --     edgeBytes e       an edge as it is listed
 --     listingBytes es   a listing: a u16 count, and the edges
+--     EdgeFits e        the numbers and lengths of an edge fit their bytes
 --     Assumes nothing.
-use Prim.Native.Nat.{ℕ, _+_, _*_}
+use mathlib.Core.Path.{_≡_}
+use Prim.Native.Nat.{ℕ, _+_, _*_, _^_, _<_}
 use mathlib.Core.Bool.{Bool, cond}
 use mathlib.Core.List.{List, [], _∷_, _++_}
 use mathlib.Core.Option.{Option, none, some}
@@ -86,3 +88,20 @@ edgesBytes (e ∷ es) = edgeBytes e ++ edgesBytes es
 
 unfoldable pub listingBytes : List Edge → List ℕ
 listingBytes es = bytesOf 2 (length es) ++ edgesBytes es
+
+-- ---- edges that can be listed: numbers and lengths that their bytes hold
+pub record NumericFits (n : Numeric) : Type 0 where
+  pub orig : length (n .orig) < 2 ^ 16
+  pub value : (v : ℕ) → n .value ≡ some v → v < 2 ^ 64
+  pub fraction : (p : ℕ × ℕ) → n .fraction ≡ some p → (p .0 < 2 ^ 64) × (p .1 < 2 ^ 64)
+  pub base : (v : ℕ) → n .base ≡ some v → v < 2 ^ 64
+  pub mult : (v : ℕ) → n .mult ≡ some v → v < 2 ^ 64
+  pub script : (t : Text) → n .script ≡ some t → length t < 2 ^ 16
+  pub value-s : (t : Text) → n .value-s ≡ some t → length t < 2 ^ 16
+
+pub record EdgeFits (e : Edge) : Type 0 where
+  pub start : e .start < 2 ^ 16
+  pub end : e .end < 2 ^ 16
+  pub type : length (e .type) < 2 ^ 16
+  pub txt : length (e .txt) < 2 ^ 16
+  pub num : (n : Numeric) → e .num ≡ some n → NumericFits n
