@@ -1,0 +1,7 @@
+-- The laws that the proofs of `paths` and its callers share.
+pub mod BestLaws
+pub mod ReadingLaws
+pub mod ShownLaws
+pub mod TableLaws
+pub mod PathLaws
+pub mod Theorems

@@ -1,0 +1,13 @@
+-- `paths::best_edge` meets its contract: the query is the span. Assumes nothing.
+use borrow.Author.Needs.{needs}
+use Rattle.paths.proofs.best_edge.Statement.{statement}
+use Rattle.paths.proofs.best_edge.Tie as tie
+
+ask-requires : tie.Need-ask-requires
+ask-requires c κs = search needs
+
+returns : tie.Need-returns
+returns c = search needs
+
+pub best-edge-spec : {M : Type 1} → statement M
+best-edge-spec = tie.close (tie.spec ask-requires returns)

@@ -1,0 +1,6 @@
+-- The definitions that the contracts of `paths` cite.
+pub mod Best
+pub mod Reading
+pub mod Shown
+pub mod Path
+pub mod Table

@@ -1,0 +1,81 @@
+-- The calls that read a finished listing: their checks, 2, 3, 6, then 9, and their answers (01, "The rest of the call"). Definitions only.
+--     number r, place r      01's number of a refusal, and the place or offset returned
+--     readCheck line s       the checks 2, 3 and 6: characters of the line and edges of the listing s, or the refusal
+--     Spans n k s at         the k edges from an offset on are within s, and their spans are places of a line of n characters
+--     readable ..            an answer, where these checks refuse nothing
+--     inside n q             what q asks is within a line of n characters, and does not start after its end: check 9
+--     answer line s q skip   best edge, right neighbour or left neighbour: its offset, none, or the refusal
+-- Assumes nothing.
+use Prim.Native.Nat.{ℕ, zero, suc, _≤_, _<_}
+use mathlib.Core.Bool.{Bool, false, cond, _&&_}
+use mathlib.Core.List.{List}
+use lib.ListN.{length}
+use lib.Dec.{leb}
+use Rattle.text.specs.declared.LineCheck.{LineCheck}
+use Rattle.text.specs.declared.LineCheck.the-variants.{Chars, IllFormed, TooLong}
+use Rattle.text.specs.Line.{lineCheck}
+use Rattle.edge.specs.declared.ListingCheck.{ListingCheck}
+use Rattle.edge.specs.declared.ListingCheck.the-variants as ListingCheck
+use Rattle.edge.specs.Check.{checkListing}
+use Rattle.edge.specs.Layout.{edgeAt, nextAt}
+use Rattle.paths.specs.declared.Query.{Query}
+use Rattle.paths.specs.declared.Query.the-variants.{Span, Right, Left}
+use Rattle.paths.specs.declared.Refusal.{Refusal}
+use Rattle.paths.specs.declared.Refusal.the-variants.{NotUtf8, OverLong, BadListing, ShortOutput, BadPlace}
+use Rattle.paths.specs.declared.Checked.{Checked}
+use Rattle.paths.specs.declared.Checked.the-variants as Checked
+use Rattle.paths.specs.declared.Answer.{Answer}
+use Rattle.paths.specs.declared.Answer.the-variants as Answer
+use Rattle.paths.specs.Best.{best, withOffsets, found}
+
+abbrev pub number : Refusal → ℕ
+number (NotUtf8 at) = 2
+number (OverLong at) = 3
+number (BadListing at) = 6
+number ShortOutput = 8
+number BadPlace = 9
+
+abbrev pub place : Refusal → ℕ
+place (NotUtf8 at) = at .0
+place (OverLong at) = at .0
+place (BadListing at) = at .0
+place ShortOutput = 0
+place BadPlace = 0
+
+abbrev pub afterListing : ℕ → ListingCheck → Checked
+afterListing n (ListingCheck.Edges k) = Checked.Readable n k
+afterListing n (ListingCheck.Refused at) = Checked.Refused (BadListing at)
+
+abbrev pub afterLine : LineCheck → List ℕ → Checked
+afterLine (Chars n) s = afterListing n (checkListing false n s)
+afterLine (IllFormed at) s = Checked.Refused (NotUtf8 at)
+afterLine (TooLong at) s = Checked.Refused (OverLong at)
+
+unfoldable pub readCheck : List ℕ → List ℕ → Checked
+readCheck line s = afterLine (lineCheck line) s
+
+-- what these checks show of an edge, and of k edges
+pub record Spanned (n : ℕ) (s : List ℕ) (at : ℕ) : Type 0 where
+  pub whole : nextAt s at ≤ length s
+  pub rises : edgeAt s at .start < edgeAt s at .end
+  pub within : edgeAt s at .end ≤ n
+
+unfoldable pub Spans : ℕ → ℕ → List ℕ → ℕ → Type 0
+Spans n zero s at = at ≤ length s
+Spans n (suc k) s at = Spanned n s at × Spans n k s (nextAt s at)
+
+-- what a call answers: a refusal of these checks, or what then says of n characters and k edges
+abbrev pub readable : {A : Type 0} → (Refusal → A) → (ℕ → ℕ → A) → Checked → A
+readable refused then (Checked.Readable n k) = then n k
+readable refused then (Checked.Refused r) = refused r
+
+unfoldable pub inside : ℕ → Query → Bool
+inside n (Span a z) = leb (a .0) (z .0) && leb (z .0) n
+inside n (Right p) = leb (p .0) n
+inside n (Left p) = leb (p .0) n
+
+abbrev pub answerIn : List ℕ → Query → Bool → ℕ → ℕ → Answer
+answerIn s q skip n k = cond (inside n q) (Answer.Best (found (best skip q (withOffsets k s 2)))) (Answer.Refused BadPlace)
+
+unfoldable pub answer : List ℕ → List ℕ → Query → Bool → Answer
+answer line s q skip = readable Answer.Refused (answerIn s q skip) (readCheck line s)
