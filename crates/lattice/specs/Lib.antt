@@ -1,0 +1,2 @@
+-- The definitions of the lattice.
+pub mod Lattice

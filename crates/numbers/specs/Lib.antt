@@ -1,0 +1,7 @@
+-- The definitions of the call, in the order in which they are read.
+pub mod Listed
+pub mod Fractions
+pub mod Signs
+pub mod Separators
+pub mod Fallback
+pub mod Call

@@ -1,0 +1,45 @@
+-- The passes' edges as they are listed (01: "value and base_multiplier (mult) are f64, listed as 8 bytes of their bits"). Definitions only.
+--     f64Bits n         the bits of the f64 of the whole number n
+--     listedEdge e      the passes' edge e in the listing's form
+--     wholeValue e      the value of a listed edge as a whole number, where it has one
+--     regular s z t x   the regular edge from place s to z with type t and txt x
+--     Assumes nothing.
+use Prim.Native.Nat.{ℕ}
+use mathlib.Core.Bool.{Bool}
+use mathlib.Core.Option.{Option, none, some, Option·map}
+use lib.Ieee.{binary64, toBits, ofBits, toUnsigned}
+use Rattle.whole.specs.Whole.{ofNat}
+use Rattle.passes.specs.NumEdge.{NumEdge}
+use Rattle.edge.specs.Edge.{Text, Edge, Numeric}
+
+unfoldable pub f64Bits : ℕ → ℕ
+f64Bits n = toBits binary64 (ofNat n)
+
+unfoldable pub listedEdge : NumEdge → Edge
+listedEdge e = record {
+  start = e .start;
+  end = e .end;
+  type = e .type;
+  txt = e .txt;
+  num = some (record {
+    orig = e .orig-txt;
+    value = Option·map f64Bits (e .value);
+    fraction = e .fraction;
+    base = e .base;
+    mult = Option·map f64Bits (e .mult);
+    script = e .script;
+    large = e .large-power;
+    active = e .active;
+    value-s = e .value-s;
+  });
+}
+
+abbrev pub valueOf : Option Numeric → Option ℕ
+valueOf none = none
+valueOf (some n) = Option·map (λ b. toUnsigned 64 (ofBits binary64 b)) (n .value)
+
+unfoldable pub wholeValue : Edge → Option ℕ
+wholeValue e = valueOf (e .num)
+
+abbrev pub regular : ℕ → ℕ → Text → Text → Edge
+regular s z t x = record { start = s; end = z; type = t; txt = x; num = none }

@@ -1,0 +1,1 @@
+// The whole call: fractions and percentages, signs, separators, the fallback, and `add_numbers`.
