@@ -1,10 +1,10 @@
 -- Laws of `specs/Layout.antt`, by the way that a field's tests go. No contract cites this file.
--- In order: numbers; strings; fields that may be absent; the numbers of a record; a record.
+-- In order: numbers; strings; fields that may be absent; the numbers of a record; a record; where fields end; what answers tell; items one after the other.
 use mathlib.Core.Path.{_≡_, refl, sym, ap, _∙_, subst}
 use mathlib.Core.Bool.{Bool, true, false, cond}
-use mathlib.Core.List.{List}
+use mathlib.Core.List.{List, [], _∷_}
 use mathlib.Core.Option.{Option, none, some}
-use Prim.Native.Nat.{ℕ, zero, suc, _+_, _*_, _/_, _%_, _≤_, _<_}
+use Prim.Native.Nat.{ℕ, zero, suc, _+_, _-_, _*_, _/_, _%_, _≤_, _<_}
 use native.Mathlib.Nat.{add-zero}
 use native.Mathlib.Omega.{arith}
 use native.Mathlib.Decide.{decLe}
@@ -15,7 +15,7 @@ use Rattle.fields.specs.Fields.{leAt}
 use Rattle.fields.proofs.FieldsLaws.{leAt-one}
 use Rattle.fields.specs.Part.{part}
 use Rattle.dicts.specs.Table.{Text, Record}
-use Rattle.dicts.specs.Layout.{Field, Is, Fault, thenField, mapField, bit, number, textOf, text, fraction, optional, Numbers, readNumbers, recordWith, readFields, readRecord}
+use Rattle.dicts.specs.Layout.{Field, Is, Fault, thenField, mapField, bit, number, textOf, text, fraction, optional, Numbers, readNumbers, recordWith, readFields, readRecord, manyAt, textsAt, listAt}
 use Rattle.dicts.specs.Answers.{Within, TextWithin, optionally, textField, optText, numberIf, numbersOf}
 use Rattle.dicts.specs.declared.layout.Part.{Part}
 use Rattle.dicts.specs.declared.layout.TextAt.{TextAt}
@@ -248,3 +248,24 @@ ends-at s h e = subst (Ends s) e h
 
 pub within-told : (s : List ℕ) {r : TextAt} {p : Part} {next : ℕ} → TextWithin s r → r ≡ TextAt.Text p next → Within s p
 within-told s h e = subst (TextWithin s) e h
+
+-- ---- items of one kind one after the other, strings or records: for callers that walk over them
+module _ {A : Type 0} (p : List ℕ → ℕ → Field A) (s : List ℕ) (at : ℕ) where
+  pub many-nil : (n : ℕ) → n ≡ 0 → [] ≡ manyAt p n s at
+  unfolding manyAt
+  many-nil n e = rw e
+
+  pub many-fault : (n : ℕ) → p s at ≡ Fault → [] ≡ manyAt p n s at
+  unfolding manyAt
+  many-fault zero e = refl
+  many-fault (suc n) e = rw e
+
+  pub many-cons : (n : ℕ) {a : A} {next : ℕ} → (n ≡ 0 → ⊥) → p s at ≡ Is a next → a ∷ manyAt p (n - 1) s next ≡ manyAt p n s at
+  unfolding manyAt
+  many-cons zero h e = absurd (h refl)
+  many-cons (suc n) h e = let m : suc n - 1 ≡ n = omega arith in rw (m, e)
+
+-- a list's strings stand behind its count
+pub list-texts : (s : List ℕ) (at : ℕ) → at < length s → listAt s at ≡ textsAt (getD s at 0) s (at + 1)
+unfolding listAt
+list-texts s at h = rw (byte-is s at h)

@@ -1,5 +1,5 @@
 -- Laws of `specs/Lookup.antt` and of rising records. No contract cites this file.
--- In order: a walk's next records; who looks up in rising order may go on from where he is; the first record decides; a table's records rise.
+-- In order: dropBelow and a turn of `seek`; who looks up in rising order may go on from where he is; the first record decides; a table's records rise.
 use mathlib.Core.Path.{_≡_, refl, sym, ap, _∙_}
 use mathlib.Core.Bool.{Bool, true, false, cond, _&&_}
 use mathlib.Core.List.{List, [], _∷_}
@@ -10,29 +10,13 @@ use lib.ListN.{length}
 use lib.Dec.{leb, ltb, eqb}
 use borrow.Author.Tests.{le-leb, lt-ltb, le-ltb, ltb-true, ltb-false, leb-true, ne-eqb, eq-eqb}
 use Rattle.dicts.specs.Table.{Text, Record, Table, find}
-use Rattle.dicts.specs.Layout.{Field, Is, Fault, number, readRecord, manyAt, recordsAt}
+use Rattle.dicts.specs.Layout.{Field, Is, Fault, number, readRecord, recordsAt}
 use Rattle.dicts.specs.Check.{Checked, Fine, Refused, thenItem, item, legalRecord, legalCodePoint, rising, readList, readRecords, readTable}
 use Rattle.dicts.specs.Answers.{recordOf}
 use Rattle.dicts.specs.Lookup.{recordsOf, dropBelow}
 use Rattle.dicts.specs.declared.layout.NumProp.{NumProp}
 use Rattle.dicts.specs.declared.lookup.Records.{Records}
 use Rattle.dicts.specs.declared.lookup.Records.the-variants.{Next, End}
-
--- ---- n records from an offset on
-module _ (s : List ℕ) (at : ℕ) where
-  pub records-nil : (n : ℕ) → n ≡ 0 → [] ≡ recordsAt n s at
-  unfolding manyAt
-  records-nil n e = rw e
-
-  pub records-fault : (n : ℕ) → readRecord s at ≡ Fault → [] ≡ recordsAt n s at
-  unfolding manyAt
-  records-fault zero e = refl
-  records-fault (suc n) e = rw e
-
-  pub records-cons : (n : ℕ) {r : Record} {next : ℕ} → (n ≡ 0 → ⊥) → readRecord s at ≡ Is r next → r ∷ recordsAt (n - 1) s next ≡ recordsAt n s at
-  unfolding manyAt
-  records-cons zero h e = absurd (h refl)
-  records-cons (suc n) h e = let m : suc n - 1 ≡ n = omega arith in rw (m, e)
 
 -- ---- dropBelow, one record at a time
 pub drop-below : (c : ℕ) (r : Record) (rs : List Record) → r .code-point < c → dropBelow c (r ∷ rs) ≡ dropBelow c rs

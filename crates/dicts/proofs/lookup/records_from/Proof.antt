@@ -1,14 +1,14 @@
 -- `dicts::lookup::records_from` meets its contract: the first record, and how many stand behind it.
 use mathlib.Core.Path.{sym, _∙_}
+use Rattle.dicts.specs.Layout.{readRecord}
 use Rattle.dicts.specs.Answers.{recordField}
-use Rattle.dicts.proofs.LayoutLaws.{told}
-use Rattle.dicts.proofs.LookupLaws.{records-nil, records-fault, records-cons}
+use Rattle.dicts.proofs.LayoutLaws.{told, many-nil, many-fault, many-cons}
 use borrow.Author.Needs.{needs}
 use Rattle.dicts.proofs.lookup.records_from.Statement.{statement}
 use Rattle.dicts.proofs.lookup.records_from.Tie as tie
 
 returns : tie.Need-returns
-returns c = records-nil _ _ _ (c .if1 .taken)
+returns c = many-nil readRecord _ _ _ (c .if1 .taken)
 
 record-at-requires : tie.Need-record-at-requires
 record-at-requires c κs = search needs
@@ -23,10 +23,10 @@ enum-told : tie.Need-enum-told
 enum-told c = search needs
 
 returns-2 : tie.Need-returns-2
-returns-2 c = records-cons _ _ _ (c .before .before .before .before .if1 .left) (told (recordField (c .before .before .before .before .before .before .args .s .now)) (c .before .before .before .record-at .ensures .0) (c .before .p .given .1))
+returns-2 c = many-cons readRecord _ _ _ (c .before .before .before .before .if1 .left) (told (recordField (c .before .before .before .before .before .before .args .s .now)) (c .before .before .before .record-at .ensures .0) (c .before .p .given .1))
 
 returns-3 : tie.Need-returns-3
-returns-3 c = records-fault _ _ _ (told (recordField (c .before .before .before .before .before .args .s .now)) (c .before .before .record-at .ensures .0) (c .enum-told .given .1))
+returns-3 c = many-fault readRecord _ _ _ (told (recordField (c .before .before .before .before .before .args .s .now)) (c .before .before .record-at .ensures .0) (c .enum-told .given .1))
 
 pub records-from-spec : {M : Type 1} → statement M
 records-from-spec =
