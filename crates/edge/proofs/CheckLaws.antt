@@ -10,18 +10,14 @@ use lib.ListN.{length}
 use lib.Dec.{ltb, leb}
 use Rattle.text.specs.Text.{wellFormed}
 use Rattle.fields.specs.Fields.{leAt}
-use Rattle.fields.specs.Part.{part}
-use Rattle.edge.specs.declared.Part.{Part}
 use Rattle.edge.specs.declared.NumFields.{NumFields}
 use Rattle.edge.specs.declared.EdgeView.{EdgeView}
-use Rattle.edge.specs.Edge.{Numeric, Edge}
 use Rattle.edge.specs.Layout.{stands, only, mapAt, textAt, stringEnd, txtAt, headEnd, scriptAt, valueSAt, fieldsEnd, nextAt, numericAt, edgeAt}
-use Rattle.edge.specs.Check.{allowed, each, upToTop, soundFraction, soundNumbers, soundNumeric, sound, good, checkEdges, checkListing}
+use Rattle.edge.specs.Check.{allowed, each, upToTop, soundFraction, soundNumeric, sound, good, checkEdges, checkListing}
 use Rattle.edge.specs.View.{partAt, partIf, textOf, viewAt, fieldsAt, numericOf, numbersSound, fieldsSound, Inside}
 use borrow.Author.Tests.{le-leb, lt-leb, lt-ltb, le-ltb, leb-true}
-use Rattle.edge.specs.declared.ListingCheck.{ListingCheck}
 use Rattle.edge.specs.declared.ListingCheck.the-variants.{Edges, Refused}
-use Rattle.edge.proofs.LayoutLaws.{if-on, if-off, string-end-ge, Within, within}
+use Rattle.edge.proofs.LayoutLaws.{if-on, string-end-ge, within}
 
 -- ---- fields that may be absent
 each-or : {A : Type 0} (p : A → Bool) (on : Bool) (a : A) → (not on || p a) ≡ each p (only on a)

@@ -1,13 +1,12 @@
 -- Laws of the offsets of an edge's items (`specs/Layout.antt`). No contract cites this file.
-use mathlib.Core.Path.{_≡_, refl, sym, ap, _∙_}
+use mathlib.Core.Path.{_≡_, refl, _∙_}
 use mathlib.Core.Bool.{Bool, true, false, cond}
-use mathlib.Core.List.{List, [], _∷_}
+use mathlib.Core.List.{List, _∷_}
 use Prim.Native.Nat.{ℕ, suc, _+_, _*_, _/_, _%_, _≤_, _<_}
 use native.Mathlib.Nat.{add-zero, le-trans, le-of-eq}
 use borrow.Author.Tests.{eqb-true}
-use native.Mathlib.Numerals.{add-one}
 use native.Mathlib.Omega.{arith}
-use lib.ListN.{length, getD, take, drop, drop-of-length-le}
+use lib.ListN.{length, getD, drop-of-length-le}
 use lib.Seq.{drop-cons, take-nil}
 use Rattle.fields.specs.Fields.{le, leAt}
 use Rattle.fields.specs.Part.{part}

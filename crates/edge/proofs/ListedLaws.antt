@@ -2,25 +2,23 @@
 -- In order: items in a row; numbers and strings; a field that may be absent; the fields of a numeric edge; an edge; a listing.
 use mathlib.Core.Path.{_≡_, refl, sym, ap, _∙_}
 use mathlib.Core.Bool.{Bool, true, false, cond, _&&_, true≢false}
-use mathlib.Core.Option.{Option, none, some}
-use mathlib.Core.List.{List, [], _∷_, _++_, append-assoc, append-nil}
+use mathlib.Core.List.{List, [], _∷_, _++_}
 use Prim.Native.Nat.{ℕ, zero, suc, _+_, _*_, _-_, _/_, _%_, _≤_, _<_}
-use native.Mathlib.Nat.{add-zero, add-assoc}
+use native.Mathlib.Nat.{add-zero}
 use native.Mathlib.Omega.{arith}
 use native.Mathlib.Decide.{decLt}
-use lib.ListN.{length, getD, take, drop, List·getD-eq-default}
+use lib.ListN.{length, getD, List·getD-eq-default}
 use lib.Dec.{eqb, leb, ltb}
 use borrow.Author.Tests.{eqb-true, eqb-false, leb-true, ltb-true, ltb-false}
 use Rattle.fields.specs.Fields.{le, leAt, bytesOf}
 use Rattle.fields.specs.Part.{part}
 use Rattle.fields.proofs.PartLaws.{length-part, part-at, part-add, part-all}
-use Rattle.edge.specs.declared.ListingCheck.{ListingCheck}
 use Rattle.edge.specs.declared.ListingCheck.the-variants.{Edges, Refused}
-use Rattle.edge.specs.Edge.{Text, Numeric, Edge, numericMap, mapOf, str, opt, fractionBytes, numericBytes, headBytes, edgeBytes, edgesBytes, listingBytes}
+use Rattle.edge.specs.Edge.{numericMap, mapOf, str, opt, fractionBytes, numericBytes, headBytes, edgeBytes, edgesBytes, listingBytes}
 use Rattle.edge.specs.Layout.{bit, stands, only, mapAt, textAt, stringEnd, stringEndIf, txtAt, headEnd, fractionAt, baseAt, multAt, scriptAt, valueSAt, fieldsEnd, nextAt, numericAt, edgeAt, edgesAt, listed}
-use Rattle.edge.specs.Check.{allowed, sound, good, checkEdges, checkListing}
+use Rattle.edge.specs.Check.{allowed, good, checkEdges, checkListing}
 use Rattle.edge.specs.View.{fieldsAt}
-use Rattle.edge.proofs.LayoutLaws.{Within, within, string-end-ge}
+use Rattle.edge.proofs.LayoutLaws.{within, string-end-ge}
 use Rattle.edge.proofs.CheckLaws.{fields-say, head-within, fields-within, good-whole}
 use Rattle.edge.proofs.WriteLaws.{map-is}
 

@@ -1,18 +1,18 @@
 -- What is promised of listings beyond the contracts: what was listed is read, equal bytes are equal edges, and legal edges are accepted.
 use mathlib.Core.Path.{_≡_, refl, sym, ap, _∙_}
-use mathlib.Core.Bool.{Bool, true, cond, _&&_}
-use mathlib.Core.List.{List, [], _∷_, _++_, append-assoc, append-nil}
-use Prim.Native.Nat.{ℕ, suc, _+_, _^_, _≤_, _<_}
+use mathlib.Core.Bool.{Bool, true, _&&_}
+use mathlib.Core.List.{List, [], _∷_, _++_}
+use Prim.Native.Nat.{ℕ, _+_, _^_, _≤_, _<_}
 use native.Mathlib.Omega.{arith}
 use lib.ListN.{length, drop, length-append, length-drop}
 use borrow.Author.Tests.{le-leb, le-ltb}
 use Rattle.fields.specs.Fields.{leAt, bytesOf}
 use Rattle.fields.proofs.FieldsLaws.{length-bytesOf, leAt-bytesOf}
-use Rattle.edge.specs.declared.ListingCheck.the-variants.{Edges, Refused}
+use Rattle.edge.specs.declared.ListingCheck.the-variants.{Edges}
 use Rattle.edge.specs.Edge.{Edge, mapOf, edgeBytes, edgesBytes, listingBytes, EdgeFits}
-use Rattle.edge.specs.Layout.{mapAt, nextAt, edgeAt, edgesAt, listed}
+use Rattle.edge.specs.Layout.{nextAt, edgeAt, edgesAt, listed}
 use Rattle.edge.specs.Check.{allowed, sound, good, checkEdges, checkListing}
-use Rattle.edge.proofs.ReadBackLaws.{behind, number-behind, EdgeRead, edge-there, edge-behind}
+use Rattle.edge.proofs.ReadBackLaws.{number-behind, edge-there, edge-behind}
 
 -- ---- an edge
 -- what was listed is read, whatever stands behind it

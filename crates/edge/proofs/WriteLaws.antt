@@ -1,15 +1,14 @@
 -- Laws of the writers (`specs/Write.antt`): what stands behind one another, how long it is, and what a writer answers. No contract cites this file.
 -- In order: promises in a row; one field; the numbers; all fields; the map; the head; the answer.
 use mathlib.Core.Path.{_≡_, refl, sym, ap, _∙_}
-use mathlib.Core.Bool.{Bool, true, false, cond}
-use mathlib.Core.Option.{Option, none, some}
+use mathlib.Core.Bool.{Bool, true, false}
 use mathlib.Core.List.{List, [], _∷_, _++_, append-assoc, append-nil}
 use Prim.Native.Nat.{ℕ, _+_, _*_, _-_, _/_, _%_, _≤_, _<_}
 use native.Mathlib.Nat.{add-sub-cancel-left, le-trans}
 use native.Mathlib.Omega.{arith}
 use lib.ListN.{length, take, drop, length-append}
 use lib.Seq.{sets}
-use lib.Dec.{eqb, leb}
+use lib.Dec.{eqb}
 use borrow.Author.Tests.{eqb-true, eqb-false, le-leb, lt-leb}
 use Rattle.whole.proofs.SetsLaws.{sets-then}
 use Rattle.fields.specs.Fields.{bytesOf}
@@ -19,8 +18,8 @@ use Rattle.fields.proofs.PartLaws.{length-part}
 use Rattle.edge.specs.declared.Part.{Part}
 use Rattle.edge.specs.declared.NumFields.{NumFields}
 use Rattle.edge.specs.declared.Written.the-variants.{To, NoRoom}
-use Rattle.edge.specs.Edge.{Text, Numeric, there, flag, numericMap, str, opt, fractionBytes, numericBytes, headBytes, edgeBytes}
-use Rattle.edge.specs.Layout.{bit, stands, only, multAt, scriptAt}
+use Rattle.edge.specs.Edge.{Text, there, flag, numericMap, str, opt, fractionBytes, numericBytes, headBytes, edgeBytes}
+use Rattle.edge.specs.Layout.{bit, stands, only, scriptAt}
 use Rattle.edge.specs.View.{textOf, numericOf}
 use Rattle.edge.specs.Write.{written, writtenTo, Put, regular, numeric, numbersBytes, textPastIf, fieldsPast, Writable}
 

@@ -1,15 +1,14 @@
 // Edges in their listing (01, "Listing"): refusal 6, an edge at an offset, the next edge's offset, and an edge written.
 ghost use mathlib.Core.Path.{_≡_};
-ghost use mathlib.Core.Bool.{true, false, not, cond};
+ghost use mathlib.Core.Bool.{true, not, cond};
 ghost use Prim.Native.Nat.{ℕ, _+_, _*_, _/_, _%_, _≤_, _<_};
 ghost use lib.ListN.{length};
 ghost use lib.Dec.{T, eqb};
 ghost use lib.Ieee.{binary64, isNan, nanBits};
 ghost use Rattle.fields.specs.Fields.{leAt, bytesOf};
-ghost use Rattle.fields.specs.Part.{part};
 ghost use Rattle.text.specs.Text.{wellFormed};
 ghost use Rattle.edge.specs.Edge.{str, opt, numericBytes, headBytes, edgeBytes};
-ghost use Rattle.edge.specs.Layout.{stands, bit, stringEnd, scriptAt, fieldsEnd, nextAt, headEnd, only, numericAt, edgeAt, mapAt};
+ghost use Rattle.edge.specs.Layout.{stands, stringEnd, scriptAt, fieldsEnd, nextAt, headEnd, only, numericAt, edgeAt};
 ghost use Rattle.edge.specs.Check.{allowed, each, soundNumeric, sound, good, checkListing};
 ghost use Rattle.edge.specs.Write.{written, writtenTo, Put, regular, numeric, numbersBytes, textPastIf, fieldsPast, Writable, fieldsOf, dataOf};
 ghost use Rattle.edge.specs.View.{numericOf, textOf, viewAt, partAt, noPart, fieldsAt, numbersSound, fieldsSound, Inside};

@@ -1,15 +1,14 @@
 -- `edge::check_listing` meets its contract. The loop's invariant: the offset is within the slice, and checking the edges that are left from there
 -- gives the answer for the whole listing. The measure is how many are left. Assumes nothing.
 use borrow.Author.Tests.{not-true, not-false}
-use Rattle.edge.proofs.CheckLaws.{good-next}
-use Rattle.edge.proofs.CheckLaws.{check-bad, check-good, check-left-over, check-ends, check-no-count, check-count}
+use Rattle.edge.proofs.CheckLaws.{good-next, check-bad, check-good, check-left-over, check-ends, check-no-count, check-count}
 use Rattle.edge.specs.Check.{checkEdges, checkListing}
 use Rattle.fields.specs.Fields.{leAt}
 use borrow.Author.Needs.{needs}
 use lib.ListN.{length}
 use native.Mathlib.Omega.{arith}
 use Prim.Native.Nat.{_≤_}
-use mathlib.Core.Path.{_≡_, sym, ap, _∙_}
+use mathlib.Core.Path.{_≡_, sym, _∙_}
 use Rattle.edge.proofs.check_listing.Statement.{statement}
 use Rattle.edge.proofs.check_listing.Tie as tie
 

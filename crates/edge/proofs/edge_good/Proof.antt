@@ -1,8 +1,6 @@
 -- `edge::edge_good` meets its contract: an edge that is cut off is not good, and of one that is whole the map and the content decide. Assumes nothing.
-use Rattle.edge.proofs.CheckLaws.{next-within}
-use native.Mathlib.Omega.{arith}
-use Rattle.edge.proofs.CheckLaws.{map-within, edge-cut, edge-whole}
-use mathlib.Core.Path.{_≡_, sym, ap, _∙_}
+use Rattle.edge.proofs.CheckLaws.{next-within, map-within, edge-cut, edge-whole}
+use mathlib.Core.Path.{_≡_, _∙_}
 use borrow.Author.Needs.{needs}
 use Rattle.edge.proofs.edge_good.Statement.{statement}
 use Rattle.edge.proofs.edge_good.Tie as tie

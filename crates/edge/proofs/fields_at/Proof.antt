@@ -1,11 +1,7 @@
 -- `edge::fields_at` meets its contract: the fields end within the slice (`Within`), and each is read where the definition reads it. Assumes nothing.
-use Rattle.edge.proofs.LayoutLaws.{fields-read}
-use Rattle.edge.proofs.LayoutLaws.{within-from, orig-within, length-within, value-s-is}
-use Rattle.edge.specs.View.{fieldsAt}
-use Rattle.edge.specs.Layout.{stringEnd, scriptAt, valueSAt}
-use borrow.Author.Tests.{eqb-true}
+use Rattle.edge.proofs.LayoutLaws.{fields-read, within-from, orig-within, length-within, value-s-is}
 use native.Mathlib.Omega.{arith}
-use mathlib.Core.Path.{_≡_, sym, _∙_}
+use mathlib.Core.Path.{_≡_, _∙_}
 use borrow.Author.Needs.{needs}
 use Rattle.edge.proofs.fields_at.Statement.{statement}
 use Rattle.edge.proofs.fields_at.Tie as tie

@@ -1,6 +1,5 @@
 -- `edge::next_at` meets its contract, by bit 0 of the map. Assumes nothing.
 use Rattle.edge.proofs.LayoutLaws.{next-numeric, next-regular}
-use Rattle.edge.specs.Layout.{nextAt}
 use mathlib.Core.Path.{_≡_}
 use borrow.Author.Needs.{needs}
 use Rattle.edge.proofs.next_at.Statement.{statement}

@@ -1,8 +1,7 @@
 -- `edge::text_sound` meets its contract: the part that is lent is the text. Assumes nothing.
-use Rattle.text.specs.Text.{wellFormed}
 use Rattle.fields.specs.Part.{part}
 use native.Mathlib.Nat.{add-sub-cancel-left}
-use mathlib.Core.Path.{_∙_, ap}
+use mathlib.Core.Path.{_∙_}
 use borrow.Author.Needs.{needs}
 use Rattle.edge.proofs.text_sound.Statement.{statement}
 use Rattle.edge.proofs.text_sound.Tie as tie

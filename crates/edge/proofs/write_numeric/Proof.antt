@@ -1,6 +1,5 @@
 -- `edge::write_numeric` meets its contract: the bytes end where `fields_past` says, and the map is that of the fields. Assumes nothing.
-use Rattle.edge.proofs.WriteLaws.{head-room}
-use Rattle.edge.proofs.WriteLaws.{past-within, numeric-no-room, numeric-there}
+use Rattle.edge.proofs.WriteLaws.{head-room, numeric-no-room, numeric-there}
 use native.Mathlib.Omega.{arith}
 use borrow.Author.Needs.{needs}
 use Rattle.edge.proofs.write_numeric.Statement.{statement}
