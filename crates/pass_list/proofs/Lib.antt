@@ -3,3 +3,4 @@ pub mod PowerLaws
 pub mod ChainLaws
 pub mod StoredLaws
 pub mod RunLaws
+pub mod Simulation

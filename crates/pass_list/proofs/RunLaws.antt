@@ -13,14 +13,14 @@ use lib.Dec.{ltb}
 use borrow.Author.Tests.{lt-ltb, le-ltb}
 use Rattle.whole.specs.Whole.{TOP}
 use Rattle.passes.specs.Chains.{from, chains}
-use Rattle.passes.specs.ChainsLaws.{chains-cons, from-nil, from-none, from-some, turn-ends, turn-takes}
+use Rattle.passes.proofs.ChainsLaws.{chains-cons, from-nil, from-none, from-some, turn-ends, turn-takes}
 use Rattle.passes.specs.Passes.{Pass}
 use Rattle.pass_list.specs.declared.record.PassEdge.{PassEdge}
 use Rattle.pass_list.specs.declared.chain.Chain.{Chain}
 use Rattle.pass_list.specs.declared.chain.Next.{Next}
 use Rattle.pass_list.specs.declared.chain.Next.the-variants.{Longer, Ends, Above}
 use Rattle.pass_list.specs.declared.run.Passed.the-variants as Passed
-use Rattle.pass_list.specs.Item.{Item, Small, AllSmall, nil, cons, Fits, EdgeIs}
+use Rattle.pass_list.specs.Item.{Item, Small, Every, nil, cons, AllSmall, Fits, EdgeIs}
 use Rattle.pass_list.specs.Stored.{recordBytes, itemAt, itemsAt}
 use Rattle.pass_list.specs.ItemPass.{ItemChain, begin, joins, joinedValue, longer, next, over, chainsOf, edgesOf, joinedOf, after, added, firstAbove}
 use Rattle.pass_list.specs.Answers.{passChain, ChainIs, answer, passed, PassedIs}
@@ -86,7 +86,7 @@ module _ (p : Pass) where
   abbrev chainFrom : ItemChain → List Item → List ItemChain
   chainFrom = from begin (next p)
 
-  joins-of-next : (x : ItemChain) (y : Item) (t : ItemChain) → next p x y ≡ some t → (joins p x y ≡ true) × (t ≡ longer p x y)
+  pub joins-of-next : (x : ItemChain) (y : Item) (t : ItemChain) → next p x y ≡ some t → (joins p x y ≡ true) × (t ≡ longer p x y)
   unfolding next
   joins-of-next x y t e = go (joins p x y) e
     where

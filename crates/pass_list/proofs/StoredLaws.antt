@@ -18,7 +18,7 @@ use Rattle.fields.proofs.FieldsLaws.{le-bytesOf, length-bytesOf, leAt-of-part, 
 use Rattle.fields.proofs.PartLaws.{part-sets, part-sets-other, drop-sets}
 use Rattle.whole.specs.Whole.{TOP}
 use Rattle.whole.proofs.SetsLaws.{sets-then}
-use Rattle.pass_list.specs.Item.{Item, numData, Small, AllSmall, nil, cons, Fits}
+use Rattle.pass_list.specs.Item.{Item, numData, Small, Every, nil, cons, AllSmall, Fits}
 use Rattle.pass_list.specs.Stored.{digitOf, bit, mapOf, numBytes, recordBytes, itemOf, itemAt, itemsAt}
 
 -- ---- the fields of a record, each at its own offset

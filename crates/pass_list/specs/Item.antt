@@ -3,7 +3,7 @@
 --     numData x      the numeric data of x, as the code has it: the value and the multiplier as f64
 --     passEdge x     x as the code has it
 --     Small x        the numbers of x that 01 bounds are at most TOP
---     AllSmall l     each item of l is small
+--     Every P l      P holds of each element of l; AllSmall l: each item of l is small
 --     Fits x         besides, all numbers of x fit their fields in the list
 --     EdgeIs e x     the code's edge e is x, and x fits
 --     NumIs n x      likewise, of the numeric data alone
@@ -71,9 +71,12 @@ pub record Small (x : Item) : Type 0 where
   pub base : x .base ≤ TOP
   pub mult : x .mult ≤ TOP
 
-pub data AllSmall : List Item → Type 0 where
-  nil : AllSmall []
-  cons : {x : Item} {l : List Item} → Small x → AllSmall l → AllSmall (x ∷ l)
+pub data Every {A : Type 0} (P : A → Type 0) : List A → Type 0 where
+  nil : Every P []
+  cons : {x : A} {l : List A} → P x → Every P l → Every P (x ∷ l)
+
+abbrev pub AllSmall : List Item → Type 0
+AllSmall = Every Small
 
 pub record Fits (x : Item) : Type 0 where
   pub small : Small x

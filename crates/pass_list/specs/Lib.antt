@@ -3,3 +3,4 @@ pub mod Item
 pub mod Stored
 pub mod ItemPass
 pub mod Answers
+pub mod Edges
