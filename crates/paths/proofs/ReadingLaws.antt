@@ -63,11 +63,11 @@ checked n s (suc k) at m h =
     (λ g e. let r = checked n s k (nextAt s at) m (good-whole false n s at g) e in (r .0, (spanned n s at g, r .1)))
     (λ g e. let z : _≡_ {A = ℕ} 0 1 = cc in absurd (omega arith))
 
-checked-listing : (n : ℕ) (s : List ℕ) (k : ℕ) → checkListing false n s ≡ ListingCheck.Edges k → Spans n k s 2
+checked-listing : (n : ℕ) (s : List ℕ) (k : ℕ) → checkListing false n s ≡ ListingCheck.Edges k → (k ≡ leAt s 0 2) × Spans n k s 2
 unfolding checkListing
 checked-listing n s k =
-    cond-cases (λ (r : ListingCheck). r ≡ ListingCheck.Edges k → Spans n k s 2) (leb 2 (length s))
-    (λ t e. let r = checked n s (leAt s 0 2) 2 k (leb-true 2 (length s) t) e in rw (r .0) (r .1))
+    cond-cases (λ (r : ListingCheck). r ≡ ListingCheck.Edges k → (k ≡ leAt s 0 2) × Spans n k s 2) (leb 2 (length s))
+    (λ t e. let r = checked n s (leAt s 0 2) 2 k (leb-true 2 (length s) t) e in (r .0, rw (r .0) (r .1)))
     (λ t e. let z : _≡_ {A = ℕ} 0 1 = cc in absurd (omega arith))
 
 -- a line that is not refused has its characters, at most 256
@@ -85,21 +85,22 @@ pub record Reads (line s : List ℕ) (n k : ℕ) : Type 0 where
   pub count : n ≡ length (chars line)
   pub few : n ≤ 256
   pub well-formed : wellFormed line ≡ true
+  pub edges : k ≡ leAt s 0 2
   pub spans : Spans n k s 2
 
 pub reads : (line s : List ℕ) (n k : ℕ) → readCheck line s ≡ Checked.Readable n k → Reads line s n k
 unfolding readCheck
 reads line s n k = by-line (lineCheck line) refl
   where
-    by-listing : (m : ℕ) (r : ListingCheck) → checkListing false m s ≡ r → afterListing m r ≡ Checked.Readable n k → (m ≡ n) × Spans m k s 2
-    by-listing m (ListingCheck.Edges j) g e = let p : m ≡ n = cc in let q : j ≡ k = cc in (p, checked-listing m s k (g ∙ ap ListingCheck.Edges q))
+    by-listing : (m : ℕ) (r : ListingCheck) → checkListing false m s ≡ r → afterListing m r ≡ Checked.Readable n k → (m ≡ n) × (k ≡ leAt s 0 2) × Spans m k s 2
+    by-listing m (ListingCheck.Edges j) g e = let p : m ≡ n = cc in let q : j ≡ k = cc in let h = checked-listing m s k (g ∙ ap ListingCheck.Edges q) in (p, h .0, h .1)
     by-listing m (ListingCheck.Refused at) g e = let z : _≡_ {A = ℕ} 0 1 = cc in absurd (omega arith)
 
     by-line : (l : LineCheck) → lineCheck line ≡ l → afterLine l s ≡ Checked.Readable n k → Reads line s n k
     by-line (Chars m) g e =
         let r = by-listing m (checkListing false m s) refl e in
         let l = checked-line line m g in
-        record { count = sym (r .0) ∙ l .0; few = omega arith; well-formed = l .2; spans = rw (r .0) at (r .1) }
+        record { count = sym (r .0) ∙ l .0; few = omega arith; well-formed = l .2; edges = r .1; spans = rw (r .0) at (r .2) }
     by-line (IllFormed at) g e = let z : _≡_ {A = ℕ} 0 1 = cc in absurd (omega arith)
     by-line (TooLong at) g e = let z : _≡_ {A = ℕ} 0 1 = cc in absurd (omega arith)
 

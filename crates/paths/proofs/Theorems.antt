@@ -2,11 +2,12 @@
 --     best-answers    the edge given is one of those asked for, of the longest span that has an edge to give, and of that span's best class
 --     best-first      it is the first of them in listing order
 --     best-none       none is given exactly where every edge asked for is one that is never given
+--     read-edges      the edges that a call looks at are those of the listing, in its order
 --     shown-is        the part handed out for a place is the best right neighbour's txt, or the character's own bytes
 -- Assumes nothing.
 use mathlib.Core.Path.{_≡_, refl, sym, ap, _∙_}
 use mathlib.Core.Bool.{Bool, true, false, cond}
-use mathlib.Core.List.{List, [], _∷_, _++_, append-assoc}
+use mathlib.Core.List.{List, [], _∷_, _++_, map}
 use mathlib.Core.Option.{none, some}
 use Prim.Native.Nat.{ℕ, zero, suc, _+_, _-_, _*_, _≤_, _<_}
 use native.Mathlib.Numerals.{add-one}
@@ -23,7 +24,7 @@ use Rattle.text.proofs.TextLaws.{encodes-append, well-formed-split}
 use Rattle.fields.specs.Part.{part}
 use Rattle.fields.proofs.PartLaws.{part-append-right, part-append-first}
 use Rattle.edge.specs.Edge.{Text, Edge}
-use Rattle.edge.specs.Layout.{textAt, edgeAt}
+use Rattle.edge.specs.Layout.{textAt, nextAt, edgeAt, edgesAt, listed}
 use Rattle.paths.specs.declared.Query.{Query}
 use Rattle.paths.specs.declared.Query.the-variants.{Right}
 use Rattle.paths.specs.declared.Checked.the-variants as Checked
@@ -142,6 +143,15 @@ module _ (skip : Bool) (q : Query) where
       by-end : (b : Best) → Ends skip q none xs b → b ≡ none → Each (λ y. asked q (y .1 .start) (y .1 .end) ≡ true → class skip (y .1) ≡ 0) xs
       by-end b (stays h) e = each-map _ _ (λ y. no-class (y .1)) xs h
       by-end b (first y h i) e = let z : _≡_ {A = ℕ} 0 1 = cc in absurd (omega arith)
+
+-- ---- the edges that are looked at
+offsets-edges : (k : ℕ) (s : List ℕ) (at : ℕ) → map (λ (x : ℕ × Edge). x .1) (withOffsets k s at) ≡ edgesAt k s at
+unfolding withOffsets edgesAt
+offsets-edges zero s at = refl
+offsets-edges (suc k) s at = ap (λ (es : List Edge). edgeAt s at ∷ es) (offsets-edges k s (nextAt s at))
+
+pub read-edges : (line s : List ℕ) {n k : ℕ} → readCheck line s ≡ Checked.Readable n k → map (λ (x : ℕ × Edge). x .1) (withOffsets k s 2) ≡ listed s
+read-edges line s {n} {k} e = offsets-edges k s 2 ∙ ap (λ (j : ℕ). edgesAt j s 2) (reads line s n k e .edges)
 
 -- ---- the text shown
 middle : (a b c : List ℕ) → part (a ++ (b ++ c)) (length a) (length b) ≡ b

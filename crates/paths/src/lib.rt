@@ -8,7 +8,7 @@ ghost use lib.Dec.{ltb};
 ghost use Rattle.edge.specs.Layout.{edgeAt, nextAt, headEnd};
 ghost use Rattle.edge.specs.View.{viewAt, textOf};
 ghost use Rattle.paths.specs.Best.{startsWith, regularClass, class, asked, score, best, withOffsets, Whole, found};
-ghost use Rattle.paths.specs.Reading.{readCheck, Spans, inside, answer};
+ghost use Rattle.paths.specs.Reading.{number, place, readCheck, Spans, inside, answer};
 ghost use Rattle.paths.specs.Shown.{shownBy, shown, shownPart};
 ghost use Rattle.paths.specs.Path.{rights, path, edgeParts, pathListing, fitting, pathOut, written, after};
 ghost use Rattle.paths.specs.Table.{byTable, Rights, Steps, hopOf, sizeOf};
@@ -56,6 +56,32 @@ pub enum Written {
 pub enum Answer {
     Best(Found),
     Refused(Refusal),
+}
+
+// 01's number of a refusal.
+pub fn number_of(r: Refusal) -> u32
+    ensures { λ n. ⌜ n ≡ number r ⌝ }
+{
+    match r {
+        Refusal::NotUtf8(_) => 2,
+        Refusal::OverLong(_) => 3,
+        Refusal::BadListing(_) => 6,
+        Refusal::ShortOutput => 8,
+        Refusal::BadPlace => 9,
+    }
+}
+
+// The offset that is returned with it, or 0.
+pub fn place_of(r: Refusal) -> usize
+    ensures { λ n. ⌜ n ≡ place r ⌝ }
+{
+    match r {
+        Refusal::NotUtf8(at) => at.0,
+        Refusal::OverLong(at) => at.0,
+        Refusal::BadListing(at) => at.0,
+        Refusal::ShortOutput => 0,
+        Refusal::BadPlace => 0,
+    }
 }
 
 // Whether a text of s begins with a prefix.
