@@ -1,2 +1,3 @@
--- The definitions of the lattice.
+-- The definitions that the contracts of `lattice` cite.
 pub mod Lattice
+pub mod Kept

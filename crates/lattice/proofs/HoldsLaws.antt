@@ -1,0 +1,151 @@
+-- Laws of `Holds`: stores that leave a lattice as it is, and an edge that is added or not. No contract cites this file.
+-- In order: stores between the listing and the cells; a full lattice stays full; what is to be done with an edge, and what then holds. Assumes nothing.
+use mathlib.Core.Path.{_≡_, refl, sym, _∙_}
+use mathlib.Core.Logic.{_⊎_, inl, inr}
+use mathlib.Core.Bool.{Bool, true, false, cond, _||_, true≢false}
+use mathlib.Core.List.{List, [], _∷_, _++_}
+use Prim.Native.Nat.{ℕ, _+_, _*_, _-_, _≤_, _<_}
+use native.Mathlib.Omega.{arith}
+use lib.ListN.{length}
+use lib.Seq.{sets, length-sets}
+use lib.Dec.{ltb}
+use borrow.Author.Tests.{lt-ltb, ltb-true}
+use Rattle.fields.proofs.PartLaws.{part-sets-other}
+use Rattle.edge.specs.Edge.{Edge, edgeBytes, edgesBytes, listingBytes}
+use Rattle.lattice.specs.declared.Lattice.{Lattice}
+use Rattle.lattice.specs.declared.Adding.the-variants.{Nothing, TooMuch, Into}
+use Rattle.lattice.specs.Lattice.{has, add, overfull}
+use Rattle.lattice.specs.Kept.{END, OFFSETS, NEXTS, HEADS, cell, linked, Kept, Stands, Holds, AddingIs, bucket}
+use Rattle.lattice.proofs.BucketLaws.{bucket-lt}
+use Rattle.lattice.proofs.KeptLaws.{length-edges-snoc, length-listing, kept-size, cell-other}
+use Rattle.lattice.proofs.GrowLaws.{length-snoc, grown}
+
+-- ---- a lattice that is not full is kept, one that is full is over
+module _ {w : List ℕ} {l : Lattice} {es : List Edge} (q : Holds w l es) where
+  pub kept-of : l .full ≡ false → Kept w (l .count) (l .len) es
+  kept-of f = go (q .state)
+    where
+      go : ((l .full ≡ true) × (overfull es ≡ true)) ⊎ ((l .full ≡ false) × Kept w (l .count) (l .len) es) → Kept w (l .count) (l .len) es
+      go (inl x) = absurd (true≢false (sym (x .0) ∙ f))
+      go (inr x) = x .1
+
+  pub over-of : l .full ≡ true → overfull es ≡ true
+  over-of f = go (q .state)
+    where
+      go : ((l .full ≡ true) × (overfull es ≡ true)) ⊎ ((l .full ≡ false) × Kept w (l .count) (l .len) es) → overfull es ≡ true
+      go (inl x) = x .1
+      go (inr x) = absurd (true≢false (sym f ∙ x .0))
+
+-- ---- stores behind the listing and before the cells, or from END on
+abbrev pub Beside : ℕ → ℕ → List ℕ → Type 0
+Beside len i bs = (len ≤ i) × ((i + length bs ≤ OFFSETS) ⊎ (END ≤ i))
+
+cell-beside : (w : List ℕ) (i : ℕ) (bs : List ℕ) (base j : ℕ) → OFFSETS ≤ base → base + 2 * j + 2 ≤ END → (i + length bs ≤ OFFSETS) ⊎ (END ≤ i) → cell (sets w i bs) base j ≡ cell w base j
+cell-beside w i bs base j x y (inl z) = cell-other w i bs base j (inl (omega arith))
+cell-beside w i bs base j x y (inr z) = cell-other w i bs base j (inr (omega arith))
+
+kept-beside : {w : List ℕ} {n len : ℕ} {es : List Edge} → Kept w n len es → (i : ℕ) (bs : List ℕ) → Beside len i bs → Kept (sets w i bs) n len es
+kept-beside {w} {n} {len} {es} q i bs a =
+    let r = q .room in
+    let f = q .few in
+    let l = length-sets w i bs in
+    record {
+      room = omega arith;
+      count = q .count;
+      few = q .few;
+      short = q .short;
+      size = q .size;
+      listing = part-sets-other w i bs 0 len (inr (omega (arith, a .0))) ∙ q .listing;
+      fits = q .fits;
+      offsets = λ j x. cell-beside w i bs OFFSETS j (omega arith) (omega arith) (a .1) ∙ q .offsets j x;
+      nexts = λ j x. cell-beside w i bs NEXTS j (omega arith) (omega arith) (a .1) ∙ q .nexts j x;
+      heads = λ j x. cell-beside w i bs HEADS j (omega arith) (omega arith) (a .1) ∙ q .heads j x;
+    }
+
+pub holds-beside : {w : List ℕ} {l : Lattice} {es : List Edge} → Holds w l es → (i : ℕ) (bs : List ℕ) → Beside (l .len) i bs → Holds (sets w i bs) l es
+holds-beside {w} {l} {es} q i bs a = record { room = let r = q .room in let x = length-sets w i bs in omega arith; short = q .short; state = go (q .state) }
+  where
+    go : ((l .full ≡ true) × (overfull es ≡ true)) ⊎ ((l .full ≡ false) × Kept w (l .count) (l .len) es)
+        → ((l .full ≡ true) × (overfull es ≡ true)) ⊎ ((l .full ≡ false) × Kept (sets w i bs) (l .count) (l .len) es)
+    go (inl x) = inl x
+    go (inr x) = inr (x .0, kept-beside (x .1) i bs a)
+
+-- ---- a list that is over stays so
+pub or-right : (t u : Bool) → u ≡ true → t || u ≡ true
+or-right true u p = refl
+or-right false u p = p
+
+pub over-many : (es : List Edge) → 1024 < length es → overfull es ≡ true
+unfolding overfull
+over-many es h = rw (lt-ltb 1024 (length es) h)
+
+pub over-long : (es : List Edge) → 32768 < 2 + length (edgesBytes es) → overfull es ≡ true
+unfolding overfull
+over-long es h = let e = length-listing es in or-right (ltb 1024 (length es)) (ltb 32768 (length (listingBytes es))) (lt-ltb 32768 (length (listingBytes es)) (omega arith))
+
+over-snoc : (es : List Edge) (e : Edge) → overfull es ≡ true → overfull (es ++ (e ∷ [])) ≡ true
+unfolding overfull
+over-snoc es e h = go (ltb 1024 (length es)) refl h
+  where
+    go : (t : Bool) → ltb 1024 (length es) ≡ t → t || ltb 32768 (length (listingBytes es)) ≡ true → overfull (es ++ (e ∷ [])) ≡ true
+    go true p x = let a = ltb-true 1024 (length es) p in let b = length-snoc es e in over-many (es ++ (e ∷ [])) (omega arith)
+    go false p x = let a = ltb-true 32768 (length (listingBytes es)) x in let b = length-listing es in let d = length-edges-snoc es e in over-long (es ++ (e ∷ [])) (omega arith)
+
+add-new : (es : List Edge) (e : Edge) → has es e ≡ false → add es e ≡ es ++ (e ∷ [])
+unfolding add
+add-new es e h = rw h
+
+over-add : (es : List Edge) (e : Edge) → overfull es ≡ true → overfull (add es e) ≡ true
+unfolding add
+over-add es e h = go (has es e)
+  where
+    go : (t : Bool) → overfull (cond t es (es ++ (e ∷ []))) ≡ true
+    go true = h
+    go false = over-snoc es e h
+
+-- ---- what is to be done with an edge
+module _ {w : List ℕ} {l : Lattice} {es : List Edge} (q : Holds w l es) (e : Edge) (f : l .full ≡ false) (h : has es e ≡ false) where
+  pub too-many : 1024 ≤ l .count → AddingIs l es e TooMuch
+  unfolding AddingIs
+  too-many x = let k = kept-of q f .count in let d = length-snoc es e in (f, h, over-many (es ++ (e ∷ [])) (omega arith))
+
+  pub too-long : 32768 - l .len < length (edgeBytes e) → AddingIs l es e TooMuch
+  unfolding AddingIs
+  too-long x = let k = kept-size (kept-of q f) in let d = length-edges-snoc es e in (f, h, over-long (es ++ (e ∷ [])) (omega arith))
+
+  pub into : (b : ℕ) → l .count < 1024 → length (edgeBytes e) ≤ 32768 - l .len → b ≡ bucket e → AddingIs l es e (Into b)
+  unfolding AddingIs
+  into b x y p = let s = q .short in (f, h, x, omega arith, p)
+
+-- what `link` asks for
+pub link-room : {w : List ℕ} {l : Lattice} {es : List Edge} → Holds w l es → (e : Edge) (b : ℕ) → AddingIs l es e (Into b) → (END ≤ length w) × (l .count < 1024) × (l .len ≤ 32768) × (b < 256)
+unfolding AddingIs
+link-room q e b a = (q .room, a .2, q .short, bucket-lt e (a .4))
+
+-- and room for a copy
+pub copy-room : {w s : List ℕ} {l : Lattice} {es : List Edge} → Holds w l es → (e : Edge) (b : ℕ) → AddingIs l es e (Into b) → {at n to : ℕ} → Stands s at n to e → l .len + (to - at) ≤ 32768
+unfolding AddingIs
+copy-room q e b a d = let z = d .ends in let y = a .3 in omega arith
+
+-- ---- and what then holds
+abbrev lattice : ℕ → ℕ → Bool → Lattice
+lattice n len full = record { count = n; len = len; full = full }
+
+module _ {w : List ℕ} {l : Lattice} {es : List Edge} (q : Holds w l es) (e : Edge) where
+  pub add-nothing : AddingIs l es e Nothing → Holds w l (add es e)
+  unfolding AddingIs add
+  add-nothing (inl f) = record { room = q .room; short = q .short; state = inl (f, over-add es e (over-of q f)) }
+  add-nothing (inr h) = rw h q
+
+  pub add-too-much : AddingIs l es e TooMuch → Holds w (lattice (l .count) (l .len) true) (add es e)
+  unfolding AddingIs
+  add-too-much a = record { room = q .room; short = q .short; state = inl (refl, rw (add-new es e (a .1)) (a .2)) }
+
+  -- the edge was composed behind the listing
+  pub add-into : (b k to : ℕ) → AddingIs l es e (Into b) → Stands w (l .len) k to e → {t : List ℕ} → t ≡ linked w (l .count) (l .len) b → Holds t (lattice (l .count + 1) to false) (add es e)
+  unfolding AddingIs
+  add-into b k to a d p =
+      let z = d .ends in
+      let y = a .3 in
+      let g = grown w (l .count) (l .len) es (kept-of q (a .0)) k to e d (a .2) (omega arith) b (a .4) in
+      rw (p, add-new es e (a .1)) (record { room = g .room; short = omega arith; state = inr (refl, g) })
