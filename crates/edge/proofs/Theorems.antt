@@ -1,18 +1,25 @@
--- What is promised of listings beyond the contracts: what was listed is read, equal bytes are equal edges, and legal edges are accepted.
+-- What is promised of listings beyond the contracts: what was listed is read and accepted, what is accepted is the bytes of its edges, and equal
+-- bytes are equal edges. Assumes nothing.
 use mathlib.Core.Path.{_≡_, refl, sym, ap, _∙_}
-use mathlib.Core.Bool.{Bool, true, _&&_}
-use mathlib.Core.List.{List, [], _∷_, _++_}
-use Prim.Native.Nat.{ℕ, _+_, _^_, _≤_, _<_}
+use mathlib.Core.Bool.{Bool, true, not}
+use mathlib.Core.List.{List, [], _∷_, _++_, append-assoc, append-nil}
+use Prim.Native.Nat.{ℕ, suc, _+_, _^_, _≤_, _<_}
 use native.Mathlib.Omega.{arith}
-use lib.ListN.{length, drop, length-append, length-drop}
+use lib.ListN.{length, drop, getD, length-append, length-drop}
+use lib.Dec.{T}
+use lib.Ieee.{binary64, toBits, ofBits, nanBits}
+use lib.Ieee.Bits.{ofBits-toBits, toBits-lt}
+use Rattle.whole.specs.Whole.{TOP, ofNat}
+use Rattle.whole.proofs.WholeLaws.{ofNat-fits, ofNat-bits-not-nan}
 use borrow.Author.Tests.{le-leb, le-ltb}
 use Rattle.fields.specs.Fields.{leAt, bytesOf}
 use Rattle.fields.proofs.FieldsLaws.{length-bytesOf, leAt-bytesOf}
-use Rattle.edge.specs.declared.ListingCheck.the-variants.{Edges}
-use Rattle.edge.specs.Edge.{Edge, mapOf, edgeBytes, edgesBytes, listingBytes, EdgeFits}
-use Rattle.edge.specs.Layout.{nextAt, edgeAt, edgesAt, listed}
+use Rattle.edge.specs.declared.ListingCheck.the-variants.{Edges, Refused}
+use Rattle.edge.specs.Edge.{Edge, mapOf, edgeBytes, edgesBytes, listingBytes, EdgeFits, f64Bits}
+use Rattle.edge.specs.Layout.{mapAt, nextAt, edgeAt, edgesAt, listed}
 use Rattle.edge.specs.Check.{allowed, sound, good, checkEdges, checkListing}
-use Rattle.edge.proofs.ReadBackLaws.{number-behind, edge-there, edge-behind}
+use Rattle.edge.proofs.ListedLaws.{accepted-listed}
+use Rattle.edge.proofs.ReadBackLaws.{behind, number-behind, EdgeRead, edge-there, edge-behind}
 
 -- ---- an edge
 -- what was listed is read, whatever stands behind it
@@ -89,3 +96,20 @@ module _ (given : Bool) (n : ℕ) (es : List Edge) (legal : AllLegal given n es)
   unfolding checkListing
   listing-accepted =
       rw (le-leb 2 (length (listingBytes es)) count-inside, count-read) (edges-accepted given n (listingBytes es) es 2 legal count-inside edges-row ∙ ap Edges count-read)
+
+-- an accepted listing is the bytes of its edges, each byte being below 256
+pub accepted-is-listed : (given : Bool) (n : ℕ) (s : List ℕ) → ((i : ℕ) → getD s i 0 < 256) → (count : ℕ) → checkListing given n s ≡ Edges count → listingBytes (listed s) ≡ s
+accepted-is-listed = accepted-listed
+
+-- ---- floats: the bits of a whole number up to TOP are a u64, no NaN, and those of the number's f64
+pub f64-bits-fit : (v : ℕ) → f64Bits v < 2 ^ 64
+unfolding f64Bits
+f64-bits-fit v = toBits-lt binary64 (ofNat v) (ofNat-fits v)
+
+pub f64-bits-not-nan : {v : ℕ} → v ≤ TOP → T (not (nanBits binary64 (f64Bits v)))
+unfolding f64Bits
+f64-bits-not-nan h = ofNat-bits-not-nan h
+
+pub f64-bits-back : (v : ℕ) → ofBits binary64 (f64Bits v) ≡ ofNat v
+unfolding f64Bits
+f64-bits-back v = ofBits-toBits binary64 (ofNat v) (ofNat-fits v)

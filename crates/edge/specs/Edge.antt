@@ -1,7 +1,8 @@
 -- Edges as values, and the bytes in which they are listed (01, "Listing"). Definitions only.
 --     Text              a string: its UTF-8 bytes
 --     Edge, Numeric     an edge, and the numeric data of a numeric one; a field that is absent is none
---     mapOf e           the u16 map of an edge: which of its fields are there
+--     f64Bits v         the bits of the f64 of a whole number v
+--     mapOf x           the u16 map of an edge: which of its fields are there
 --     str t             a string as it is listed: a u16 length and its bytes
 --     edgeBytes e       an edge as it is listed
 --     listingBytes es   a listing: a u16 count, and the edges
@@ -13,6 +14,8 @@ use mathlib.Core.Bool.{Bool, cond}
 use mathlib.Core.List.{List, [], _∷_, _++_}
 use mathlib.Core.Option.{Option, none, some}
 use lib.ListN.{length}
+use lib.Ieee.{binary64, toBits}
+use Rattle.whole.specs.Whole.{ofNat}
 use Rattle.fields.specs.Fields.{bytesOf}
 
 abbrev pub Text : Type 0
@@ -39,6 +42,10 @@ pub record Edge : Type 0 where
   pub txt : Text
   -- none: a regular edge
   pub num : Option Numeric
+
+-- the bits that value and base_multiplier of an edge have for a whole number
+unfoldable pub f64Bits : ℕ → ℕ
+f64Bits v = toBits binary64 (ofNat v)
 
 -- ---- the map
 abbrev pub there : {A : Type 0} → Option A → ℕ
