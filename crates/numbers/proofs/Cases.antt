@@ -21,13 +21,13 @@ use Rattle.passes.specs.Chains.{from, chains}
 use Rattle.passes.specs.NumEdge.{firstAbove}
 use Rattle.passes.specs.Characters.{charEdges, charEdge, lowest, gcd, gcdWithin}
 use Rattle.passes.specs.Passes.{through, addedBy, after, added, chainsOf, joinedOf, next, joined, over, overDigits, d1Rule, g1Rule, g2Rule, g3Rule, g4Rule, digitEdge, gap, nearest, begin, longer, retags, countedValue, countedBase, powerOfTen, powerWithin}
-use Rattle.edge.specs.Edge.{Text, Edge, Numeric, str, headBytes, edgeBytes, edgesBytes, listingBytes}
+use Rattle.edge.specs.Edge.{Text, Edge, Numeric, f64Bits, str, headBytes, edgeBytes, edgesBytes, listingBytes}
 use Rattle.edge.specs.Layout.{edgesAt, nextAt, edgeAt, stringEnd}
 use Rattle.edge.specs.Check.{checkListing, checkEdges, good}
 use Rattle.lattice.specs.Lattice.{sameKey, has, add, addAll, inactive, turnOffAt, turnOff, overfull}
 use Rattle.paths.specs.Best.{startsWith, regularClass, class, asked, score, bestFrom, numbered}
 use Rattle.grammar.specs.Plain.{plain, plainRecords, plainRecord}
-use Rattle.numbers.specs.Listed.{f64Bits, listedEdge, wholeValue}
+use Rattle.numbers.specs.Listed.{listedEdge, wholeValue}
 use Rattle.numbers.specs.Fractions.{standsAt, longest, markerAt, fractionEdge, marked, madeAt, madeFrom, newEdges, usedEdges, fractions}
 use Rattle.numbers.specs.Signs.{signed, signs}
 use Rattle.numbers.specs.Separators.{endsBefore, apart, copyOf, copies, separate}

@@ -14,7 +14,7 @@ use Rattle.text.specs.declared.Offset.{Offset}
 use Rattle.text.specs.Text.{chars, wellFormed, offsetOf, illAt}
 use Rattle.text.specs.Line.{lineCheck, maxChars}
 use Rattle.dicts.specs.Check.{readTable}
-use Rattle.edge.specs.Edge.{Numeric}
+use Rattle.edge.specs.Edge.{Numeric, f64Bits}
 use Rattle.edge.specs.Check.{checkListing}
 use Rattle.edge.specs.declared.ListingCheck.{ListingCheck}
 use Rattle.edge.specs.declared.ListingCheck.the-variants as ListingCheck
@@ -24,7 +24,7 @@ use Rattle.grammar.specs.Plain.{Char, codePoint, plain}
 use Rattle.grammar.specs.PlainBytes.{plainBytes}
 use Rattle.grammar.proofs.Demand3.{Carries, Settled, demand3}
 use Rattle.grammar.proofs.PlainTable.{plain-table}
-use Rattle.numbers.specs.Listed.{listedEdge, f64Bits}
+use Rattle.numbers.specs.Listed.{listedEdge}
 use Rattle.numbers.specs.Call.{Answer, listing, refused, addNumbers, withLine, withTable, withGiven, withAll, unlessAbove}
 
 -- the answer is a listing

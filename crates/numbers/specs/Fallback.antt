@@ -7,7 +7,7 @@ use mathlib.Core.Bool.{Bool, true, false, cond, _&&_, _||_, not}
 use mathlib.Core.List.{List, [], _∷_}
 use lib.Dec.{eqb, leb}
 use Rattle.edge.specs.Edge.{Text, Edge}
-use Rattle.numbers.specs.Listed.{regular}
+use Rattle.edge.specs.Write.{regular}
 use Rattle.numbers.specs.Fractions.{isNumeric}
 
 unfoldable pub covered : List Edge → ℕ → Bool

@@ -20,7 +20,8 @@ use Rattle.passes.specs.Characters.{lowest}
 use Rattle.edge.specs.Edge.{Edge, Numeric}
 use Rattle.paths.specs.Best.{Best, leftNeighbor, rightNeighbor}
 use Rattle.lattice.specs.Lattice.{addAll, turnOff}
-use Rattle.numbers.specs.Listed.{wholeValue, regular}
+use Rattle.edge.specs.Write.{regular}
+use Rattle.numbers.specs.Listed.{wholeValue}
 
 -- comparing a marker or sign with the line: character by character
 unfoldable pub standsAt : List ℕ → ℕ → Text → Bool

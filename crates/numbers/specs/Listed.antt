@@ -1,19 +1,13 @@
 -- The passes' edges as they are listed (01: "value and base_multiplier (mult) are f64, listed as 8 bytes of their bits"). Definitions only.
---     f64Bits n         the bits of the f64 of the whole number n
 --     listedEdge e      the passes' edge e in the listing's form
 --     wholeValue e      the value of a listed edge as a whole number, where it has one
---     regular s z t x   the regular edge from place s to z with type t and txt x
 --     Assumes nothing.
 use Prim.Native.Nat.{ℕ}
 use mathlib.Core.Bool.{Bool}
 use mathlib.Core.Option.{Option, none, some, Option·map}
-use lib.Ieee.{binary64, toBits, ofBits, toUnsigned}
-use Rattle.whole.specs.Whole.{ofNat}
+use lib.Ieee.{binary64, ofBits, toUnsigned}
 use Rattle.passes.specs.NumEdge.{NumEdge}
-use Rattle.edge.specs.Edge.{Text, Edge, Numeric}
-
-unfoldable pub f64Bits : ℕ → ℕ
-f64Bits n = toBits binary64 (ofNat n)
+use Rattle.edge.specs.Edge.{Edge, Numeric, f64Bits}
 
 unfoldable pub listedEdge : NumEdge → Edge
 listedEdge e = record {
@@ -40,6 +34,3 @@ valueOf (some n) = Option·map (λ b. toUnsigned 64 (ofBits binary64 b)) (n .val
 
 unfoldable pub wholeValue : Edge → Option ℕ
 wholeValue e = valueOf (e .num)
-
-abbrev pub regular : ℕ → ℕ → Text → Text → Edge
-regular s z t x = record { start = s; end = z; type = t; txt = x; num = none }

@@ -12,7 +12,7 @@ use Rattle.text.specs.Text.{chars}
 use Rattle.dicts.specs.Table.{Text, Table}
 use Rattle.passes.specs.NumEdge.{NumEdge, has}
 use Rattle.edge.specs.Edge.{Edge}
-use Rattle.numbers.specs.Listed.{regular}
+use Rattle.edge.specs.Write.{regular}
 use Rattle.numbers.specs.Fractions.{standsAt}
 
 -- the sign m stands directly before place p, wholly before it
