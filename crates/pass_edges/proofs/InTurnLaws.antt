@@ -1,0 +1,85 @@
+-- The passes in turn on items, and refusal 7.
+-- In order: the edges that the items stand for; the first pass that joins an edge above TOP decides.
+use Prim.Native.Nat.{ℕ}
+use mathlib.Core.Path.{_≡_, refl, sym, ap, _∙_}
+use mathlib.Core.Bool.{Bool, true, false, cond}
+use mathlib.Core.List.{List, [], _∷_, _++_, map, map-append}
+use mathlib.Core.Option.{Option, none, some}
+use lib.Dec.{ltb}
+use Rattle.text.specs.Text.{Scalars}
+use Rattle.whole.specs.Whole.{TOP}
+use Rattle.dicts.specs.Answers.{optionally}
+use Rattle.passes.specs.NumEdge.{orZero}
+use Rattle.passes.specs.NumEdge as edges
+use Rattle.passes.specs.Passes.{Pass}
+use Rattle.passes.specs.Passes as passes
+use Rattle.pass_list.specs.Item.{Item, Every, nil, cons}
+use Rattle.pass_list.specs.ItemPass.{after, added, firstAbove}
+use Rattle.pass_list.specs.Edges.{edgeOf, WellMade}
+use Rattle.pass_list.proofs.Simulation.{after-agrees, after-made, added-agrees, added-made}
+use Rattle.pass_edges.specs.InTurn.{through, addedBy}
+use Rattle.pass_edges.proofs.EveryLaws.{every-append}
+
+-- an absent number is 0
+number-is : (there : Bool) (n : ℕ) → (there ≡ false → n ≡ 0) → orZero (optionally there n) ≡ n
+number-is true n h = refl
+number-is false n h = sym (h refl)
+
+module _ (w t : List ℕ) (scalars : Scalars w) where
+  pub through-made : (ps : List Pass) (l : List Item) → Every (WellMade w t) l → Every (WellMade w t) (through ps l)
+  unfolding through
+  through-made [] l h = h
+  through-made (p ∷ ps) l h = through-made ps (after p l) (after-made w t scalars p l h)
+
+  pub through-agrees : (ps : List Pass) (l : List Item) → Every (WellMade w t) l → map (edgeOf w t) (through ps l) ≡ passes.through ps (map (edgeOf w t) l)
+  unfolding through passes.through
+  through-agrees [] l h = refl
+  through-agrees (p ∷ ps) l h = through-agrees ps (after p l) (after-made w t scalars p l h) ∙ ap (passes.through ps) (after-agrees w t scalars p l h)
+
+  pub added-by-made : (ps : List Pass) (l : List Item) → Every (WellMade w t) l → Every (WellMade w t) (addedBy ps l)
+  unfolding addedBy
+  added-by-made [] l h = nil
+  added-by-made (p ∷ ps) l h =
+      every-append (WellMade w t) (added p l) (addedBy ps (after p l)) (added-made w t scalars p l h) (added-by-made ps (after p l) (after-made w t scalars p l h))
+
+  pub added-by-agrees : (ps : List Pass) (l : List Item) → Every (WellMade w t) l → map (edgeOf w t) (addedBy ps l) ≡ passes.addedBy ps (map (edgeOf w t) l)
+  unfolding addedBy passes.addedBy
+  added-by-agrees [] l h = refl
+  added-by-agrees (p ∷ ps) l h =
+      map-append (edgeOf w t) (added p l) (addedBy ps (after p l))
+      ∙ rw (added-by-agrees ps (after p l) (after-made w t scalars p l h), added-agrees w t scalars p l h, after-agrees w t scalars p l h)
+
+  -- ---- refusal 7
+  pub first-above-agrees : (l : List Item) → Every (WellMade w t) l → firstAbove l ≡ edges.firstAbove (map (edgeOf w t) l)
+  unfolding firstAbove edges.firstAbove edgeOf
+  first-above-agrees [] nil = refl
+  first-above-agrees (x ∷ l) (cons m h) = rw (number-is (x .has-value) (x .value) (m .value-absent), first-above-agrees l h)
+
+  pub above-by-agrees : (ps : List Pass) (l : List Item) → Every (WellMade w t) l → firstAbove (addedBy ps l) ≡ edges.firstAbove (passes.addedBy ps (map (edgeOf w t) l))
+  above-by-agrees ps l h = first-above-agrees (addedBy ps l) (added-by-made ps l h) ∙ ap edges.firstAbove (added-by-agrees ps l h)
+
+-- ---- the first pass that joins an edge above TOP decides
+abbrev orElse : Option ℕ → Option ℕ → Option ℕ
+orElse none o = o
+orElse (some a) o = some a
+
+first-above-append : (l m : List Item) → firstAbove (l ++ m) ≡ orElse (firstAbove l) (firstAbove m)
+unfolding firstAbove
+first-above-append [] m = refl
+first-above-append (x ∷ l) m = go (ltb TOP (x .value)) (first-above-append l m)
+  where
+    go : (b : Bool) → firstAbove (l ++ m) ≡ orElse (firstAbove l) (firstAbove m)
+        → cond b (some (x .start)) (firstAbove (l ++ m)) ≡ orElse (cond b (some (x .start)) (firstAbove l)) (firstAbove m)
+    go true ih = refl
+    go false ih = ih
+
+module _ (p : Pass) (ps : List Pass) (l : List Item) where
+  above-cons : firstAbove (addedBy (p ∷ ps) l) ≡ orElse (firstAbove (added p l)) (firstAbove (addedBy ps (after p l)))
+  unfolding addedBy
+  above-cons = first-above-append (added p l) (addedBy ps (after p l))
+
+  pub above-here : (a : ℕ) → firstAbove (added p l) ≡ some a → firstAbove (addedBy (p ∷ ps) l) ≡ some a
+  above-here a e = above-cons ∙ rw e
+
+  pub above-later : firstAbove (added p l) ≡ none → firstAbove (addedBy (p ∷ ps) l) ≡ firstAbove (addedBy ps (after p l))
+  above-later e = above-cons ∙ rw e
