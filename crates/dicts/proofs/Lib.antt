@@ -3,3 +3,4 @@ pub mod LayoutLaws
 pub mod ContentLaws
 pub mod CheckLaws
 pub mod LookupLaws
+pub mod TableBytesLaws

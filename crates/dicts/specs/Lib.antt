@@ -4,3 +4,4 @@ pub mod Layout
 pub mod Check
 pub mod Answers
 pub mod Lookup
+pub mod TableBytes

@@ -9,8 +9,9 @@ use Rattle.fields.specs.Fields.{le, leAt, bytesOf}
 use Rattle.fields.specs.Part.{part}
 use Rattle.dicts.specs.Layout.{number, textOf, text, fraction, optional, readNumbers, readFields, readRecord}
 use Rattle.dicts.specs.Check.{Fine, item, allOf, legalMark, legalDigit, legalCodePoint, legalTexts, legalNumbers, digitRule, legalRecord, readTexts, readList, readRecords, readTable}
+use Rattle.dicts.specs.TableBytes.{string, inRow, list, mapOf, recordBytes, tableBytes}
 use Rattle.grammar.specs.Plain.{plain, plainRecords, plainRecord}
-use Rattle.grammar.specs.PlainBytes.{string, inRow, list, mapOf, recordBytes, tableBytes, plainBytes}
+use Rattle.grammar.specs.PlainBytes.{plainBytes}
 
 pub plain-table : readTable plainBytes ≡ Fine plain (length plainBytes)
 unfolding plainBytes tableBytes recordBytes mapOf list inRow string plain plainRecords plainRecord bytesOf encode decimal decimalWithin readTable readRecords readList readTexts legalRecord digitRule legalNumbers legalTexts legalCodePoint legalDigit legalMark allOf item readRecord readFields readNumbers optional fraction text textOf number le leAt part left decode seq same
