@@ -1,7 +1,5 @@
 // Counts the decimal digits among all code points, then says of each line of standard input whether it begins and whether it ends with one.
 // The answers in `stdout` are those of UnicodeData.txt 15.0; the last lines of `stdin` are ill-formed.
-ghost use Prim.Native.Nat.{_≤_};
-ghost use lib.ListN.{length};
 use libc::STDIN_FILENO;
 use libc::STDOUT_FILENO;
 
@@ -25,25 +23,10 @@ fn write_answer(yes: bool) {
     }
 }
 
-// The place of the first newline from `at` on, or the end.
-fn line_end(s: &[u8], at: usize) -> usize
-    requires { ⌜ at ≤ length (now s) ⌝ }
-    ensures { λ r. ⌜ (at ≤ r) × (r ≤ length (now (s .entry))) ⌝ }
-{
-    let mut end = at;
-    while end < s.len() {
-        if s[end] == b'\n' {
-            return end;
-        }
-        end += 1;
-    }
-    end
-}
-
 fn write_rows(s: &[u8]) {
     let mut at = 0;
     while at < s.len() {
-        let end = line_end(s, at);
+        let end = vectors::until(s, at, b'\n');
         let line = &s[at..end];
         io::write_all(STDOUT_FILENO, line);
         write_answer(digits::begins_with_digit(line));

@@ -1,8 +1,7 @@
 // Replays texts against the crate `text`. A line of standard input is a text in hexadecimal, or a remark that begins with #, which is written as it is.
 // Of each text it writes the refusal and its offset, or how many characters it has and then each one's offset and code point.
-ghost use Prim.Native.Nat.{_≤_, _<_};
+ghost use Prim.Native.Nat.{_≤_};
 ghost use lib.ListN.{length};
-ghost use Rattle.io.specs.Counts.{Counts};
 use text::LineCheck;
 use text::Offset;
 use text::Place;
@@ -17,25 +16,10 @@ fn main() {
 fn replay(s: &[u8]) {
     let mut at = 0;
     while at < s.len() {
-        let end = line_end(s, at);
+        let end = vectors::until(s, at, b'\n');
         answer(&s[at..end]);
         at = end + 1;
     }
-}
-
-// Where the line that begins at `from` ends.
-fn line_end(s: &[u8], from: usize) -> usize
-    requires { ⌜ from ≤ length (now s) ⌝ }
-    ensures { λ r. ⌜ (from ≤ r) × (r ≤ length (now (s .entry))) ⌝ }
-{
-    let mut i = from;
-    while i < s.len() {
-        if s[i] == b'\n' {
-            return i;
-        }
-        i += 1;
-    }
-    i
 }
 
 fn answer(line: &[u8]) {
@@ -47,35 +31,19 @@ fn answer(line: &[u8]) {
         }
     }
     let mut bytes = [0u8; 1024];
-    let n = unhex(line, &mut bytes);
+    take_apart(line, &mut bytes);
+}
+
+// The text that a line's digits say, in a lent buffer, is shown.
+fn take_apart(digits: &[u8], bytes: &mut [u8]) {
+    let n = vectors::unhex(digits, bytes);
+    show_first(bytes, n);
+}
+
+fn show_first(bytes: &[u8], n: usize)
+    requires { ⌜ n ≤ length (now bytes) ⌝ }
+{
     show(&bytes[..n]);
-}
-
-fn digit(b: u8) -> u8
-    ensures { λ r. ⌜ r < 16 ⌝ }
-{
-    match b {
-        b'0'..=b'9' => b - b'0',
-        b'A'..=b'F' => b - b'A' + 10,
-        _ => 0,
-    }
-}
-
-// The bytes that pairs of hexadecimal digits say, as far as out has room; answers how many.
-fn unhex(s: &[u8], out: &mut [u8]) -> usize
-    ensures { λ r. ⌜ Counts r (now (out .exit)) ⌝ }
-{
-    let mut at = 0;
-    let mut n = 0;
-    while n < out.len() {
-        if s.len() - at < 2 {
-            return n;
-        }
-        out[n] = digit(s[at]) * 16 + digit(s[at + 1]);
-        at += 2;
-        n += 1;
-    }
-    n
 }
 
 fn show(line: &[u8]) {

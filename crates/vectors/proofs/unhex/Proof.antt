@@ -1,11 +1,11 @@
--- `dicts_main::decode` meets its contract: the loop writes within out and reads within the digits.
+-- `vectors::unhex` meets its contract: the loop writes within out and reads within the digits.
 use mathlib.Core.Path.{_≡_}
 use Prim.Native.Nat.{_≤_, _-_}
 use native.Mathlib.Omega.{arith}
 use lib.ListN.{length, length-set}
 use borrow.Author.Needs.{needs}
-use Rattle.dicts_main.proofs.decode.Statement.{statement}
-use Rattle.dicts_main.proofs.decode.Tie as tie
+use Rattle.vectors.proofs.unhex.Statement.{statement}
+use Rattle.vectors.proofs.unhex.Tie as tie
 
 abbrev Inv-loop : tie.InvT-loop
 Inv-loop digits out₀ n₀ out n = (length out ≡ length out₀) × (n ≤ length out)
@@ -67,8 +67,8 @@ same-length-2 c = search needs
 returns-2 : tie.Need-returns-2 Inv-loop μ-loop
 returns-2 c = search needs
 
-pub decode-spec : {M : Type 1} → statement M
-decode-spec =
+pub unhex-spec : {M : Type 1} → statement M
+unhex-spec =
     tie.close
     (tie.spec
     Inv-loop

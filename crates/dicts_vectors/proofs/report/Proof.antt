@@ -1,9 +1,9 @@
--- `dicts_main::report` is safe: the table is a part of the buffer.
+-- `dicts_vectors::report` is safe: the table is a part of the buffer.
 use mathlib.Core.Path.{sym}
 use lib.Seq.{length-take-le}
 use borrow.Author.Needs.{needs}
-use Rattle.dicts_main.proofs.report.Statement.{statement}
-use Rattle.dicts_main.proofs.report.Tie as tie
+use Rattle.dicts_vectors.proofs.report.Statement.{statement}
+use Rattle.dicts_vectors.proofs.report.Tie as tie
 
 slice-aggregate-check-table : tie.Need-slice-aggregate-check-table
 slice-aggregate-check-table c = sym (length-take-le _ _ (c .before .before .pre))

@@ -1,11 +1,11 @@
--- `dicts_main::replay` is safe and ends: each turn begins behind the line before it.
+-- `dicts_vectors::replay` is safe and ends: each turn begins behind the line before it.
 use mathlib.Core.Path.{_≡_}
 use Prim.Native.Nat.{_-_}
 use native.Mathlib.Omega.{arith}
 use lib.ListN.{length}
 use borrow.Author.Needs.{needs}
-use Rattle.dicts_main.proofs.replay.Statement.{statement}
-use Rattle.dicts_main.proofs.replay.Tie as tie
+use Rattle.dicts_vectors.proofs.replay.Statement.{statement}
+use Rattle.dicts_vectors.proofs.replay.Tie as tie
 
 abbrev Inv-loop : tie.InvT-loop
 Inv-loop input table₀ at₀ t6 table at = 4096 ≡ length table

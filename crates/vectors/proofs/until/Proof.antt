@@ -1,10 +1,10 @@
--- `dicts_main::until` meets its contract: the loop stays within the bytes.
+-- `vectors::until` meets its contract: the loop stays within the bytes.
 use Prim.Native.Nat.{_≤_, _-_}
 use native.Mathlib.Omega.{arith}
 use lib.ListN.{length}
 use borrow.Author.Needs.{needs}
-use Rattle.dicts_main.proofs.until.Statement.{statement}
-use Rattle.dicts_main.proofs.until.Tie as tie
+use Rattle.vectors.proofs.until.Statement.{statement}
+use Rattle.vectors.proofs.until.Tie as tie
 
 abbrev Inv-loop : tie.InvT-loop
 Inv-loop s from stop at₀ at = (from ≤ at) × (at ≤ length s)
