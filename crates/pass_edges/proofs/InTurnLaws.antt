@@ -8,22 +8,15 @@ use mathlib.Core.Option.{Option, none, some}
 use lib.Dec.{ltb}
 use Rattle.text.specs.Text.{Scalars}
 use Rattle.whole.specs.Whole.{TOP}
-use Rattle.dicts.specs.Answers.{optionally}
-use Rattle.passes.specs.NumEdge.{orZero}
 use Rattle.passes.specs.NumEdge as edges
 use Rattle.passes.specs.Passes.{Pass}
 use Rattle.passes.specs.Passes as passes
 use Rattle.pass_list.specs.Item.{Item, Every, nil, cons}
 use Rattle.pass_list.specs.ItemPass.{after, added, firstAbove}
 use Rattle.pass_list.specs.Edges.{edgeOf, WellMade}
-use Rattle.pass_list.proofs.Simulation.{after-agrees, after-made, added-agrees, added-made}
+use Rattle.pass_list.proofs.Simulation.{after-agrees, after-made, added-agrees, added-made, above-map}
 use Rattle.pass_edges.specs.InTurn.{through, addedBy}
 use Rattle.pass_edges.proofs.EveryLaws.{every-append}
-
--- an absent number is 0
-number-is : (there : Bool) (n : ℕ) → (there ≡ false → n ≡ 0) → orZero (optionally there n) ≡ n
-number-is true n h = refl
-number-is false n h = sym (h refl)
 
 module _ (w t : List ℕ) (scalars : Scalars w) where
   pub through-made : (ps : List Pass) (l : List Item) → Every (WellMade w t) l → Every (WellMade w t) (through ps l)
@@ -50,13 +43,8 @@ module _ (w t : List ℕ) (scalars : Scalars w) where
       ∙ rw (added-by-agrees ps (after p l) (after-made w t scalars p l h), added-agrees w t scalars p l h, after-agrees w t scalars p l h)
 
   -- ---- refusal 7
-  pub first-above-agrees : (l : List Item) → Every (WellMade w t) l → firstAbove l ≡ edges.firstAbove (map (edgeOf w t) l)
-  unfolding firstAbove edges.firstAbove edgeOf
-  first-above-agrees [] nil = refl
-  first-above-agrees (x ∷ l) (cons m h) = rw (number-is (x .has-value) (x .value) (m .value-absent), first-above-agrees l h)
-
   pub above-by-agrees : (ps : List Pass) (l : List Item) → Every (WellMade w t) l → firstAbove (addedBy ps l) ≡ edges.firstAbove (passes.addedBy ps (map (edgeOf w t) l))
-  above-by-agrees ps l h = first-above-agrees (addedBy ps l) (added-by-made ps l h) ∙ ap edges.firstAbove (added-by-agrees ps l h)
+  above-by-agrees ps l h = sym (above-map w t scalars (addedBy ps l) (added-by-made ps l h)) ∙ ap edges.firstAbove (added-by-agrees ps l h)
 
 -- ---- the first pass that joins an edge above TOP decides
 abbrev orElse : Option ℕ → Option ℕ → Option ℕ

@@ -14,6 +14,7 @@ use lib.Seq.{take-add, drop-drop, length-take-le}
 use lib.Dec.{ltb, leb, eqb}
 use borrow.Author.Tests.{leb-true, eqb-true}
 use Rattle.whole.specs.Whole.{TOP}
+use Rattle.whole.specs.Decimal.{padded}
 use Rattle.text.specs.Bytes.{same}
 use Rattle.text.specs.Sequence.{scalar, encode}
 use Rattle.text.specs.Text.{encodes, Scalars}
@@ -30,7 +31,7 @@ use Rattle.passes.specs.Passes.{Pass, D1, G1, G2, G3, G4, powerOfTen, digitEdge
 use Rattle.pass_list.specs.Item.{Item, Every, nil, cons}
 use Rattle.pass_list.specs.ItemPass.{ItemChain, begin, touches, d1Rule, g1Rule, g2Rule, g3Rule, g4Rule, rule, retags, withNumbers, counted, valueOf, kindOf, over, joinedValue, joins, longer, next, chainsOf, edgesOf, joinedOf, after, added, firstAbove}
 use Rattle.pass_list.proofs.RunLaws.{joins-of-next}
-use Rattle.pass_list.specs.Edges.{between, padded, edgeOf, chainOf, WellMade}
+use Rattle.pass_list.specs.Edges.{between, edgeOf, chainOf, WellMade}
 
 -- ---- one generic law: f takes elements to elements and g chains to chains, and a step of one is a step of the other
 module _ {A S B T : Type 0} (begin₁ : A → S) (next₁ : S → A → Option S) (begin₂ : B → T) (next₂ : T → B → Option T) (f : A → B) (g : S → T) (Made : A → Type 0) (Sound : S → Type 0) where
@@ -459,7 +460,7 @@ module _ (w t : List ℕ) (scalars : Scalars w) where
       go true i = cons (s .made) i
       go false i = i
 
-  above-map : (l : List Item) → Every (WellMade w t) l → edges.firstAbove (map (edgeOf w t) l) ≡ firstAbove l
+  pub above-map : (l : List Item) → Every (WellMade w t) l → edges.firstAbove (map (edgeOf w t) l) ≡ firstAbove l
   unfolding edges.firstAbove firstAbove edgeOf
   above-map [] nil = refl
   above-map (x ∷ l) (cons m r) = rw (zero-or (x .has-value) (x .value) (m .value-absent), above-map l r)

@@ -1,7 +1,6 @@
 -- Which edge an item of the pass list stands for: what isn't stored is in the line and in the table. w are the line's code points, t the table's bytes.
 -- Definitions only.
 --     between w a b     the bytes of the characters of w from place a to place b
---     padded k v        v in decimal with leading zeros, k digits in all
 --     ofRecord t at f d what f takes from the record of t at an offset; d where there is none
 --     edgeOf w t x      the edge that x stands for
 --     chainOf w t c     the chain that c stands for
@@ -9,13 +8,13 @@
 -- Assumes nothing.
 use mathlib.Core.Path.{_≡_}
 use mathlib.Core.Bool.{Bool, true, false, cond}
-use mathlib.Core.List.{List, [], _∷_, _++_}
+use mathlib.Core.List.{List, []}
 use mathlib.Core.Option.{Option, none, some, Option·getD, Option·map}
-use Prim.Native.Nat.{ℕ, zero, suc, _+_, _-_, _/_, _%_, _≤_, _<_}
+use Prim.Native.Nat.{ℕ, _-_, _≤_, _<_}
 use lib.ListN.{length, take, drop}
 use lib.Dec.{eqb}
 use Rattle.fields.specs.Part.{part}
-use Rattle.whole.specs.Decimal.{decimal}
+use Rattle.whole.specs.Decimal.{decimal, padded}
 use Rattle.text.specs.Text.{encodes}
 use Rattle.dicts.specs.Table.{Text, Record}
 use Rattle.dicts.specs.Layout.{onField, readRecord}
@@ -29,10 +28,6 @@ use Rattle.pass_list.specs.ItemPass.{ItemChain}
 
 unfoldable pub between : List ℕ → ℕ → ℕ → Text
 between w a b = encodes (take (b - a) (drop a w))
-
-unfoldable pub padded : ℕ → ℕ → Text
-padded zero v = []
-padded (suc k) v = padded k (v / 10) ++ ((48 + v % 10) ∷ [])
 
 abbrev pub ofRecord : {A : Type 0} → List ℕ → ℕ → (Record → A) → A → A
 ofRecord t at f d = onField (readRecord t at) (λ r next. f r) d
