@@ -4,3 +4,4 @@ pub mod ContentLaws
 pub mod CheckLaws
 pub mod LookupLaws
 pub mod TableBytesLaws
+pub mod TableSoundLaws

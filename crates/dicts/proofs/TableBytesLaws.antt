@@ -1,11 +1,11 @@
--- A legal table's bytes are read back as that table (`specs/TableBytes.antt`, `specs/Check.antt`). No contract cites this file.
+-- A legal table's bytes are read back as that table: `complete` (`specs/TableBytes.antt`, `specs/Check.antt`). No contract cites this file.
 -- In order: bytes that stand at an offset; numbers and strings; fields that may be absent; a record; lists and records in a row; the table.
 use mathlib.Core.Path.{_≡_, refl, sym, ap, _∙_, subst}
 use mathlib.Core.Logic.{_⊎_, inl, inr}
-use mathlib.Core.Bool.{Bool, true, false, cond, _&&_}
+use mathlib.Core.Bool.{Bool, true, false, _&&_}
 use mathlib.Core.List.{List, [], _∷_, _++_, append-assoc, append-nil}
 use mathlib.Core.Option.{Option, none, some}
-use Prim.Native.Nat.{ℕ, zero, suc, _+_, _*_, _/_, _%_, _^_, _≤_, _<_}
+use Prim.Native.Nat.{ℕ, suc, _+_, _*_, _/_, _%_, _^_, _≤_, _<_}
 use native.Mathlib.Nat.{le-refl}
 use native.Mathlib.Omega.{arith}
 use lib.ListN.{length, take, drop, length-append}
