@@ -3,5 +3,3 @@ pub mod LayoutLaws
 pub mod ContentLaws
 pub mod CheckLaws
 pub mod LookupLaws
-pub mod TableBytesLaws
-pub mod TableSoundLaws

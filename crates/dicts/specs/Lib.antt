@@ -4,4 +4,3 @@ pub mod Layout
 pub mod Check
 pub mod Answers
 pub mod Lookup
-pub mod TableBytes

@@ -2,6 +2,3 @@
 pub mod LayoutLaws
 pub mod CheckLaws
 pub mod WriteLaws
-pub mod ReadBackLaws
-pub mod ListedLaws
-pub mod Theorems

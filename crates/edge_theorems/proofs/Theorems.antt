@@ -14,12 +14,13 @@ use Rattle.whole.proofs.WholeLaws.{ofNat-fits, ofNat-bits-not-nan}
 use borrow.Author.Tests.{le-leb, le-ltb}
 use Rattle.fields.specs.Fields.{leAt, bytesOf}
 use Rattle.fields.proofs.FieldsLaws.{length-bytesOf, leAt-bytesOf}
 use Rattle.edge.specs.declared.ListingCheck.the-variants.{Edges, Refused}
 use Rattle.edge.specs.Edge.{Edge, mapOf, edgeBytes, edgesBytes, listingBytes, EdgeFits, f64Bits}
 use Rattle.edge.specs.Layout.{mapAt, nextAt, edgeAt, edgesAt, listed}
 use Rattle.edge.specs.Check.{allowed, sound, good, checkEdges, checkListing}
-use Rattle.edge.proofs.ListedLaws.{accepted-listed}
-use Rattle.edge.proofs.ReadBackLaws.{behind, number-behind, EdgeRead, edge-there, edge-behind}
+use Rattle.edge_theorems.specs.Legal.{Legal, AllLegal, no-edge, one-more}
+use Rattle.edge_theorems.proofs.ListedLaws.{accepted-listed}
+use Rattle.edge_theorems.proofs.ReadBackLaws.{behind, number-behind, EdgeRead, edge-there, edge-behind}
 
 -- ---- an edge
 -- what was listed is read, whatever stands behind it
@@ -34,16 +35,6 @@ pub edge-bytes-injective : (e f : Edge) → EdgeFits e → EdgeFits f → edgeBy
 edge-bytes-injective e f x y h = edge-prefix-free e f [] [] x y (ap (λ (s : List ℕ). s ++ []) h)
 
 -- ---- a listing
--- an edge that may be listed over a line of n characters; given: to be given to the call
-pub record Legal (given : Bool) (n : ℕ) (e : Edge) : Type 0 where
-  pub fits : EdgeFits e
-  pub map : allowed given (mapOf (e .num)) ≡ true
-  pub content : sound n e ≡ true
-
-pub data AllLegal (given : Bool) (n : ℕ) : List Edge → Type 0 where
-  no-edge : AllLegal given n []
-  one-more : {e : Edge} {es : List Edge} → Legal given n e → AllLegal given n es → AllLegal given n (e ∷ es)
-
 inside : (s : List ℕ) (at : ℕ) (a b : List ℕ) → at ≤ length s → drop at s ≡ a ++ b → at + length a ≤ length s
 inside s at a b h e = let l = length-drop at s in let k = ap length e ∙ length-append a b in omega arith
 

@@ -19,12 +19,12 @@ use Rattle.whole.specs.Whole.{TOP}
 use Rattle.fields.specs.Fields.{le, leAt, bytesOf}
 use Rattle.fields.specs.Part.{part}
 use Rattle.fields.proofs.FieldsLaws.{length-bytesOf, le-bytesOf}
 use Rattle.dicts.specs.Table.{Text, Record, Table}
 use Rattle.dicts.specs.Layout.{Field, Is, bit, number, textOf, text, fraction, optional, readNumbers, numbersIn, recordWith, readFields, readRecord}
 use Rattle.dicts.specs.Check.{Fine, item, allOf, small, positive, legalRatio, legalMark, legalCodePoint, legalTexts, legalNumbers, digitRule, legalRecord, readTexts, readList, readRecords, readTable}
-use Rattle.dicts.specs.TableBytes.{string, inRow, list, bytesIf, pair, there, flag, mapOf, recordBytes, tableBytes, short, shortTexts, legalStrings, legalList, legalRecords, legal}
+use Rattle.table_bytes.specs.TableBytes.{string, inRow, list, bytesIf, pair, there, flag, mapOf, recordBytes, tableBytes, short, shortTexts, legalStrings, legalList, legalRecords, legal}
 use Rattle.dicts.proofs.LayoutLaws.{number-is, fields-are}
 use Rattle.dicts.proofs.CheckLaws.{item-legal}
 
 -- ---- the bytes b stand in s from an offset on, and end at next
 pub record Stands (s : List ℕ) (at : ℕ) (b : List ℕ) (next : ℕ) : Type 0 where

@@ -15,11 +15,11 @@ use Rattle.fields.specs.Fields.{le, leAt, bytesOf}
 use Rattle.fields.specs.Part.{part}
 use Rattle.fields.proofs.FieldsLaws.{leAt-lt}
 use Rattle.fields.proofs.PartLaws.{length-part}
 use Rattle.dicts.specs.Table.{Text, Record, Table}
 use Rattle.dicts.specs.Layout.{Field, Is, Fault, thenField, mapField, bit, number, textOf, text, fraction, optional, Numbers, readNumbers, recordWith, readFields, readRecord}
 use Rattle.dicts.specs.Check.{Checked, Fine, Refused, thenItem, item, allOf, legalMark, legalRecord, readTexts, readList, readRecords, readTable}
-use Rattle.dicts.specs.TableBytes.{string, inRow, list, bytesIf, pair, there, flag, mapOf, recordBytes, tableBytes, short, shortTexts, legalStrings, legalList, legalRecords, legal}
-use Rattle.dicts.proofs.TableBytesLaws.{Stands, complete}
+use Rattle.table_bytes.specs.TableBytes.{string, inRow, list, bytesIf, pair, there, flag, mapOf, recordBytes, tableBytes, short, shortTexts, legalStrings, legalList, legalRecords, legal}
+use Rattle.table_bytes.proofs.TableBytesLaws.{Stands, complete}
 
 -- ---- bytes in a row
 join : {s : List ℕ} {at seam next : ℕ} {a b : List ℕ} → Stands s at a seam → Stands s seam b next → Stands s at (a ++ b) next

@@ -1,0 +1,2 @@
+-- Edges that may be listed.
+pub mod Legal

@@ -1,0 +1,1 @@
+// What is promised of listings beyond the contracts of `edge`: definitions in specs/, theorems in proofs/, no code.

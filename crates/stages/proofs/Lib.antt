@@ -1,0 +1,1 @@
+-- Laws that the stages of the call share.

@@ -1,0 +1,3 @@
+-- What the stages of the call share.
+pub mod Ready
+pub mod CallEdge

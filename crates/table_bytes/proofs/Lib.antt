@@ -1,0 +1,3 @@
+-- What is a table is accepted, and what is accepted is a table.
+pub mod TableBytesLaws
+pub mod TableSoundLaws

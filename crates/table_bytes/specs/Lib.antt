@@ -1,0 +1,2 @@
+-- The bytes of a table.
+pub mod TableBytes
