@@ -1,0 +1,2 @@
+-- The definitions that the contracts of `made` cite.
+pub mod Choice
