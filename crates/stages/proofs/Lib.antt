@@ -1,1 +1,2 @@
 -- Laws that the stages of the call share.
+pub mod ReadLaws
