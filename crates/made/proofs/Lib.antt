@@ -1,0 +1,2 @@
+-- The laws that the proofs of `made` share.
+pub mod NeighborLaws
