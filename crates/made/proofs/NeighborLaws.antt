@@ -23,8 +23,10 @@ use Rattle.paths.specs.declared.Query.the-variants.{Left}
 use Rattle.paths.specs.Best.{asked, score, Best, scored, better, bestFrom, best, numbered}
 use Rattle.paths.proofs.BestLaws.{head-bytes, score-not-asked, right-elsewhere}
 use Rattle.paths.proofs.ReadingLaws.{sound-span}
-use Rattle.stages.proofs.ReadLaws.{EdgeThere, edge-of, call-legals}
+use Rattle.stages.specs.CallEdge.{CallEdge}
+use Rattle.stages.proofs.ReadLaws.{EdgeThere, edge-of, call-legals, every-at}
 use Rattle.made.specs.Around.{Keeps, sideOf, placeOf, keptOf, Neighbors}
+use Rattle.made.specs.Decision.{WholeValued}
 
 -- ---- one place: what is kept, of score top and with the number x, and the edges from the i-th on have the best of all
 pub record Walk (q : Query) (es : List Edge) (i top x : ℕ) : Type 0 where
@@ -151,6 +153,9 @@ module _ {w : List ℕ} {l : Lattice} {es : List Edge} (keeps : Keeps w l es) wh
 
     pub keeps-ten : at + 10 ≤ length w
     keeps-ten = head-bytes w at (length w) keeps-inside
+
+    pub keeps-valued : WholeValued (edgeAt w at)
+    keeps-valued = let n = keeps-count in let c : CallEdge (keeps .chars) (getD es i noEdge) = every-at noEdge (keeps .edges) (omega arith) in rw keeps-edge (c .value)
 
     pub keeps-place : (right : Bool) {a : ℕ} → a ≡ placeOf right (edgeAt w at) → a ≤ 256
     keeps-place right e =

@@ -2,15 +2,18 @@
 -- `Fractions` of `numbers`, with a choice for what is made. Definitions only.
 --     choice f i j, noChoice      a choice, and the one that makes nothing
 --     optionOf v                  the value that the code read
+--     WholeValued e               the value of the edge e, if it has one, is a whole number up to TOP
 --     otherwiseOf, bothOf, withValuesOf, betweenOf, markedOf
 -- Assumes nothing.
+use mathlib.Core.Path.{_≡_}
 use mathlib.Core.Bool.{Bool, cond, _&&_, not}
 use mathlib.Core.List.{List}
 use mathlib.Core.Option.{Option, none, some}
-use Prim.Native.Nat.{ℕ, zero, suc}
+use Prim.Native.Nat.{ℕ, zero, suc, _≤_}
 use lib.ListN.{getD}
 use lib.Dec.{eqb}
-use Rattle.edge.specs.Edge.{Edge}
+use Rattle.whole.specs.Whole.{TOP}
+use Rattle.edge.specs.Edge.{Edge, Numeric, f64Bits}
 use Rattle.lattice.specs.Kept.{noEdge}
 use Rattle.numbers.specs.Listed.{wholeValue}
 use Rattle.numbers.specs.Fractions.{isNumeric}
@@ -27,6 +30,9 @@ noChoice = choice 0 0 0
 abbrev pub optionOf : Value → Option ℕ
 optionOf (Whole v) = some v
 optionOf Nothing = none
+
+abbrev pub WholeValued : Edge → Type 0
+WholeValued e = (x : Numeric) (b : ℕ) → e .num ≡ some x → x .value ≡ some b → (v : ℕ) × (v ≤ TOP) × (b ≡ f64Bits v)
 
 abbrev pub otherwiseOf : Bool → List Edge → ℕ → Choice
 otherwiseOf percent es zero = noChoice
