@@ -1,0 +1,2 @@
+-- The definitions that the contracts of `characters` cite.
+pub mod CharItem
