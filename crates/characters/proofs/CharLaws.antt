@@ -174,12 +174,13 @@ module _ (w t : List ℕ) (p : NumProp) (at i c : ℕ) where
         digit-text = λ d. ap (λ (e : NumEdge). e .txt) char-edge-is ∙ digit-text legal d;
       }
 
-  -- ---- the bounds
-  pub char-kind : item .kind ≡ 0
+-- ---- the bounds
+module _ (t : List ℕ) (p : NumProp) (at i c : ℕ) where
+  pub char-kind : charItem t p at i c .kind ≡ 0
   unfolding charItem
   char-kind = refl
 
-  pub char-small : legalNumbers (numbersIn (recordOf t p)) ≡ true → Small item
+  pub char-small : legalNumbers (numbersIn (recordOf t p)) ≡ true → Small (charItem t p at i c)
   unfolding legalNumbers recordOf charItem
   char-small h =
       let mult = and-true _ (allOf small (optionally (bit (p .map) 4) (p .numbers .mult))) h in

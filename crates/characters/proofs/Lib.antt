@@ -1,3 +1,4 @@
 -- Laws of the definitions in specs/, for this crate's proofs and its callers'.
 pub mod CharLaws
 pub mod LegalLaws
+pub mod IndexLaws
