@@ -3,17 +3,17 @@
 -- Assumes nothing.
 use mathlib.Core.Path.{_≡_, refl, sym, ap, _∙_}
 use mathlib.Core.Logic.{⊎-elim}
-use mathlib.Core.Bool.{Bool, true, false, cond, _&&_, _||_, true≢false, false≢true}
+use mathlib.Core.Bool.{Bool, true, false, cond, _&&_, true≢false, false≢true}
 use mathlib.Core.Bool as bool
-use mathlib.Core.List.{List, [], _∷_, _++_, append-nil}
+use mathlib.Core.List.{List, [], _∷_, append-nil}
 use mathlib.Core.Option.{Option, none, some, Option·getD}
-use Prim.Native.Nat.{ℕ, suc, _+_, _-_, _/_, _%_, _≤_, _<_}
+use Prim.Native.Nat.{ℕ, suc, _+_, _-_, _%_, _≤_, _<_}
 use native.Mathlib.Numerals.{add-one}
 use native.Mathlib.Omega.{arith}
-use lib.ListN.{length, take, drop, getD}
+use lib.ListN.{length, getD}
 use lib.Seq.{drop-cons}
 use lib.Dec.{leb, ltb, eqb}
-use borrow.Author.Tests.{eq-eqb, ne-eqb, leb-true, ltb-true, eqb-true, eqb-false}
+use borrow.Author.Tests.{eq-eqb, leb-true, ltb-true, eqb-true, eqb-false}
 use Rattle.whole.specs.Whole.{TOP}
 use Rattle.whole.specs.Decimal.{padded}
 use Rattle.text.specs.Bytes.{same}
@@ -24,13 +24,13 @@ use Rattle.text.proofs.RowLaws.{and-true, or-true}
 use Rattle.text.proofs.TextLaws.{encodes-injective, scalars-at}
 use Rattle.dicts.specs.Table.{Text, Record}
 use Rattle.dicts.specs.Layout.{Is, bit, numbersIn, readRecord}
-use Rattle.dicts.specs.Check.{isDigitType, allOf, small, positive, legalRatio, legalDigit, digitRule, legalNumbers, legalTexts, legalCodePoint, legalRecord}
+use Rattle.dicts.specs.Check.{isDigitType, allOf, small, positive, legalDigit, digitRule, legalNumbers, legalTexts, legalCodePoint, legalRecord}
 use Rattle.dicts.specs.Answers.{optionally, partOf, recordOf}
 use Rattle.dicts.specs.declared.layout.NumProp.{NumProp}
 use Rattle.passes.specs.NumEdge.{NumEdge, orZero, has}
 use Rattle.passes.specs.Characters.{charEdge}
 use Rattle.passes.specs.Passes as passes
-use Rattle.passes.specs.Passes.{digitType, digitEdge, isScript, cjk}
+use Rattle.passes.specs.Passes.{digitEdge, isScript, cjk}
 use Rattle.pass_list.specs.Item.{Item, Small}
 use Rattle.pass_list.specs.Edges.{between, edgeOf, WellMade}
 use Rattle.characters.specs.CharItem.{numberIf, charItem}

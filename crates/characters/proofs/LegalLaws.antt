@@ -3,14 +3,14 @@
 use mathlib.Core.Path.{_≡_, refl, sym, ap, _∙_}
 use mathlib.Core.Bool.{Bool, true, false, cond}
 use mathlib.Core.List.{List, [], _∷_}
-use mathlib.Core.Option.{Option, none, some}
+use mathlib.Core.Option.{some}
 use Prim.Native.Nat.{ℕ, zero, suc, _+_}
 use native.Mathlib.Omega.{arith}
 use lib.ListN.{length}
 use lib.Dec.{eqb}
 use Rattle.dicts.specs.Table.{Text, Record, Table, find}
 use Rattle.dicts.specs.Layout.{Field, Is, Fault, number, readRecord}
-use Rattle.dicts.specs.Check.{Checked, Fine, Refused, item, legalRecord, readList, readRecords, readTable}
+use Rattle.dicts.specs.Check.{Fine, Refused, item, legalRecord, readList, readRecords, readTable}
 use Rattle.dicts.proofs.LookupLaws.{then-fine}
 use Rattle.pass_list.specs.Item.{Every, nil, cons}
 

@@ -2,3 +2,5 @@
 pub mod CharLaws
 pub mod LegalLaws
 pub mod IndexLaws
+pub mod InitialLaws
+pub mod Theorems

@@ -1,5 +1,4 @@
 -- `char_edge` meets its contract: the edge spans one place, and its numbers fit, since table and line are no longer than memory.
-use mathlib.Core.Path.{_≡_}
 use native.Mathlib.Omega.{arith}
 use Rattle.characters.specs.CharItem.{charItem}
 use borrow.Author.Needs.{needs}

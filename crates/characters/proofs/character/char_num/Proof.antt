@@ -1,5 +1,4 @@
 -- `char_num` meets its contract: a field of the record is there where its bit of the map is 1.
-use mathlib.Core.Path.{_≡_}
 use Rattle.characters.specs.CharItem.{charItem}
 use borrow.Author.Needs.{needs}
 use Rattle.characters.proofs.character.char_num.Statement.{statement}

@@ -1,6 +1,4 @@
 -- `find_from` meets its contract. The loop's invariant: among the records that are left the character has the record that it has among all, and they rise.
-use mathlib.Core.Path.{_≡_}
-use native.Mathlib.Omega.{arith}
 use Rattle.dicts.specs.Layout.{recordsAt}
 use Rattle.characters.specs.Index.{Ahead}
 use Rattle.characters.proofs.IndexLaws.{fault-read, record-read, record-inside, rest-none, rest-fault, turn-none, turn-found, turn-above, turn-next, ahead-all}
