@@ -1,2 +1,5 @@
 -- Laws that the stages of the call share.
 pub mod ReadLaws
+pub mod OverLaws
+pub mod InactiveLaws
+pub mod CallLaws

@@ -14,12 +14,12 @@ use Rattle.edge.specs.Layout.{mapAt, nextAt, edgeAt, edgesAt}
 use Rattle.edge_theorems.specs.Legal.{Legal}
 use Rattle.edge_theorems.proofs.ReadBackLaws.{edge-there, edge-behind}
 use Rattle.lattice.specs.declared.Lattice.{Lattice}
-use Rattle.lattice.specs.Kept.{noEdge, offset, Kept, Holds}
+use Rattle.lattice.specs.Kept.{noEdge, offset, Holds}
 use Rattle.lattice.proofs.KeptLaws.{length-edges-snoc, kept-size, kept-bytes, edge-stands, offset-in}
 use Rattle.lattice.proofs.HoldsLaws.{kept-of}
 use Rattle.paths.specs.Best.{Whole}
 use Rattle.pass_list.specs.Item.{Every, nil, cons}
-use Rattle.stages.specs.CallEdge.{Legals, CallEdge, CallEdges}
+use Rattle.stages.specs.CallEdge.{Legals, CallEdges}
 
 -- ---- properties of each element
 pub every-at : {A : Type 0} {P : A → Type 0} {es : List A} {i : ℕ} (d : A) → Every P es → i < length es → P (getD es i d)
