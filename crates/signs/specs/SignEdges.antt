@@ -3,17 +3,21 @@
 --     signEdge w a z ty tx m      the edge for the sign m before place a, as a list: none where it does not stand there
 --     signEdges w a z ty tx ms    the edges for the signs ms, in their order
 --     Spot line offs a z ty tx    what is asked of place, texts and the table of offsets
+--     Begins s r t                s begins with the r bytes t
+--     signsOf t w e               G6's edges for the passes' edge e
 --     Assumes nothing.
 use Prim.Native.Nat.{ℕ, _+_, _-_, _≤_, _<_}
+use mathlib.Core.Path.{_≡_}
 use mathlib.Core.Bool.{cond}
 use mathlib.Core.List.{List, [], _∷_, _++_}
-use lib.ListN.{length}
+use lib.ListN.{length, take}
 use Rattle.text.specs.Text.{chars}
-use Rattle.dicts.specs.Table.{Text}
+use Rattle.dicts.specs.Table.{Text, Table}
+use Rattle.passes.specs.NumEdge.{NumEdge, has}
 use Rattle.edge.specs.Edge.{Edge}
 use Rattle.edge.specs.Write.{regular}
 use Rattle.stages.specs.Ready.{Offsets}
-use Rattle.numbers.specs.Signs.{endsAt}
+use Rattle.numbers.specs.Signs.{endsAt, signed}
 
 unfoldable pub signEdge : List ℕ → ℕ → ℕ → Text → Text → Text → List Edge
 signEdge w a z ty tx m = cond (endsAt w a m) (regular (a - length (chars m)) z ty tx ∷ []) []
@@ -28,3 +32,11 @@ pub record Spot (line offs : List ℕ) (a z : ℕ) (ty tx : Text) : Type 0 where
   pub start : a ≤ length (chars line)
   pub end : z ≤ 256
   pub short : length ty + length tx ≤ 2000
+
+pub record Begins (s : List ℕ) (r : ℕ) (t : Text) : Type 0 where
+  pub is : take r s ≡ t
+  pub inside : r ≤ length s
+
+-- the summand of `signs` for one edge
+unfoldable pub signsOf : Table → List ℕ → NumEdge → List Edge
+signsOf t w e = cond (has (e .value)) (signed w 45 e (t .minus-signs) ++ signed w 43 e (t .plus-signs)) []
