@@ -12,7 +12,7 @@ use Rattle.fields.specs.Part.{part}
 use Rattle.fields.proofs.FieldsLaws.{length-bytesOf}
 use Rattle.fields.proofs.PartLaws.{length-part, part-at, part-sets, part-sets-other, drop-sets, copy-turn, copy-ends}
 use Rattle.edge.specs.Edge.{Edge, Text, mapOf, str, headBytes, edgeBytes, EdgeFits}
-use Rattle.edge.specs.Layout.{txtAt, headEnd, nextAt, stringEnd}
+use Rattle.edge.specs.Layout.{mapAt, txtAt, headEnd, nextAt, stringEnd}
 use Rattle.edge.specs.declared.EdgeView.{EdgeView}
 use Rattle.edge.specs.View.{viewAt}
 use Rattle.edge.specs.Write.{Put}
@@ -104,6 +104,9 @@ module _ (w : List ℕ) (at : ℕ) (e : Edge) (fits : EdgeFits e) (there : part 
 
   pub next-is : nextAt w at ≡ at + length (edgeBytes e)
   next-is = edge-there w at rest e fits stand .ends
+
+  pub map-is : mapAt w at ≡ mapOf (e .num)
+  map-is = edge-there w at rest e fits stand .map
 
   type-row : drop (at + 6) w ≡ bytesOf 2 (length (e .type)) ++ ((e .type ++ (bytesOf 2 (length (e .txt)) ++ (e .txt ++ fieldsBytes e))) ++ rest)
   type-row =
@@ -244,3 +247,7 @@ module _ (x : List ℕ) {w : List ℕ} {len at : ℕ} {e : Edge} (q : Source w l
 
         pub copy-frame : len ≤ 32768 → drop END t ≡ drop END w
         copy-frame h = let s = copy-short in ap (drop END) (copied .wrote) ∙ drop-sets w len (edgeBytes (prefixed x e)) END (omega arith)
+
+-- a shorter text has room too
+pub source-less : {w : List ℕ} {len at k m : ℕ} {e : Edge} → m ≤ k → Source w len at k e → Source w len at m e
+source-less h q = let s = q .short in record { fits = q .fits; there = q .there; inside = q .inside; short = omega arith }

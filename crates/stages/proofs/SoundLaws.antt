@@ -1,12 +1,12 @@
 -- What it says that an edge may be listed: its span, its texts. No contract cites this file.
 -- In order: one edge; the edges of a listing; those of a lattice. Assumes nothing.
 use mathlib.Core.Path.{_≡_, ap, _∙_}
-use mathlib.Core.Bool.{Bool, true, false, _&&_}
+use mathlib.Core.Bool.{true, false, _&&_}
 use mathlib.Core.List.{List, _++_}
 use Prim.Native.Nat.{ℕ, zero, suc, _≤_, _<_}
 use native.Mathlib.Nat.{le-trans}
 use lib.Dec.{leb, ltb}
-use borrow.Author.Tests.{leb-true, ltb-true}
+use borrow.Author.Tests.{leb-true, ltb-true, le-leb, lt-ltb}
 use Rattle.text.specs.Text.{wellFormed, isNil}
 use Rattle.text.proofs.RowLaws.{and-true}
 use Rattle.text.proofs.TextLaws.{left-append}
@@ -14,7 +14,7 @@ use Rattle.edge.specs.Edge.{Edge}
 use Rattle.edge.specs.Layout.{nextAt, edgeAt, edgesAt}
 use Rattle.edge.specs.Check.{each, soundNumeric, sound}
 use Rattle.paths.specs.Best.{Whole}
-use Rattle.paths.specs.Reading.{Spanned, Spans}
+use Rattle.paths.specs.Reading.{Spans}
 use Rattle.pass_list.specs.Item.{cons}
 use Rattle.lattice.specs.declared.Lattice.{Lattice}
 use Rattle.lattice.specs.Kept.{Holds}
@@ -37,6 +37,10 @@ sound-of n e h =
     let c = and-true (ltb (e .start) (e .end)) (leb (e .end) n) (b .0) in
     let d = and-true (wellFormed (e .type)) (wellFormed (e .txt)) (b .1) in
     record { rises = ltb-true (e .start) (e .end) (c .0); within = leb-true (e .end) n (c .1); type = d .0; txt = d .1; num = a .1 }
+
+pub sound-is : (n : ℕ) (e : Edge) → Sound n e → sound n e ≡ true
+unfolding sound
+sound-is n e s = rw (lt-ltb (e .start) (e .end) (s .rises), le-leb (e .end) n (s .within), s .type, s .txt, s .num)
 
 -- texts in a row
 pub formed-append : (s t : List ℕ) → wellFormed s ≡ true → wellFormed t ≡ true → wellFormed (s ++ t) ≡ true
