@@ -11,9 +11,10 @@ use Rattle.text.specs.Text.{chars}
 use Rattle.dicts.specs.Check.{Fine, readTable}
 use Rattle.dicts.specs.Answers.{tableOf}
 use Rattle.dicts.specs.declared.check.Shape.{Shape}
-use Rattle.pass_list.specs.Item.{AllSmall}
+use Rattle.pass_list.specs.Item.{Every, AllSmall}
 use Rattle.pass_list.specs.Stored.{itemsAt}
 use Rattle.pass_edges.specs.FirstItems.{FirstItems}
+use Rattle.items.specs.Sound.{Rooted}
 
 abbrev pub Checked : List ℕ → Shape → Type 0
 Checked t h = readTable t ≡ Fine (tableOf t h) (length t)
@@ -22,6 +23,7 @@ pub record SoFar (w t : List ℕ) (h : Shape) (k : ℕ) (s : List ℕ) (n : ℕ)
   pub items : FirstItems w t (tableOf t h .records) k (itemsAt s 0 n)
   pub few : n ≤ k
   pub small : AllSmall (itemsAt s 0 n)
+  pub rooted : Every (Rooted t) (itemsAt s 0 n)
 
 abbrev pub Initial : List ℕ → List ℕ → Shape → List ℕ → ℕ → Type 0
 Initial line t h s n = SoFar (chars line) t h (length (chars line)) s n
