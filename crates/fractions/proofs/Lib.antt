@@ -1,0 +1,3 @@
+-- The laws of `fractions`.
+pub mod KeepsLaws
+pub mod MadesLaws
