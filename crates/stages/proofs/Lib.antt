@@ -3,3 +3,4 @@ pub mod ReadLaws
 pub mod OverLaws
 pub mod InactiveLaws
 pub mod CallLaws
+pub mod SoundLaws

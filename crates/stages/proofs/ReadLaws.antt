@@ -51,16 +51,19 @@ pub record EdgeThere (n : ℕ) (w : List ℕ) (len : ℕ) (es : List Edge) (i : 
   pub fits : EdgeFits (getD es i noEdge)
   pub legal : Legal false n (getD es i noEdge)
 
-pub edge-of : {n : ℕ} {w : List ℕ} {l : Lattice} {es : List Edge} → Holds w l es → l .full ≡ false → Legals n es → (i : ℕ) → i < l .count → EdgeThere n w (l .len) es i
-edge-of {w = w} {l} {es} q f legals i x =
+-- of a lattice of which only this edge is known to be legal
+pub edge-of-one : {n : ℕ} {w : List ℕ} {l : Lattice} {es : List Edge} → Holds w l es → l .full ≡ false → (i : ℕ) → i < l .count → Legal false n (getD es i noEdge) → EdgeThere n w (l .len) es i
+edge-of-one {w = w} {l} {es} q f i x legal =
     let k = kept-of q f in
     let c : i < length es = let z = k .count in omega arith in
-    let legal : Legal false _ (getD es i noEdge) = every-at noEdge legals c in
     let r = edge-there w (offset es i) _ (getD es i noEdge) (legal .fits) (begins w (offset es i) (edgeBytes (getD es i noEdge)) (edge-stands k i x)) in
     let e = r .ends in
     let o = offset-next es i c in
     let y = offset-in k i x in
     record { is = r .is; map = r .map; next = omega arith; inside = omega arith; fits = legal .fits; legal = legal }
+
+pub edge-of : {n : ℕ} {w : List ℕ} {l : Lattice} {es : List Edge} → Holds w l es → l .full ≡ false → Legals n es → (i : ℕ) → i < l .count → EdgeThere n w (l .len) es i
+edge-of {l = l} {es} q f legals i x = edge-of-one q f i x (every-at noEdge legals (let z = kept-of q f .count in omega arith))
 
 -- ---- all edges
 module _ {n : ℕ} (w : List ℕ) where
