@@ -1,27 +1,30 @@
 -- Laws of the decision at one place (`specs/Decision.antt`). No contract cites this file.
--- In order: the indices that the tables keep; what is made; that the choice may stand; both of a marker. Assumes nothing.
+-- In order: the indices that the tables keep; what is made; that the choice may stand; the steps of the code; both of a marker; where a marker ends. Assumes nothing.
 use mathlib.Core.Path.{_≡_, refl, sym, ap, _∙_}
 use mathlib.Core.Bool.{Bool, true, false, cond, _&&_, not}
 use mathlib.Core.List.{List, [], _∷_}
 use mathlib.Core.Option.{Option, none, some}
 use Prim.Native.Nat.{ℕ, zero, suc, _+_, _-_, _≤_, _<_}
 use native.Mathlib.Omega.{arith}
-use lib.ListN.{length, getD}
-use lib.Dec.{eqb}
+use lib.ListN.{length, getD, take, drop, length-take, length-drop}
+use lib.Dec.{eqb, leb}
 use borrow.Author.Tests.{eq-eqb, ne-eqb, eqb-false, not-true, not-false}
+use Rattle.text.specs.Text.{chars}
+use Rattle.text.proofs.BytesLaws.{same-true}
 use Rattle.text.proofs.RowLaws.{cond-cases, and-true}
 use Rattle.whole.specs.Decimal.{decimal}
+use Rattle.dicts.specs.Table.{Text, Table}
 use Rattle.edge.specs.Edge.{Edge}
 use Rattle.lattice.specs.Kept.{noEdge}
 use Rattle.paths.specs.declared.Query.{Query}
 use Rattle.paths.specs.Best.{Best, best, numbered, leftNeighbor, rightNeighbor}
 use Rattle.paths.proofs.BestLaws.{Each, Holds, best-holds}
 use Rattle.numbers.specs.Listed.{wholeValue}
-use Rattle.numbers.specs.Fractions.{Made, made, nothing, isNumeric, percentEdge, fractionEdge, otherwise, both, withValues, between, marked}
+use Rattle.numbers.specs.Fractions.{standsAt, larger, longest, Marker, markerAt, Made, made, nothing, isNumeric, percentEdge, fractionEdge, otherwise, both, withValues, between, marked}
 use Rattle.made.specs.declared.Choice.{Choice}
 use Rattle.made.specs.Choice.{madeOf, numberOr, valueOr, HasValue, Two, One, Valid}
 use Rattle.made.specs.Around.{sideOf, keptOf, Neighbors}
-use Rattle.made.specs.Decision.{choice, noChoice, otherwiseOf, bothOf, withValuesOf, betweenOf}
+use Rattle.made.specs.Decision.{sizeOf, choice, noChoice, otherwiseOf, bothOf, withValuesOf, betweenOf}
 
 -- ---- the indices that the tables keep
 Below : ℕ → ℕ × Edge → Type 0
@@ -79,7 +82,7 @@ not-zero : (v : ℕ) → not (eqb v 0) ≡ true → 0 < v
 not-zero v u = let n = eqb-false v 0 (not-true (eqb v 0) u) in omega arith
 
 module _ (es : List Edge) where
-  valid-none : Valid es noChoice
+  pub valid-none : Valid es noChoice
   valid-none = record { form = omega arith; percent = λ h. absurd (omega arith); fraction = λ h. absurd (omega arith); not-zero = λ h. absurd (omega arith); txt = λ h. absurd (omega arith) }
 
   valid-percent : (i j : ℕ) → Two es i j → Valid es (choice 1 i j)
@@ -169,3 +172,32 @@ module _ (percent : Bool) (es : List Edge) (lefts rights : List ℕ) (p n : ℕ)
 
   pub marked-valid : Valid es r
   marked-valid = rw (r-is, o-is) (valid-between es percent (otherwiseOf percent es y) (valid-otherwise es percent y right-below) x y left-below right-below)
+
+-- ---- a marker ends within the line
+standing-within : (w : List ℕ) (p : ℕ) (m : Text) → p ≤ length w → standsAt w p m ≡ true → p + length (chars m) ≤ length w
+unfolding standsAt
+standing-within w p m h t =
+    let e = ap length (same-true (take (length (chars m)) (drop p w)) (chars m) t) in
+    let k = length-take (length (chars m)) (drop p w) in
+    let d = length-drop p w in
+    omega (arith, e, k, d)
+
+longest-within : (w : List ℕ) (p : ℕ) (ms : List Text) → p ≤ length w → p + longest w p ms ≤ length w
+unfolding longest
+longest-within w p [] h = omega arith
+longest-within w p (m ∷ ms) h =
+    larger-within (cond (standsAt w p m) (length (chars m)) 0) (longest w p ms)
+    (cond-cases (λ (n : ℕ). p + n ≤ length w) (standsAt w p m) (standing-within w p m h) (λ t. omega arith)) (longest-within w p ms h)
+  where
+    larger-within : (a b : ℕ) → p + a ≤ length w → p + b ≤ length w → p + larger a b ≤ length w
+    larger-within a b x y = cond-cases (λ (n : ℕ). p + n ≤ length w) (leb a b) (λ t. y) (λ t. x)
+
+-- what `made_at` asks of the marker that stands at a place
+pub marker-within : (t : Table) (w : List ℕ) (p : ℕ) → p ≤ length w → p + sizeOf (markerAt t w p) ≤ length w
+unfolding markerAt
+marker-within t w p h =
+    let a = longest-within w p (t .percentage-markers) h in
+    let c = longest-within w p (t .fraction-connectors) h in
+    let P : Marker → Type 0 = λ m. p + sizeOf m ≤ length w in
+    cond-cases P (eqb (larger (longest w p (t .percentage-markers)) (longest w p (t .fraction-connectors))) 0)
+    (λ z. omega arith) (λ z. cond-cases P (leb (longest w p (t .fraction-connectors)) (longest w p (t .percentage-markers))) (λ y. a) (λ y. c))

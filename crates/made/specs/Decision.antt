@@ -1,5 +1,6 @@
 -- The decision at one place, on the numbers that stand for its neighbours (`keptOf` of `Around`): each definition is that of the same name in
 -- `Fractions` of `numbers`, with a choice for what is made. Definitions only.
+--     sizeOf m                    how many characters a marker has
 --     choice f i j, noChoice      a choice, and the one that makes nothing
 --     optionOf v                  the value that the code read
 --     WholeValued e               the value of the edge e, if it has one, is a whole number up to TOP
@@ -16,10 +17,15 @@ use Rattle.whole.specs.Whole.{TOP}
 use Rattle.edge.specs.Edge.{Edge, Numeric, f64Bits}
 use Rattle.lattice.specs.Kept.{noEdge}
 use Rattle.numbers.specs.Listed.{wholeValue}
-use Rattle.numbers.specs.Fractions.{isNumeric}
+use Rattle.numbers.specs.Fractions.{Marker, percentage, connector, noMarker, isNumeric}
 use Rattle.made.specs.declared.Choice.{Choice}
 use Rattle.made.specs.declared.Value.{Value}
 use Rattle.made.specs.declared.Value.the-variants.{Whole, Nothing}
+
+abbrev pub sizeOf : Marker → ℕ
+sizeOf (percentage n) = n
+sizeOf (connector n) = n
+sizeOf noMarker = 0
 
 abbrev pub choice : ℕ → ℕ → ℕ → Choice
 choice f i j = record { form = f; left = i; right = j }

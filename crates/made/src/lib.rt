@@ -9,11 +9,13 @@ ghost use Rattle.edge.specs.Edge.{Edge};
 ghost use Rattle.edge.specs.Layout.{nextAt, edgeAt};
 ghost use Rattle.lattice.specs.Kept.{noEdge};
 ghost use Rattle.numbers.specs.Listed.{wholeValue};
-ghost use Rattle.numbers.specs.Fractions.{isNumeric, marked};
+ghost use Rattle.numbers.specs.Fractions.{isNumeric, marked, byMarker};
+ghost use Rattle.markers.specs.Marks.{markerOf};
 ghost use Rattle.made.specs.Choice.{madeOf, Valid};
 ghost use Rattle.made.specs.Around.{Keeps, sideOf, placeOf, Neighbors, Around};
-ghost use Rattle.made.specs.Decision.{optionOf, WholeValued, otherwiseOf, bothOf, withValuesOf, betweenOf};
+ghost use Rattle.made.specs.Decision.{sizeOf, optionOf, WholeValued, otherwiseOf, bothOf, withValuesOf, betweenOf};
 use lattice::Lattice;
+use markers::Marker;
 use paths::Query;
 use text::Place;
 
@@ -243,4 +245,28 @@ fn marked(
     let right = rights[p + n];
     let other = otherwise(w, l, percent, right);
     between(w, l, percent, other, left, right)
+}
+
+// What the marker at a place leads to, by the neighbours that the two tables of `neighbors` keep.
+pub fn made_at(
+    w: &[u8],
+    l: Lattice,
+    lefts: &[usize; 257],
+    rights: &[usize; 257],
+    marker: Marker,
+    p: Place,
+) -> Choice
+    requires { ⌜ ((es : List Edge) × Around (now w) l (now lefts) (now rights) es) × (p .0 + sizeOf (markerOf marker) ≤ 256) ⌝ }
+    ensures { λ r. ⌜ ((es : List Edge) → Around (now (w .entry)) l (now (lefts .entry)) (now (rights .entry)) es → (madeOf es (p .0) r ≡ byMarker es (p .0) (markerOf marker)) × Valid es r) ⌝ }
+{
+    let place = p.0;
+    match marker {
+        Marker::Percentage(n) => marked(w, l, lefts, rights, true, place, n),
+        Marker::Connector(n) => marked(w, l, lefts, rights, false, place, n),
+        Marker::NoMarker => Choice {
+            form: 0,
+            left: 0,
+            right: 0,
+        },
+    }
 }

@@ -1,5 +1,7 @@
 //! The old program as judge: runs the Rust of the papers, unchanged, on cases in 01's byte forms. See README.md.
 
+#[cfg(feature = "library")]
+mod bench;
 mod bytes;
 mod cases;
 mod category;
@@ -54,6 +56,8 @@ fn main() -> io::Result<()> {
         "readings" => readings::run(),
         "plain-table" => println!("{}", hex(&Table::plain().encode())),
         "time" => time(&mut input)?,
+        #[cfg(feature = "library")]
+        "bench" => bench::run(),
         _ => {
             eprintln!("{USAGE}");
             std::process::exit(2);
