@@ -1,2 +1,0 @@
--- The proofs of `rest`.
-pub mod RestLaws
