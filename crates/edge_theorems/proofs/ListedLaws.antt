@@ -120,7 +120,16 @@ module _ (s : List ℕ) (small : (i : ℕ) → getD s i 0 < 256) where
   unfolding fieldsAt
   numeric-map m at on l = ap numericMap (sym (fields-say m s at)) ∙ map-is s s s (fieldsAt m s at) on l
 
-  edge-run : (given : Bool) (at : ℕ) → nextAt s at ≤ length s → allowed given (mapAt s at) ≡ true → Run s at (nextAt s at) (edgeBytes (edgeAt s at))
+  -- the map of an edge that is read is the map that stands there
+  pub edge-map : (at : ℕ) → allowed false (mapAt s at) ≡ true → mapOf (edgeAt s at .num) ≡ mapAt s at
+  unfolding edgeAt allowed
+  edge-map at t = go (stands 0 (mapAt s at)) refl t
+    where
+      go : (b : Bool) → stands 0 (mapAt s at) ≡ b → cond b (ltb (mapAt s at) 512) (eqb (mapAt s at) 0) ≡ true → mapOf (only b (numericAt (mapAt s at) s (headEnd s at))) ≡ mapAt s at
+      go true e t = numeric-map (mapAt s at) (headEnd s at) e (ltb-true (mapAt s at) 512 t)
+      go false e t = sym (eqb-true (mapAt s at) 0 t)
+
+  pub edge-run : (given : Bool) (at : ℕ) → nextAt s at ≤ length s → allowed given (mapAt s at) ≡ true → Run s at (nextAt s at) (edgeBytes (edgeAt s at))
   unfolding edgeBytes edgeAt nextAt allowed
   edge-run given at h t = go (stands 0 (mapAt s at)) refl given t
     where
@@ -150,7 +159,7 @@ and-right : (a b : Bool) → (a && b) ≡ true → b ≡ true
 and-right true b t = t
 and-right false b t = absurd (true≢false (sym t))
 
-good-allowed : (given : Bool) (n : ℕ) (s : List ℕ) (at : ℕ) → good given n s at ≡ true → allowed given (mapAt s at) ≡ true
+pub good-allowed : (given : Bool) (n : ℕ) (s : List ℕ) (at : ℕ) → good given n s at ≡ true → allowed given (mapAt s at) ≡ true
 unfolding good
 good-allowed given n s at t =
     and-left (allowed given (mapAt s at)) _ (and-right (leb (nextAt s at) (length s)) _ t)

@@ -91,11 +91,11 @@ over-snoc es e h = go (ltb 1024 (length es)) refl h
     go true p x = let a = ltb-true 1024 (length es) p in let b = length-snoc es e in over-many (es ++ (e ∷ [])) (omega arith)
     go false p x = let a = ltb-true 32768 (length (listingBytes es)) x in let b = length-listing es in let d = length-edges-snoc es e in over-long (es ++ (e ∷ [])) (omega arith)
 
-add-new : (es : List Edge) (e : Edge) → has es e ≡ false → add es e ≡ es ++ (e ∷ [])
+pub add-new : (es : List Edge) (e : Edge) → has es e ≡ false → add es e ≡ es ++ (e ∷ [])
 unfolding add
 add-new es e h = rw h
 
-over-add : (es : List Edge) (e : Edge) → overfull es ≡ true → overfull (add es e) ≡ true
+pub over-add : (es : List Edge) (e : Edge) → overfull es ≡ true → overfull (add es e) ≡ true
 unfolding add
 over-add es e h = go (has es e)
   where

@@ -55,7 +55,7 @@ inactive-map e = go (e .num)
     go none = refl
     go (some n) = quiet-map n
 
-inactive-fields : (e : Edge) → fieldsBytes (inactive e) ≡ fieldsBytes e
+pub inactive-fields : (e : Edge) → fieldsBytes (inactive e) ≡ fieldsBytes e
 unfolding inactive numericBytes
 inactive-fields e = go (e .num)
   where
@@ -63,14 +63,14 @@ inactive-fields e = go (e .num)
     go none = refl
     go (some n) = refl
 
-inactive-key : (e : Edge) → key (inactive e) ≡ key e
+pub inactive-key : (e : Edge) → key (inactive e) ≡ key e
 unfolding inactive key
 inactive-key e = refl
 
 inactive-parts : (e : Edge) → edgeBytes (inactive e) ≡ bytesOf 2 (mapOf (inactive e .num)) ++ (key e ++ fieldsBytes e)
 inactive-parts e = edge-parts (inactive e) ∙ rw (inactive-key e, inactive-fields e)
 
-inactive-length : (e : Edge) → length (edgeBytes (inactive e)) ≡ length (edgeBytes e)
+pub inactive-length : (e : Edge) → length (edgeBytes (inactive e)) ≡ length (edgeBytes e)
 inactive-length e = length-edge (inactive e) ∙ rw (inactive-key e, inactive-fields e) (sym (length-edge e))
 
 inactive-fits : (e : Edge) → Fits e → Fits (inactive e)
@@ -85,7 +85,7 @@ length-turned (e ∷ es) zero = refl
 length-turned (e ∷ es) (suc i) = ap suc (length-turned es i)
 
 -- every edge is as it was, or the same edge inactive
-turned-at : (P : Edge → Type 0) (es : List Edge) (i j : ℕ) → P (getD es j noEdge) → P (inactive (getD es j noEdge)) → P (getD (turnOffAt es i) j noEdge)
+pub turned-at : (P : Edge → Type 0) (es : List Edge) (i j : ℕ) → P (getD es j noEdge) → P (inactive (getD es j noEdge)) → P (getD (turnOffAt es i) j noEdge)
 unfolding turnOffAt
 turned-at P [] i j p q = p
 turned-at P (e ∷ es) zero zero p q = q
@@ -116,11 +116,11 @@ take-turned (e ∷ es) (suc i) (suc j) =
     let c = length-append (edgeBytes e) (edgesBytes (take j es)) in
     omega arith
 
-turned-offset : (es : List Edge) (i j : ℕ) → offset (turnOffAt es i) j ≡ offset es j
+pub turned-offset : (es : List Edge) (i j : ℕ) → offset (turnOffAt es i) j ≡ offset es j
 unfolding offset
 turned-offset es i j = rw (take-turned es i j)
 
-turned-size : (es : List Edge) (i : ℕ) → length (edgesBytes (turnOffAt es i)) ≡ length (edgesBytes es)
+pub turned-size : (es : List Edge) (i : ℕ) → length (edgesBytes (turnOffAt es i)) ≡ length (edgesBytes es)
 unfolding turnOffAt edgesBytes
 turned-size [] i = refl
 turned-size (e ∷ es) zero =

@@ -148,7 +148,7 @@ fn how_to_add(w: &[u8], l: Lattice, s: &[u8], at: usize, n: usize, to: usize) ->
 }
 
 // The edge that is composed behind the listing, up to an offset and with a key of n bytes, is added.
-fn add_edge(w: &mut [u8], l: Lattice, n: usize, to: usize) -> Lattice
+pub fn add_edge(w: &mut [u8], l: Lattice, n: usize, to: usize) -> Lattice
     requires { ⌜ ((es : List Edge) × Holds (now w) l es) × ((e : Edge) × Stands (now w) (l .len) n to e) ⌝ }
     ensures { λ r. ⌜ (drop 39424 (now (w .exit)) ≡ drop 39424 (now (w .entry))) × ((es : List Edge) (e : Edge) → Holds (now (w .entry)) l es → Stands (now (w .entry)) (l .len) n to e → Holds (now (w .exit)) r (add es e)) ⌝ }
 {

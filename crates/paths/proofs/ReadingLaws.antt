@@ -39,7 +39,7 @@ use Rattle.paths.proofs.BestLaws.{Each, Holds, best-holds}
 first-two : (a b c d : Bool) → (((a && b) && c) && d) ≡ true → (a ≡ true) × (b ≡ true)
 first-two a b c d h = and-true a b (and-true (a && b) c (and-true ((a && b) && c) d h .0) .0)
 
-sound-span : (n : ℕ) (e : Edge) → sound n e ≡ true → (e .start < e .end) × (e .end ≤ n)
+pub sound-span : (n : ℕ) (e : Edge) → sound n e ≡ true → (e .start < e .end) × (e .end ≤ n)
 unfolding sound
 sound-span n e h =
     let t = first-two (ltb (e .start) (e .end)) (leb (e .end) n) (wellFormed (e .type) && wellFormed (e .txt)) (each soundNumeric (e .num)) h in

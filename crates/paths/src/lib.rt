@@ -141,7 +141,7 @@ fn is_asked(q: Query, start: usize, end: usize) -> bool
 }
 
 // The score of the edge at an offset.
-fn score_at(s: &[u8], at: usize, q: Query, skip: bool) -> usize
+pub fn score_at(s: &[u8], at: usize, q: Query, skip: bool) -> usize
     requires { ⌜ headEnd (now s) at ≤ length (now s) ⌝ }
     ensures { λ r. ⌜ r ≡ score skip q (edgeAt (now (s .entry)) at) ⌝ }
 {

@@ -6,7 +6,7 @@ use std::io::{self, Write};
 use crate::bytes::TOP;
 use crate::cases::{Case, Decoder};
 use crate::category::DECIMAL_NUMBER;
-use crate::edge::Edge;
+use crate::edge::{Edge, EdgeData, NumData};
 use crate::show::digits;
 use crate::table::{Record, Table};
 
@@ -49,19 +49,51 @@ impl Rng {
     }
 }
 
+fn option<'a>(arguments: &[&'a str], name: &str) -> Option<&'a str> {
+    arguments.iter().position(|a| *a == name).and_then(|at| arguments.get(at + 1).copied())
+}
+
+pub fn number(arguments: &[&str], name: &str, otherwise: u64) -> u64 {
+    option(arguments, name).map_or(otherwise, |text| text.parse().unwrap_or_else(|_| panic!("{name} wants a number")))
+}
+
 /// `gen --family F --seed S --count N [--from K]`: cases K to K + N - 1. For `short`, all plain lines of up to N characters.
 pub fn write(arguments: &[&str], out: &mut impl Write) -> io::Result<()> {
-    let option = |name: &str| arguments.iter().position(|a| *a == name).and_then(|at| arguments.get(at + 1).copied());
-    let number = |name: &str, otherwise: u64| match option(name) {
-        None => otherwise,
-        Some(text) => text.parse().unwrap_or_else(|_| panic!("{name} wants a number")),
-    };
-    let (seed, from, count) = (number("--seed", 1), number("--from", 0), number("--count", 1000));
+    let (seed, from, count) = (number(arguments, "--seed", 1), number(arguments, "--from", 0), number(arguments, "--count", 1000));
+    let option = |name: &str| option(arguments, name);
     match option("--family").unwrap_or("mixed") {
         "short" => short(count as usize, out),
         "limits" => limits().iter().try_for_each(|case| case.write(out)),
         family => (from..from + count).try_for_each(|k| random(family, seed, k).write(out)),
     }
+}
+
+/// A line and a listing that no call made: regular and numeric edges of every class in any order, some of them twice.
+pub fn foreign(seed: u64, k: u64) -> (String, Vec<Edge>) {
+    let rng = &mut Rng(Rng(seed).next() ^ Rng(!k).next());
+    let length = rng.length();
+    let line: String = (0..length).map(|_| rng.pick(&['x', 'é', '零', '五', '𠀀'])).collect();
+    let count = if length == 0 { 0 } else { rng.below(40) };
+    let mut edges: Vec<Edge> = Vec::new();
+    for _ in 0..count {
+        let edge = match rng.below(5) {
+            0 if !edges.is_empty() => rng.pick(&edges),
+            1 | 2 => any_edge(rng, length),
+            _ => any_numeric(rng, length),
+        };
+        // Edges of one key are one in the old program's sets, so only a whole copy may stand twice.
+        if !edges.iter().any(|e| *e == edge && format!("{e:?}") != format!("{edge:?}")) {
+            edges.push(edge);
+        }
+    }
+    (line, edges)
+}
+
+fn any_numeric(rng: &mut Rng, length: usize) -> Edge {
+    let regular = any_edge(rng, length);
+    let num_data = NumData { orig_txt: any_text(rng), value: rng.once_in(2).then_some(5.0), active: rng.once_in(2), ..NumData::default() };
+    let data = EdgeData { start: regular.start(), end: regular.end(), txt: regular.txt().into(), r#type: regular.r#type().into() };
+    Edge::Numeric { data, num_data }
 }
 
 fn random(family: &str, seed: u64, k: u64) -> Case {

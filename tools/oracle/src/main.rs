@@ -1,5 +1,7 @@
 //! The old program as judge: runs the Rust of the papers, unchanged, on cases in 01's byte forms. See README.md.
 
+#[cfg(feature = "library")]
+mod bench;
 mod bytes;
 mod cases;
 mod category;
@@ -32,7 +34,7 @@ use bytes::Refusal;
 use cases::{Answer, Case, Decoder, put_frame};
 use table::Table;
 
-const USAGE: &str = "oracle answer [--passes] [--reads] | gen --family F --seed S --count N [--from K] | show | line TEXT.. | marked | readings | plain-table | time";
+const USAGE: &str = "oracle answer [--passes] [--reads] | finished | foreign --seed S --count N | gen --family F --seed S --count N [--from K] | show | line TEXT.. | marked | readings | plain-table | time";
 
 fn main() -> io::Result<()> {
     let arguments: Vec<String> = std::env::args().skip(1).collect();
@@ -42,6 +44,8 @@ fn main() -> io::Result<()> {
     match arguments.first().map_or("", String::as_str) {
         "answer" => answers(&mut input, &mut out, rest.contains(&"--passes"), rest.contains(&"--reads"))?,
         "gen" => generate::write(&rest, &mut out)?,
+        "finished" => finished(&mut input, &mut out)?,
+        "foreign" => foreign(&rest, &mut out)?,
         "show" => {
             while let Some(case) = Case::read(&mut input)? {
                 show::show(&case)
@@ -52,6 +56,8 @@ fn main() -> io::Result<()> {
         "readings" => readings::run(),
         "plain-table" => println!("{}", hex(&Table::plain().encode())),
         "time" => time(&mut input)?,
+        #[cfg(feature = "library")]
+        "bench" => bench::run(),
         _ => {
             eprintln!("{USAGE}");
             std::process::exit(2);
@@ -97,6 +103,37 @@ fn answers(input: &mut impl BufRead, out: &mut impl Write, passes: bool, reads: 
                 }
             }
         }
+    }
+    Ok(())
+}
+
+/// For each case that is accepted three frames: line, listing, and what the reading calls find in it.
+fn finished(input: &mut impl BufRead, out: &mut impl Write) -> io::Result<()> {
+    let mut decoder = Decoder::default();
+    while let Some(case) = Case::read(input)? {
+        let Ok(inputs) = decoder.inputs(&case) else { continue };
+        let Ok(mut answer) = inputs.answer() else { continue };
+        let Ok(listing) = answer.listing() else { continue };
+        put_frame(out, &case.line)?;
+        put_frame(out, &listing)?;
+        put_frame(out, &reads::encode(&mut answer.lattice, inputs.line.chars().count()))?;
+    }
+    Ok(())
+}
+
+/// The same three frames for lines and listings that no call made.
+fn foreign(arguments: &[&str], out: &mut impl Write) -> io::Result<()> {
+    let (seed, count) = (generate::number(arguments, "--seed", 1), generate::number(arguments, "--count", 1000));
+    let dicts = Decoder::default().inputs(&Case::new("", &Table::plain(), &[])).ok().expect("the plain table").dicts;
+    for k in 0..count {
+        let (line, edges) = generate::foreign(seed, k);
+        let mut lattice = lattice::Lattice::new(&line, dicts.clone(), None);
+        for edge in &edges {
+            lattice.add_edge(edge.clone());
+        }
+        put_frame(out, line.as_bytes())?;
+        put_frame(out, &listing::encode(&edges))?;
+        put_frame(out, &reads::encode(&mut lattice, line.chars().count()))?;
     }
     Ok(())
 }

@@ -1,0 +1,170 @@
+//! Written numbers in the lines of registers: 一万五 is 15000.
+//!
+//! Safe functions over `librilvostam.a`, which is proved against its definitions. A line is UTF-8, a table and a listing of edges are bytes in the library's forms
+//! (README of the project); a maker writes tables as text with `tools/table`.
+//!
+//! ```no_run
+//! # let table: Vec<u8> = vec![];
+//! let listing = rilvostam::add_numbers("一万五", &table, rilvostam::NO_EDGES)?;
+//! for edge in rilvostam::edges(&listing) {
+//!     println!("{} to {}: {}", edge.start, edge.end, edge.txt);
+//! }
+//! # Ok::<(), rilvostam::Refusal>(())
+//! ```
+
+mod edges;
+mod refusal;
+
+pub use edges::{Edge, Edges, NumData, edges};
+pub use refusal::{Cause, Refusal};
+
+/// Bytes of work space that a call needs.
+pub const WORK: usize = 65_536;
+
+/// Bytes of output that always suffice.
+pub const OUT: usize = 32_768;
+
+/// The edge list without an edge.
+pub const NO_EDGES: &[u8] = &[0, 0];
+
+mod c {
+    unsafe extern "C" {
+        #[rustfmt::skip]
+        pub fn rilvostam_add_numbers(
+            line: *const u8, line_len: usize, table: *const u8, table_len: usize, edges: *const u8, edges_len: usize,
+            work: *mut u8, work_len: usize, out: *mut u8, out_len: usize, at: *mut u64,
+        ) -> u32;
+        #[rustfmt::skip]
+        pub fn rilvostam_best_edge(
+            line: *const u8, line_len: usize, listing: *const u8, listing_len: usize, start: u64, end: u64, skip: u8, at: *mut u64,
+        ) -> u32;
+        #[rustfmt::skip]
+        pub fn rilvostam_right_neighbor(
+            line: *const u8, line_len: usize, listing: *const u8, listing_len: usize, place: u64, skip: u8, at: *mut u64,
+        ) -> u32;
+        #[rustfmt::skip]
+        pub fn rilvostam_left_neighbor(
+            line: *const u8, line_len: usize, listing: *const u8, listing_len: usize, place: u64, skip: u8, at: *mut u64,
+        ) -> u32;
+        #[rustfmt::skip]
+        pub fn rilvostam_path(
+            line: *const u8, line_len: usize, listing: *const u8, listing_len: usize, start: u64, end: u64, skip: u8,
+            out: *mut u8, out_len: usize, at: *mut u64,
+        ) -> u32;
+        #[rustfmt::skip]
+        pub fn rilvostam_shown_text(
+            line: *const u8, line_len: usize, listing: *const u8, listing_len: usize, place: u64,
+            at: *mut u64, len: *mut u64, in_listing: *mut u8,
+        ) -> u32;
+    }
+}
+
+fn answer(status: u32, at: u64) -> Result<usize, Refusal> {
+    if status == 0 { Ok(at as usize) } else { Err(Refusal::new(status, at)) }
+}
+
+/// The offset of an edge; the greatest number says that there is none.
+fn found(status: u32, at: u64) -> Result<Option<usize>, Refusal> {
+    answer(status, at).map(|at| (at != usize::MAX).then_some(at))
+}
+
+/// The listing of a line's edges, given ones first. Allocates work space and output; [`add_numbers_into`] does not.
+pub fn add_numbers(line: &str, table: &[u8], edges: &[u8]) -> Result<Vec<u8>, Refusal> {
+    let (mut work, mut out) = (vec![0; WORK], vec![0; OUT]);
+    let length = add_numbers_into(line.as_bytes(), table, edges, &mut work, &mut out)?;
+    out.truncate(length);
+    Ok(out)
+}
+
+/// The same into lent buffers, for any bytes as line: the length of the listing in `out`. On a refusal `out` is as it was.
+pub fn add_numbers_into(line: &[u8], table: &[u8], edges: &[u8], work: &mut [u8], out: &mut [u8]) -> Result<usize, Refusal> {
+    let mut at = 0;
+    // SAFETY: each pointer is that of a slice with its length, none is null, and the mutable ones overlap nothing.
+    let status = unsafe {
+        c::rilvostam_add_numbers(
+            line.as_ptr(),
+            line.len(),
+            table.as_ptr(),
+            table.len(),
+            edges.as_ptr(),
+            edges.len(),
+            work.as_mut_ptr(),
+            work.len(),
+            out.as_mut_ptr(),
+            out.len(),
+            &mut at,
+        )
+    };
+    answer(status, at)
+}
+
+/// The offset in the listing of the best edge from place `start` to place `end`. `skip`: no numeric edge.
+pub fn best_edge(line: &[u8], listing: &[u8], start: u64, end: u64, skip: bool) -> Result<Option<usize>, Refusal> {
+    let mut at = 0;
+    // SAFETY: as above.
+    let status = unsafe {
+        c::rilvostam_best_edge(line.as_ptr(), line.len(), listing.as_ptr(), listing.len(), start, end, skip.into(), &mut at)
+    };
+    found(status, at)
+}
+
+/// The offset of the best edge of the longest span that starts at a place.
+pub fn right_neighbor(line: &[u8], listing: &[u8], place: u64, skip: bool) -> Result<Option<usize>, Refusal> {
+    let mut at = 0;
+    // SAFETY: as above.
+    let status =
+        unsafe { c::rilvostam_right_neighbor(line.as_ptr(), line.len(), listing.as_ptr(), listing.len(), place, skip.into(), &mut at) };
+    found(status, at)
+}
+
+/// The offset of the best edge of the longest span that ends at a place.
+pub fn left_neighbor(line: &[u8], listing: &[u8], place: u64, skip: bool) -> Result<Option<usize>, Refusal> {
+    let mut at = 0;
+    // SAFETY: as above.
+    let status =
+        unsafe { c::rilvostam_left_neighbor(line.as_ptr(), line.len(), listing.as_ptr(), listing.len(), place, skip.into(), &mut at) };
+    found(status, at)
+}
+
+/// The path from `start` to `end` as a listing. It is never longer than the listing that is read.
+pub fn path(line: &[u8], listing: &[u8], start: u64, end: u64, skip: bool) -> Result<Vec<u8>, Refusal> {
+    let (mut out, mut at) = (vec![0; listing.len()], 0);
+    // SAFETY: as above; `out` is new.
+    let status = unsafe {
+        c::rilvostam_path(
+            line.as_ptr(),
+            line.len(),
+            listing.as_ptr(),
+            listing.len(),
+            start,
+            end,
+            skip.into(),
+            out.as_mut_ptr(),
+            out.len(),
+            &mut at,
+        )
+    };
+    out.truncate(answer(status, at)?);
+    Ok(out)
+}
+
+/// The text shown at a place: a part of the listing, or the character's own bytes, a part of the line.
+pub fn shown_text<'a>(line: &'a [u8], listing: &'a [u8], place: u64) -> Result<&'a [u8], Refusal> {
+    let (mut at, mut len, mut in_listing) = (0, 0, 0);
+    // SAFETY: as above.
+    let status = unsafe {
+        c::rilvostam_shown_text(
+            line.as_ptr(),
+            line.len(),
+            listing.as_ptr(),
+            listing.len(),
+            place,
+            &mut at,
+            &mut len,
+            &mut in_listing,
+        )
+    };
+    let from = answer(status, at)?;
+    let lent = if in_listing == 1 { listing } else { line };
+    Ok(&lent[from..from + len as usize])
+}

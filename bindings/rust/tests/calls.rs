@@ -1,0 +1,90 @@
+//! The library through the bindings: 01's example and marked lines, each refusal, the reading calls.
+
+use rilvostam::*;
+
+/// The plain table, from its text by the rules of `tools/table`: here by hand, record by record.
+fn plain() -> Vec<u8> {
+    let mut records: Vec<(char, &str, u64, u64)> = "零一二三四五六七八九".chars().zip(0..).map(|(c, v)| (c, "digit", v, 1)).collect();
+    records.extend([('十', "base", 10, 10), ('百', "base", 100, 100), ('千', "base", 1000, 1000)]);
+    records.extend([('万', 10_000), ('億', 100_000_000), ('兆', 1_000_000_000_000)].map(|(c, v)| (c, "large", v, v)));
+    records.sort();
+    let string = |s: &str| [&[s.len() as u8], s.as_bytes()].concat();
+    let mut table = 16_u16.to_le_bytes().to_vec();
+    for mark in ["百分之", "分之", "+", "-"] {
+        table.push(1);
+        table.extend(string(mark));
+    }
+    for (c, kind, value, base) in records {
+        table.extend(u32::from(c).to_le_bytes());
+        table.push(if kind == "large" { 0b110_1011 } else { 0b10_1011 });
+        table.extend(string(kind));
+        table.extend(string(&value.to_string()));
+        table.extend(value.to_le_bytes());
+        table.extend(base.to_le_bytes());
+        table.extend(string("CJK"));
+    }
+    table
+}
+
+fn listing(line: &str) -> Vec<u8> {
+    add_numbers(line, &plain(), NO_EDGES).unwrap()
+}
+
+fn rows(line: &str) -> Vec<String> {
+    edges(&listing(line))
+        .map(|e| format!("{} {} {} {} {}", e.start, e.end, e.kind, e.txt, e.num.map_or('-', |n| if n.active { '1' } else { '0' })))
+        .collect()
+}
+
+#[test]
+fn example() {
+    assert_eq!(rows("百分之五"), ["0 1 base 100 0", "3 4 digit 5 0", "0 4 percentage 5% -"]);
+}
+
+#[test]
+fn marked_lines() {
+    for (line, value) in [("一百零五", 105.0), ("二千五", 2005.0), ("一万五", 15000.0), ("億万", 100_010_000.0), ("零万五", 5000.0)] {
+        let listing = listing(line);
+        let whole = edges(&listing).find(|e| e.start == 0 && e.end == line.chars().count()).unwrap();
+        assert_eq!(whole.num.unwrap().value, Some(value), "{line}");
+    }
+}
+
+#[test]
+fn refusals() {
+    let table = plain();
+    let (mut work, mut out) = (vec![0; WORK], vec![7; 64]);
+    let mut call = |line: &[u8], table: &[u8], edges: &[u8], work_len: usize| {
+        let answer = add_numbers_into(line, table, edges, &mut work[..work_len], &mut out);
+        assert!(answer.is_ok() || out.iter().all(|b| *b == 7), "output of a refused call");
+        answer.unwrap_err()
+    };
+    let refusal = |number, at| move |r: Refusal| assert_eq!((r.number(), r.at), (number, at), "{r}");
+    refusal(1, 0)(call(b"", &table, NO_EDGES, WORK - 1));
+    refusal(2, 1)(call(b"x\xFF", &table, NO_EDGES, WORK));
+    refusal(3, 256)(call(&[b'x'; 257], &table, NO_EDGES, WORK));
+    refusal(4, 2)(call(b"", &[0, 0], NO_EDGES, WORK));
+    refusal(5, 3)(call(b"", &[0, 0, 1, 0, 0, 0, 0], NO_EDGES, WORK));
+    refusal(6, 2)(call(b"", &table, &[1, 0], WORK));
+    refusal(7, 0)(call("九".repeat(17).as_bytes(), &table, NO_EDGES, WORK));
+    refusal(8, 0)(call("一万五".as_bytes(), &table, NO_EDGES, WORK));
+    refusal(9, 0)(right_neighbor(b"x", NO_EDGES, 2, false).unwrap_err());
+    assert_eq!(Refusal { cause: Cause::AboveTop, at: 3 }.to_string(), "a number that starts at place 3 is above 9,007,199,254,740,991");
+}
+
+#[test]
+fn reading() {
+    let line = "x一万五".as_bytes();
+    let listing = listing("x一万五");
+    let at = right_neighbor(line, &listing, 1, false).unwrap().unwrap();
+    let edge = edges(&listing).find(|e| e.offset == at).unwrap();
+    assert_eq!((edge.start, edge.end, edge.txt), (1, 4, "15000"));
+    assert_eq!(left_neighbor(line, &listing, 4, false).unwrap(), Some(at));
+    assert_eq!(best_edge(line, &listing, 1, 4, false).unwrap(), Some(at));
+    assert_eq!(best_edge(line, &listing, 1, 4, true).unwrap(), None);
+    assert_eq!(right_neighbor(line, &listing, 0, false).unwrap(), None);
+    assert_eq!(shown_text(line, &listing, 0).unwrap(), b"x");
+    assert_eq!(shown_text(line, &listing, 1).unwrap(), b"15000");
+    let path = path(line, &listing, 0, 4, false).unwrap();
+    assert_eq!(edges(&path).map(|e| e.txt).collect::<Vec<_>>(), ["15000"]);
+}

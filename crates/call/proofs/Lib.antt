@@ -1,0 +1,2 @@
+-- The proofs of `call`.
+pub mod CheckLaws

@@ -1,0 +1,203 @@
+-- Laws of `specs/Index.antt`. No contract cites this file.
+-- In order: the records from an offset on, one at a time; a turn of `find_from`; a turn of `index_records`; the index with an entry more; where a search in it ends.
+use mathlib.Core.Path.{_≡_, refl, sym, ap, _∙_}
+use mathlib.Core.Bool.{Bool, true, false, cond}
+use mathlib.Core.List.{List, [], _∷_}
+use mathlib.Core.Option.{none, some}
+use Prim.Native.Nat.{ℕ, _+_, _-_, _≤_, _<_}
+use native.Mathlib.Omega.{arith}
+use native.Mathlib.Nat.{eq-or-lt-of-le}
+use mathlib.Core.Logic.{_⊎_, ⊎-elim}
+use lib.ListN.{length, getD, set, length-set}
+use lib.Seq.{getD-set-same, getD-set-other}
+use lib.Dec.{leb, ltb}
+use borrow.Author.Tests.{leb-true, eq-eqb, ne-eqb}
+use Rattle.fields.specs.Fields.{leAt}
+use Rattle.text.proofs.RowLaws.{and-true}
+use Rattle.dicts.specs.Table.{Record, find}
+use Rattle.dicts.specs.Layout.{Field, Is, Fault, thenField, number, text, optional, bit, recordWith, readNumbers, readFields, readRecord, recordsAt}
+use Rattle.dicts.specs.Check.{rising}
+use Rattle.dicts.specs.Answers.{recordOf, recordField, RecordWithin, Inside}
+use Rattle.dicts.specs.declared.layout.NumProp.{NumProp}
+use Rattle.dicts.specs.declared.layout.RecordAt.{RecordAt}
+use Rattle.dicts.specs.declared.layout.RecordAt.the-variants as RecordAt
+use Rattle.dicts.proofs.LayoutLaws.{many-nil, many-fault, many-cons}
+use Rattle.dicts.proofs.LookupLaws.{rising-lower, drop-stops, found-other}
+use Rattle.characters.specs.Index.{FoundAt, FoundIs, Tail, Ahead, Entry, Indexed}
+use Rattle.characters.specs.declared.lookup.CharRecord.{CharRecord}
+use Rattle.characters.specs.declared.lookup.CharRecord.the-variants.{At, Nothing}
+
+-- ---- lists of records
+find-nil : (c : ℕ) → find [] c ≡ none
+unfolding find
+find-nil c = refl
+
+find-here : (c : ℕ) (r : Record) (rs : List Record) → r .code-point ≡ c → find (r ∷ rs) c ≡ some r
+unfolding find
+find-here c r rs e = simp (eq-eqb (r .code-point) c e)
+
+find-behind : (c : ℕ) (r : Record) (rs : List Record) → (r .code-point ≡ c → ⊥) → find (r ∷ rs) c ≡ find rs c
+unfolding find
+find-behind c r rs n = simp (ne-eqb (r .code-point) c n)
+
+rising-parts : (least : ℕ) (r : Record) (rs : List Record) → rising least (r ∷ rs) ≡ true → (least ≤ r .code-point) × (rising (r .code-point + 1) rs ≡ true)
+unfolding rising
+rising-parts least r rs h = let p = and-true (leb least (r .code-point)) (rising (r .code-point + 1) rs) h in (leb-true _ _ (p .0), p .1)
+
+-- ---- what `record_at` answered
+module _ (t : List ℕ) (at : ℕ) {x : RecordAt} (is : recordField t x ≡ readRecord t at) where
+  pub fault-read : x ≡ RecordAt.Fault → readRecord t at ≡ Fault
+  fault-read e = sym is ∙ ap (recordField t) e
+
+  pub record-read : {p : NumProp} → x ≡ RecordAt.Record p → Is (recordOf t p) (p .next) ≡ readRecord t at
+  record-read e = ap (recordField t) (sym e) ∙ is
+
+pub record-inside : (t : List ℕ) {x : RecordAt} {p : NumProp} → RecordWithin t x → x ≡ RecordAt.Record p → Inside t p
+record-inside t h e = rw e at h
+
+-- ---- a record begins with its code point
+record ThenIs {A B : Type 0} (f : Field A) (k : A → ℕ → Field B) (b : B) (end : ℕ) : Type 0 where
+  value : A
+  next : ℕ
+  first : f ≡ Is value next
+  rest : k value next ≡ Is b end
+
+then-is : {A B : Type 0} (f : Field A) (k : A → ℕ → Field B) {b : B} {end : ℕ} → thenField f k ≡ Is b end → ThenIs f k b end
+then-is (Is a next) k e = record { value = a; next = next; first = refl; rest = e }
+then-is Fault k e = let z : _≡_ {A = ℕ} 0 1 = cc in absurd (omega arith)
+
+fields-code : (code m : ℕ) (s : List ℕ) (at : ℕ) {r : Record} {end : ℕ} → readFields code m s at ≡ Is r end → r .code-point ≡ code
+unfolding readFields
+fields-code code m s at {r} {end} e =
+    let type = then-is (text s at) _ e in
+    let rom = then-is (optional (bit m 0) text s (type .next)) _ (type .rest) in
+    let numbers = then-is (readNumbers m s (rom .next)) _ (rom .rest) in
+    let script = then-is (optional (bit m 5) text s (numbers .next)) _ (numbers .rest) in
+    let q : recordWith code m (type .value) (rom .value) (numbers .value) (script .value) ≡ r = cc in
+    ap (λ (x : Record). x .code-point) (sym q)
+
+with-map : (code m : ℕ) (s : List ℕ) (at : ℕ) (b : Bool) {r : Record} {end : ℕ} → cond b (readFields code m s at) Fault ≡ Is r end → r .code-point ≡ code
+with-map code m s at true e = fields-code code m s at e
+with-map code m s at false e = let z : _≡_ {A = ℕ} 0 1 = cc in absurd (omega arith)
+
+record-begins : (s : List ℕ) (at : ℕ) {r : Record} {end : ℕ} → readRecord s at ≡ Is r end → (at + 4 ≤ length s) × (r .code-point ≡ leAt s at 4)
+unfolding readRecord number
+record-begins s from {r} {end} e = go (leb (from + 4) (length s)) refl e
+  where
+    go : (b : Bool) → leb (from + 4) (length s) ≡ b
+        → thenField (cond b (Is (leAt s from 4) (from + 4)) Fault) (λ code at. thenField (number 1 s at) (λ m at. cond (ltb m 128) (readFields code m s at) Fault)) ≡ Is r end
+        → (from + 4 ≤ length s) × (r .code-point ≡ leAt s from 4)
+    go true h f =
+        let map = then-is (number 1 s (from + 4)) (λ m at. cond (ltb m 128) (readFields (leAt s from 4) m s at) Fault) f in
+        (leb-true _ _ h, with-map (leAt s from 4) (map .value) s (map .next) (ltb (map .value) 128) (map .rest))
+    go false h f = let z : _≡_ {A = ℕ} 0 1 = cc in absurd (omega arith)
+
+-- ---- the records from an offset on
+module _ (t : List ℕ) (left at : ℕ) where
+  pub rest-none : left ≤ 0 → recordsAt left t at ≡ []
+  rest-none h = sym (many-nil readRecord t at left (omega arith))
+
+  pub rest-fault : readRecord t at ≡ Fault → recordsAt left t at ≡ []
+  rest-fault e = sym (many-fault readRecord t at left e)
+
+  rest-cons : (p : NumProp) → Is (recordOf t p) (p .next) ≡ readRecord t at → 0 < left → recordsAt left t at ≡ recordOf t p ∷ recordsAt (left - 1) t (p .next)
+  rest-cons p reads h = sym (many-cons readRecord t at left (λ e. omega arith) (sym reads))
+
+-- ---- a turn of `find_from`
+module _ (t : List ℕ) (rs : List Record) (c at left : ℕ) (a : Ahead t rs c at left) where
+  pub turn-none : recordsAt left t at ≡ [] → find rs c ≡ none
+  turn-none e = sym (a .finds) ∙ rw e (find-nil c)
+
+  module _ (p : NumProp) (reads : Is (recordOf t p) (p .next) ≡ readRecord t at) (some-left : 0 < left) where
+    abbrev here : Record
+    here = recordOf t p
+
+    abbrev behind : List Record
+    behind = recordsAt (left - 1) t (p .next)
+
+    rises-here : rising 0 (here ∷ behind) ≡ true
+    rises-here = rw (← rest-cons t left at p reads some-left) (a .rises)
+
+    finds-here : find (here ∷ behind) c ≡ find rs c
+    finds-here = rw (← rest-cons t left at p reads some-left) (a .finds)
+
+    pub turn-found : Inside t p → p .«code_point» ≡ c → FoundAt t rs c p at
+    unfolding recordOf
+    turn-found inside e = record { found = sym finds-here ∙ find-here c here behind e; reads = reads; inside = inside }
+
+    pub turn-above : c < p .«code_point» → find rs c ≡ none
+    unfolding recordOf
+    turn-above h = sym finds-here ∙ sym (found-other c (here ∷ behind) rises-here (sym (drop-stops c here behind (omega arith))) (λ e. omega arith))
+
+    pub turn-next : (p .«code_point» ≡ c → ⊥) → Ahead t rs c (p .next) (left - 1)
+    unfolding recordOf
+    turn-next n = record {
+      rises = rising-lower 0 (p .«code_point» + 1) behind (omega arith) (rising-parts 0 here behind rises-here .1);
+      finds = sym (find-behind c here behind n) ∙ finds-here;
+    }
+
+-- ---- a turn of `index_records`
+module _ (t : List ℕ) (rs : List Record) (at left least : ℕ) (a : Tail t rs at left least) (p : NumProp) (reads : Is (recordOf t p) (p .next) ≡ readRecord t at) (some-left : 0 < left) where
+  rises-from : (least ≤ recordOf t p .code-point) × (rising (recordOf t p .code-point + 1) (recordsAt (left - 1) t (p .next)) ≡ true)
+  rises-from = rising-parts least (recordOf t p) (recordsAt (left - 1) t (p .next)) (rw (← rest-cons t left at p reads some-left) (a .rises))
+
+  pub tail-next : Tail t rs (p .next) (left - 1) (recordOf t p .code-point + 1)
+  tail-next = record {
+    rises = rises-from .1;
+    finds = λ c h.
+        let low = rises-from .0 in
+        sym (find-behind c (recordOf t p) (recordsAt (left - 1) t (p .next)) (λ e. omega arith))
+        ∙ ap (λ (l : List Record). find l c) (sym (rest-cons t left at p reads some-left))
+        ∙ a .finds c (omega arith);
+  }
+
+  pub tail-entry : Entry t rs at left
+  tail-entry =
+      let begins = record-begins t at (sym reads) in
+      record { least = least; tail = a; there = begins .0; low = rw (← begins .1) (rises-from .0) }
+
+pub tail-all : (t : List ℕ) (at left : ℕ) → rising 0 (recordsAt left t at) ≡ true → Tail t (recordsAt left t at) at left 0
+tail-all t at left h = record { rises = h; finds = λ c k. refl }
+
+-- ---- the index
+pub index-none : (t : List ℕ) (rs : List Record) (os ls : List ℕ) → length os ≡ 256 → length ls ≡ 256 → Indexed t rs os ls 0
+index-none t rs os ls o l = record { few = omega arith; os-long = o; ls-long = l; entries = λ i h. absurd (omega arith) }
+
+module _ (t : List ℕ) (rs : List Record) (os ls : List ℕ) (n : ℕ) (x : Indexed t rs os ls n) where
+  pub index-more : (at left : ℕ) → n < 256 → Entry t rs at left → Indexed t rs (set os n at) (set ls n left) (n + 1)
+  index-more at left h e = record {
+    few = omega arith;
+    os-long = length-set os n at ∙ x .os-long;
+    ls-long = length-set ls n left ∙ x .ls-long;
+    entries = λ i k. ⊎-elim (here i) (λ q. other i q (λ z. omega arith)) (eq-or-lt-of-le {n = i} {m = n} (omega arith));
+  }
+    where
+      here : (i : ℕ) → i ≡ n → Entry t rs (getD (set os n at) i 0) (getD (set ls n left) i 0)
+      here i q =
+          let o : getD (set os n at) i 0 ≡ at = ap (λ (j : ℕ). getD (set os n at) j 0) q ∙ getD-set-same os n at 0 (omega (arith, x .os-long)) in
+          let l : getD (set ls n left) i 0 ≡ left = ap (λ (j : ℕ). getD (set ls n left) j 0) q ∙ getD-set-same ls n left 0 (omega (arith, x .ls-long)) in
+          rw (o, l) e
+
+      other : (i : ℕ) → i < n → (i ≡ n → ⊥) → Entry t rs (getD (set os n at) i 0) (getD (set ls n left) i 0)
+      other i q d = rw (getD-set-other os n i at 0 d, getD-set-other ls n i left 0 d) (x .entries i q)
+
+  -- from an entry that is not above c one may look for c
+  pub index-ahead : (i c : ℕ) → i < n → leAt t (getD os i 0) 4 ≤ c → Ahead t rs c (getD os i 0) (getD ls i 0)
+  index-ahead i c h k =
+      let e = x .entries i h in
+      let low = e .low in
+      record { rises = rising-lower 0 (e .least) _ (omega arith) (e .tail .rises); finds = e .tail .finds c (omega arith) }
+
+pub ahead-all : (t : List ℕ) (c at left : ℕ) → rising 0 (recordsAt left t at) ≡ true → Ahead t (recordsAt left t at) c at left
+ahead-all t c at left h = record { rises = h; finds = refl }
+
+-- what is found from there on is found among all
+pub found-ahead : (t : List ℕ) (rs : List Record) (c at left : ℕ) (r : CharRecord) → Ahead t rs c at left → FoundIs t (recordsAt left t at) c r → FoundIs t rs c r
+found-ahead t rs c at left (At p o) a f = record { found = sym (a .finds) ∙ f .found; reads = f .reads; inside = f .inside }
+found-ahead t rs c at left Nothing a f = sym (a .finds) ∙ f
+
+pub found-told : (t : List ℕ) (rs : List Record) (c : ℕ) {r : CharRecord} {p : NumProp} {at : ℕ} → FoundIs t rs c r → r ≡ At p at → FoundAt t rs c p at
+found-told t rs c f e = rw e at f
+
+pub nothing-told : (t : List ℕ) (rs : List Record) (c : ℕ) {r : CharRecord} → FoundIs t rs c r → r ≡ Nothing → find rs c ≡ none
+nothing-told t rs c f e = rw e at f

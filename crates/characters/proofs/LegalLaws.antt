@@ -1,0 +1,63 @@
+-- What the table's check (dicts/specs/Check.antt) says of each record, and so of the one that is found for a character. No contract cites this file.
+-- In order: one item; the records one by one; the table; the record of a character.
+use mathlib.Core.Path.{_≡_, refl, sym, ap, _∙_}
+use mathlib.Core.Bool.{Bool, true, false, cond}
+use mathlib.Core.List.{List, [], _∷_}
+use mathlib.Core.Option.{some}
+use Prim.Native.Nat.{ℕ, zero, suc, _+_}
+use native.Mathlib.Omega.{arith}
+use lib.ListN.{length}
+use lib.Dec.{eqb}
+use Rattle.dicts.specs.Table.{Text, Record, Table, find}
+use Rattle.dicts.specs.Layout.{Field, Is, Fault, number, readRecord}
+use Rattle.dicts.specs.Check.{Fine, Refused, item, legalRecord, readList, readRecords, readTable}
+use Rattle.dicts.proofs.LookupLaws.{then-fine}
+use Rattle.pass_list.specs.Item.{Every, nil, cons}
+
+abbrev pub Lawful : Record → Type 0
+Lawful r = (least : ℕ) × (legalRecord least r ≡ true)
+
+item-legal : {A : Type 0} (at : ℕ) (legal : A → Bool) (f : Field A) {a : A} {next : ℕ} → item at legal f ≡ Fine a next → legal a ≡ true
+unfolding item
+item-legal at legal Fault e = let z : _≡_ {A = ℕ} 0 1 = cc in absurd (omega arith)
+item-legal at legal (Is b m) {a} {next} e = go (legal b) refl e
+  where
+    go : (t : Bool) → legal b ≡ t → cond t (Fine b m) (Refused 5 at) ≡ Fine a next → legal a ≡ true
+    go true t f = let q : b ≡ a = cc in ap legal (sym q) ∙ t
+    go false t f = let z : _≡_ {A = ℕ} 0 1 = cc in absurd (omega arith)
+
+records-lawful : (n least : ℕ) (s : List ℕ) (at : ℕ) {rs : List Record} {end : ℕ} → readRecords n least s at ≡ Fine rs end → Every Lawful rs
+unfolding readRecords
+records-lawful zero least s at {rs} e = let q : [] ≡ rs = cc in rw (← q) nil
+records-lawful (suc n) least s at {rs} e =
+    let one = then-fine (item at (legalRecord least) (readRecord s at)) _ e in
+    let r = one .value in
+    let more = then-fine (readRecords n (r .code-point + 1) s (one .next)) _ (one .rest) in
+    let q : r ∷ more .value ≡ rs = cc in
+    rw (← q) (cons (least, item-legal at (legalRecord least) (readRecord s at) (one .first)) (records-lawful n (r .code-point + 1) s (one .next) (more .first)))
+
+pub table-lawful : (s : List ℕ) {t : Table} {end : ℕ} → readTable s ≡ Fine t end → Every Lawful (t .records)
+unfolding readTable
+table-lawful s {t} {end} e =
+    let count = then-fine (item 0 (λ n. true) (number 2 s 0)) _ e in
+    let p = then-fine (readList s (count .next)) _ (count .rest) in
+    let f = then-fine (readList s (p .next)) _ (p .rest) in
+    let u = then-fine (readList s (f .next)) _ (f .rest) in
+    let m = then-fine (readList s (u .next)) _ (u .rest) in
+    let rs = then-fine (readRecords (count .value) 0 s (m .next)) _ (m .rest) in
+    go (p .value) (f .value) (u .value) (m .value) (rs .value) (rs .next) (eqb (rs .next) (length s)) (rs .rest) (records-lawful (count .value) 0 s (m .next) (rs .first))
+  where
+    go : (p f u m : List Text) (rs : List Record) (k : ℕ) (b : Bool)
+        → cond b (Fine (record { percentage-markers = p; fraction-connectors = f; plus-signs = u; minus-signs = m; records = rs }) k) (Refused 4 k) ≡ Fine t end
+        → Every Lawful rs → Every Lawful (t .records)
+    go p f u m rs k true g h = let q : record { percentage-markers = p; fraction-connectors = f; plus-signs = u; minus-signs = m; records = rs } ≡ t = cc in rw (← q) h
+    go p f u m rs k false g h = let z : _≡_ {A = ℕ} 0 1 = cc in absurd (omega arith)
+
+pub found-lawful : (rs : List Record) (c : ℕ) {r : Record} → Every Lawful rs → find rs c ≡ some r → Lawful r
+unfolding find
+found-lawful [] c h e = let z : _≡_ {A = ℕ} 0 1 = cc in absurd (omega arith)
+found-lawful (x ∷ rs) c {r} (cons p h) e = go (λ f. found-lawful rs c h f) (eqb (x .code-point) c) e
+  where
+    go : (find rs c ≡ some r → Lawful r) → (b : Bool) → cond b (some x) (find rs c) ≡ some r → Lawful r
+    go more true f = let q : x ≡ r = cc in rw (← q) p
+    go more false f = more f

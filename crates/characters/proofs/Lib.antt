@@ -1,0 +1,6 @@
+-- Laws of the definitions in specs/, for this crate's proofs and its callers'.
+pub mod CharLaws
+pub mod LegalLaws
+pub mod IndexLaws
+pub mod InitialLaws
+pub mod Theorems

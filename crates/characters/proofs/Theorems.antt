@@ -1,0 +1,13 @@
+-- The pass list that `initialize_num_edges` leaves goes through the five passes as the call's definitions say: a citation of pass_edges.
+use Prim.Native.Nat.{ℕ}
+use mathlib.Core.List.{List}
+use Rattle.text.specs.Text.{chars}
+use Rattle.text.proofs.TextLaws.{chars-scalars}
+use Rattle.dicts.specs.Answers.{tableOf}
+use Rattle.dicts.specs.declared.check.Shape.{Shape}
+use Rattle.pass_list.specs.Stored.{itemsAt}
+use Rattle.pass_edges.proofs.Theorems.{FiveAre, five-are}
+use Rattle.characters.specs.Initial.{Initial}
+
+pub initial-five : (line t : List ℕ) (h : Shape) (s : List ℕ) (n : ℕ) → Initial line t h s n → FiveAre (chars line) t (tableOf t h) (itemsAt s 0 n)
+initial-five line t h s n i = five-are (chars line) t (chars-scalars line) (tableOf t h) (itemsAt s 0 n) (i .items)

@@ -1,0 +1,51 @@
+-- The record of a character among the records rs of the table t, and an index over them. Definitions only.
+--     FoundAt t rs c p at      the code point c has a record in rs, which is p and stands at the offset at
+--     FoundIs t rs c r         the answer r says which record c has, or that it has none
+--     Tail t rs at left least  the records from the offset at on, left of them, rise from least on, and have the records of rs for code points from least on
+--     Ahead t rs c at left     c has among the records from at on the record that it has in rs
+--     Entry t rs at left       an entry of the index: a record stands at the offset at, and a Tail begins there, for code points from this record's on
+--     Indexed t rs os ls n     the index over rs has n entries: their offsets os, and ls, how many records there are from each on
+-- Assumes nothing.
+use mathlib.Core.Path.{_≡_}
+use mathlib.Core.Bool.{true}
+use mathlib.Core.List.{List}
+use mathlib.Core.Option.{none, some}
+use Prim.Native.Nat.{ℕ, _+_, _≤_, _<_}
+use lib.ListN.{length, getD}
+use Rattle.fields.specs.Fields.{leAt}
+use Rattle.dicts.specs.Table.{Record, find}
+use Rattle.dicts.specs.Layout.{Is, readRecord, recordsAt}
+use Rattle.dicts.specs.Check.{rising}
+use Rattle.dicts.specs.Answers.{recordOf, Inside}
+use Rattle.dicts.specs.declared.layout.NumProp.{NumProp}
+use Rattle.characters.specs.declared.lookup.CharRecord.{CharRecord}
+use Rattle.characters.specs.declared.lookup.CharRecord.the-variants.{At, Nothing}
+
+pub record FoundAt (t : List ℕ) (rs : List Record) (c : ℕ) (p : NumProp) (at : ℕ) : Type 0 where
+  pub found : find rs c ≡ some (recordOf t p)
+  pub reads : Is (recordOf t p) (p .next) ≡ readRecord t at
+  pub inside : Inside t p
+
+abbrev pub FoundIs : List ℕ → List Record → ℕ → CharRecord → Type 0
+FoundIs t rs c (At p at) = FoundAt t rs c p at
+FoundIs t rs c Nothing = find rs c ≡ none
+
+pub record Tail (t : List ℕ) (rs : List Record) (at left least : ℕ) : Type 0 where
+  pub rises : rising least (recordsAt left t at) ≡ true
+  pub finds : (c : ℕ) → least ≤ c → find (recordsAt left t at) c ≡ find rs c
+
+pub record Ahead (t : List ℕ) (rs : List Record) (c at left : ℕ) : Type 0 where
+  pub rises : rising 0 (recordsAt left t at) ≡ true
+  pub finds : find (recordsAt left t at) c ≡ find rs c
+
+pub record Entry (t : List ℕ) (rs : List Record) (at left : ℕ) : Type 0 where
+  pub least : ℕ
+  pub tail : Tail t rs at left least
+  pub there : at + 4 ≤ length t
+  pub low : least ≤ leAt t at 4
+
+pub record Indexed (t : List ℕ) (rs : List Record) (os ls : List ℕ) (n : ℕ) : Type 0 where
+  pub few : n ≤ 256
+  pub os-long : length os ≡ 256
+  pub ls-long : length ls ≡ 256
+  pub entries : (i : ℕ) → i < n → Entry t rs (getD os i 0) (getD ls i 0)

@@ -1,0 +1,74 @@
+// The edge of one character in the pass list, from its record in the table. The definition is charItem of specs/CharItem.antt.
+ghost use mathlib.Core.Path.{_≡_};
+ghost use Prim.Native.Nat.{_+_, _<_};
+ghost use Rattle.text.specs.Bytes.{same};
+ghost use Rattle.dicts.specs.Answers.{partOf, Within, Inside};
+ghost use Rattle.passes.specs.Passes.{cjk};
+ghost use Rattle.pass_list.specs.Item.{numData, Small, EdgeIs};
+ghost use Rattle.characters.specs.CharItem.{numberIf, charItem};
+use dicts::content::is_digit_type;
+use dicts::layout::NumProp;
+use dicts::layout::Part;
+use pass_list::record::NumData;
+use pass_list::record::PassEdge;
+use text::Offset;
+use text::Place;
+
+// A number that the record has, or 0.
+fn number_if(there: bool, n: u64) -> u64
+    ensures { λ r. ⌜ r ≡ numberIf there n ⌝ }
+{
+    if there { n } else { 0 }
+}
+
+fn is_cjk(table: &[u8], p: Part) -> bool
+    requires { ⌜ Within (now table) p ⌝ }
+    ensures { λ r. ⌜ r ≡ same (partOf (now (table .entry)) p) cjk ⌝ }
+{
+    let at = p.at;
+    let end = p.at + p.len;
+    text::same_bytes(&table[at..end], b"CJK")
+}
+
+fn char_num(table: &[u8], p: NumProp, record_at: usize, place: usize, c: u32) -> NumData
+    requires { ⌜ Inside (now table) p × Small (charItem (now table) p «record_at» place c) ⌝ }
+    ensures { λ r. ⌜ r ≡ numData (charItem (now (table .entry)) p «record_at» place c) ⌝ }
+{
+    let n = p.numbers;
+    let num_type = p.num_type;
+    let script = p.script;
+    let has_value = p.map / 2 % 2 == 1;
+    let has_base = p.map / 8 % 2 == 1;
+    let has_mult = p.map / 16 % 2 == 1;
+    let has_script = p.map / 32 % 2 == 1;
+    let value = number_if(has_value, n.value);
+    NumData {
+        value: whole::of_u64(value),
+        base_multiplier: whole::of_u64(number_if(has_mult, n.mult)),
+        base: number_if(has_base, n.base),
+        has_value: has_value,
+        has_base: has_base,
+        has_mult: has_mult,
+        has_script: has_script,
+        large_power: p.map / 64 % 2 == 1,
+        digit: is_digit_type(table, num_type) & has_value & (value <= 9),
+        gap: (c == 0x96F6) | (c == 0x3007),
+        cjk: has_script & is_cjk(table, script),
+        script: Offset(script.at),
+        script_len: script.len,
+    }
+}
+
+// The edge of the code point c at a place of the line; its record p stands at record_at in the table.
+pub fn char_edge(table: &[u8], p: NumProp, record_at: usize, place: usize, c: u32) -> PassEdge
+    requires { ⌜ Inside (now table) p × Small (charItem (now table) p «record_at» place c) × (place + 1 < 65536) ⌝ }
+    ensures { λ r. ⌜ EdgeIs r (charItem (now (table .entry)) p «record_at» place c) ⌝ }
+{
+    PassEdge {
+        start: Place(place),
+        end: Place(place + 1),
+        kind: 0,
+        record_at: Offset(record_at),
+        num: char_num(table, p, record_at, place, c),
+    }
+}

@@ -1,0 +1,121 @@
+// The edges of a line's characters before the passes (01, "From characters to edges"; the Rust's numbers.rs): the pass list before D1, one edge for each
+// character of the line that has a record, in line order.
+mod character; // character.rt: the edge of one character, from its record
+mod lookup; // lookup.rt: the record of a character, by an index over the records
+
+ghost use mathlib.Core.Path.{_≡_};
+ghost use mathlib.Core.List.{List};
+ghost use Prim.Native.Nat.{ℕ, _+_, _*_, _<_, _≤_};
+ghost use lib.ListN.{length, getD};
+ghost use lib.Seq.{sets};
+ghost use Rattle.text.specs.Text.{chars, Scalars};
+ghost use Rattle.dicts.specs.Answers.{tableOf, Inside};
+ghost use Rattle.pass_list.specs.Item.{Small, Fits};
+ghost use Rattle.pass_list.specs.Stored.{recordBytes};
+ghost use Rattle.stages.specs.Ready.{Ready};
+ghost use Rattle.characters.specs.CharItem.{charItem};
+ghost use Rattle.characters.specs.Index.{Indexed};
+ghost use Rattle.characters.specs.Initial.{Checked, SoFar, Initial};
+use crate::character::char_edge;
+use crate::lookup::CharRecord;
+use crate::lookup::Rest;
+use crate::lookup::find_char;
+use crate::lookup::index_records;
+use dicts::check::Shape;
+use dicts::layout::NumProp;
+use pass_list::record::put;
+use text::Offset;
+use text::Seq;
+
+// Stores the edge of the code point c as the n-th of the list.
+fn put_char(
+    list: &mut [u8],
+    n: usize,
+    table: &[u8],
+    p: NumProp,
+    record_at: usize,
+    place: usize,
+    c: u32,
+)
+    requires { ⌜ (n < 256) × (14336 ≤ length (now list)) × (place < 256) × Inside (now table) p × Small (charItem (now table) p «record_at» place c) ⌝ }
+    ensures { λ _. ⌜ (now (list .exit) ≡ sets (now (list .entry)) (n * 56) (recordBytes (charItem (now (table .entry)) p «record_at» place c))) × Fits (charItem (now (table .entry)) p «record_at» place c) ⌝ }
+{
+    let e = char_edge(table, p, record_at, place, c);
+    put(list, n * 56, e);
+}
+
+// One character more: its edge behind the n edges of those before it, if it has a record. Gives the count of edges then.
+fn add_char(
+    list: &mut [u8],
+    n: usize,
+    table: &[u8],
+    h: Shape,
+    offs: &[usize; 256],
+    lefts: &[usize; 256],
+    entries: usize,
+    place: usize,
+    c: u32,
+) -> usize
+    requires { ⌜ (n ≤ place) × (14336 ≤ length (now list)) × (place < 256) × Checked (now table) h × Indexed (now table) (tableOf (now table) h .records) (now offs) (now lefts) entries ⌝ }
+    ensures { λ r. ⌜ ((w : List ℕ) → Scalars w → place < length w → getD w place 0 ≡ c → SoFar w (now (table .entry)) h place (now (list .entry)) n → SoFar w (now (table .entry)) h (place + 1) (now (list .exit)) r) ⌝ }
+{
+    let all = Rest {
+        at: h.records,
+        left: h.count,
+    };
+    match find_char(table, all, offs, lefts, entries, c) {
+        CharRecord::At(p, at) => {
+            put_char(list, n, table, p, at, place, c);
+            n + 1
+        }
+        CharRecord::Nothing => n,
+    }
+}
+
+// The characters of the line one after the other.
+fn add_chars(
+    list: &mut [u8],
+    line: &[u8],
+    table: &[u8],
+    h: Shape,
+    offs: &[usize; 256],
+    lefts: &[usize; 256],
+    entries: usize,
+) -> usize
+    requires { ⌜ (14336 ≤ length (now list)) × (length (chars (now line)) ≤ 256) × Checked (now table) h × Indexed (now table) (tableOf (now table) h .records) (now offs) (now lefts) entries ⌝ }
+    ensures { λ r. ⌜ Initial (now (line .entry)) (now (table .entry)) h (now (list .exit)) r ⌝ }
+{
+    let mut n: usize = 0;
+    let mut place: usize = 0;
+    let mut at: usize = 0;
+    loop {
+        match text::seq_at(line, Offset(at)) {
+            Seq::Char(c, len) => {
+                n = add_char(list, n, table, h, offs, lefts, entries, place, c);
+                place += 1;
+                at += len;
+            }
+            Seq::Ill => {
+                return n;
+            }
+            Seq::End => {
+                return n;
+            }
+        }
+    }
+}
+
+// The edges of the line's characters, at the start of the list; gives their count.
+pub fn initialize_num_edges(list: &mut [u8], line: &[u8], table: &[u8], h: Shape) -> usize
+    requires { ⌜ (14336 ≤ length (now list)) × ((n : ℕ) × Ready (now line) (now table) h n) ⌝ }
+    ensures { λ r. ⌜ Initial (now (line .entry)) (now (table .entry)) h (now (list .exit)) r ⌝ }
+{
+    let mut offs: [usize; 256] = [0; 256];
+    let mut lefts: [usize; 256] = [0; 256];
+    let all = Rest {
+        at: h.records,
+        left: h.count,
+    };
+    let entries = index_records(table, all, &mut offs, &mut lefts);
+    add_chars(list, line, table, h, &offs, &lefts, entries)
+}

@@ -1,0 +1,61 @@
+// A copy of an edge that stands in the lattice, with a text before its txt (01, F1). It is composed behind the listing, where 2,048 bytes are free.
+ghost use mathlib.Core.Path.{_≡_};
+ghost use mathlib.Core.List.{List};
+ghost use Prim.Native.Nat.{_+_, _-_, _≤_, _<_};
+ghost use lib.ListN.{length, drop};
+ghost use lib.Seq.{sets};
+ghost use Rattle.fields.specs.Part.{part};
+ghost use Rattle.edge.specs.Edge.{Edge};
+ghost use Rattle.edge.specs.Write.{Put};
+ghost use Rattle.lattice.specs.Lattice.{add};
+ghost use Rattle.lattice.specs.Kept.{Holds};
+ghost use Rattle.copies.specs.Copy.{prefixed, prefixedBytes, Source};
+use lattice::Lattice;
+
+// Copies n bytes of w from one offset to a later one, behind them.
+fn copy_inside(w: &mut [u8], from: usize, to: usize, n: usize)
+    requires { ⌜ (from + n ≤ to) × (to + n ≤ length (now w)) ⌝ }
+    ensures { λ _. ⌜ now (w .exit) ≡ sets (now (w .entry)) to (part (now (w .entry)) from n) ⌝ }
+{
+    let mut i = 0;
+    while i < n {
+        w[to + i] = w[from + i];
+        i += 1;
+    }
+}
+
+// Composes from len on the bytes from at to the offset to, with sep before the n bytes of the string at txt. The string's length stands before it.
+fn compose(
+    w: &mut [u8],
+    len: usize,
+    at: usize,
+    txt: usize,
+    n: usize,
+    to: usize,
+    sep: &[u8],
+) -> usize
+    requires { ⌜ (at + 2 ≤ txt) × (txt ≤ to) × (to ≤ len) × (len + (to - at) + length (now sep) ≤ length (now w)) × (length (now sep) + n < 65536) ⌝ }
+    ensures { λ r. ⌜ (r ≡ len + (to - at) + length (now (sep .entry))) × Put (now (w .entry)) (now (w .exit)) len r (prefixedBytes (now (w .entry)) at txt n to (now (sep .entry))) ⌝ }
+{
+    let head = txt - 2 - at;
+    let behind = len + head + 2;
+    copy_inside(w, at, len, head);
+    fields::put_u16(w, len + head, (sep.len() + n) as u16);
+    fields::copy_in(w, behind, sep);
+    copy_inside(w, txt, behind + sep.len(), to - txt);
+    behind + sep.len() + (to - txt)
+}
+
+// The edge that stands in the listing from at on is added once more, with sep before its txt.
+pub fn add_copy(w: &mut [u8], l: Lattice, at: usize, sep: &[u8]) -> Lattice
+    requires { ⌜ ((es : List Edge) × Holds (now w) l es) × ((e : Edge) × Source (now w) (l .len) at (length (now sep)) e) ⌝ }
+    ensures { λ r. ⌜ (drop 39424 (now (w .exit)) ≡ drop 39424 (now (w .entry))) × ((es : List Edge) (e : Edge) → Holds (now (w .entry)) l es → Source (now (w .entry)) (l .len) at (length (now (sep .entry))) e → Holds (now (w .exit)) r (add es (prefixed (now (sep .entry)) e))) ⌝ }
+{
+    let len = l.len;
+    let v = edge::edge_at(w, at);
+    let txt = v.txt;
+    let key = v.fields - at - 2 + sep.len();
+    let next = edge::next_at(w, at);
+    let to = compose(w, len, at, txt.at, txt.len, next, sep);
+    lattice::add_edge(w, l, key, to)
+}

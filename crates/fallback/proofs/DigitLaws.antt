@@ -1,0 +1,172 @@
+-- Laws of the fallback's edges (`specs/Marks.antt`). No contract cites this file.
+-- In order: the edge of one character; the walk over the line; marks and the definition; the edges are legal. Assumes nothing.
+use mathlib.Core.Path.{_≡_, refl, sym, ap, _∙_}
+use mathlib.Core.Logic.{inl}
+use mathlib.Core.Bool.{Bool, true, false, cond, _&&_, _||_, not}
+use mathlib.Core.List.{List, [], _∷_, _++_}
+use Prim.Native.Nat.{ℕ, zero, suc, _+_, _-_, _≤_, _<_}
+use native.Mathlib.Numerals.{add-one}
+use native.Mathlib.Omega.{arith}
+use lib.ListN.{length, drop, getD}
+use lib.Seq.{drop-cons}
+use mathlib.Core.Option.{Option·some-ne-none}
+use lib.Dec.{leb, ltb}
+use borrow.Author.Tests.{leb-true, lt-ltb, ltb-true, ltb-false, lt-leb, le-leb}
+use Rattle.text.specs.declared.Seq.the-variants.{Char}
+use Rattle.text.specs.Sequence.{seq, encode}
+use Rattle.text.specs.Text.{chars, encodes, wellFormed}
+use Rattle.text.proofs.RowLaws.{and-true}
+use Rattle.text.proofs.TextLaws.{encodes-well-formed}
+use Rattle.text.proofs.PlaceLaws.{Reached, reached-start, reached-here, reached-char}
+use Rattle.edge.specs.Edge.{Edge}
+use Rattle.edge.specs.Write.{regular}
+use Rattle.edge.specs.Check.{allowed, sound}
+use Rattle.edge_theorems.specs.Legal.{Legal}
+use Rattle.pass_list.specs.Item.{nil, cons}
+use Rattle.stages.specs.CallEdge.{Legals}
+use Rattle.stages.proofs.CallLaws.{add-all-legals}
+use Rattle.lattice.specs.declared.Lattice.{Lattice}
+use Rattle.lattice.specs.Lattice.{add, addAll}
+use Rattle.lattice.specs.Kept.{Holds, AddingIs}
+use Rattle.lattice.proofs.HoldsLaws.{add-nothing}
+use Rattle.numbers.specs.Fallback.{covered, numType, asciiDigit, fallback}
+use Rattle.fallback.specs.Marks.{digitEdge, unmarked}
+
+-- ---- the edge of one character
+module _ (c p : ℕ) (m : Bool) where
+  and-off : (b : Bool) → (b && false) ≡ false
+  and-off true = refl
+  and-off false = refl
+
+  pub no-digit : ((m || ltb c 48) || ltb 57 c) ≡ true → digitEdge c p m ≡ []
+  unfolding digitEdge
+  no-digit t = go m (ltb c 48) refl (ltb 57 c) refl t
+    where
+      go : (n x : Bool) → ltb c 48 ≡ x → (y : Bool) → ltb 57 c ≡ y → ((n || x) || y) ≡ true → cond (asciiDigit c && not n) (regular p (suc p) numType (c ∷ []) ∷ []) [] ≡ []
+      go true x f y g t = rw (and-off (asciiDigit c))
+      go false true f y g t = rw (lt-leb 48 c (ltb-true c 48 f))
+      go false false f true g t = rw (lt-leb c 57 (ltb-true 57 c g), and-off (leb 48 c))
+      go false false f false g t = absurd (let o : _≡_ {A = ℕ} 0 1 = cc in omega arith)
+
+  pub is-digit : ((m || ltb c 48) || ltb 57 c) ≡ false → (48 ≤ c) × (c ≤ 57) × (digitEdge c p m ≡ regular p (p + 1) numType (c ∷ []) ∷ [])
+  unfolding digitEdge
+  is-digit t = go m (ltb c 48) refl (ltb 57 c) refl t
+    where
+      go : (n x : Bool) → ltb c 48 ≡ x → (y : Bool) → ltb 57 c ≡ y → ((n || x) || y) ≡ false
+          → (48 ≤ c) × (c ≤ 57) × (cond (asciiDigit c && not n) (regular p (suc p) numType (c ∷ []) ∷ []) [] ≡ regular p (p + 1) numType (c ∷ []) ∷ [])
+      go true x f y g t = absurd (let o : _≡_ {A = ℕ} 0 1 = cc in omega arith)
+      go false true f y g t = absurd (let o : _≡_ {A = ℕ} 0 1 = cc in omega arith)
+      go false false f true g t = absurd (let o : _≡_ {A = ℕ} 0 1 = cc in omega arith)
+      go false false f false g t =
+          let a = ltb-false c 48 f in
+          let b = ltb-false 57 c g in
+          (a, b, rw (le-leb 48 c a, le-leb c 57 b, add-one))
+
+  pub add-digit-none : {w : List ℕ} {l : Lattice} → ((m || ltb c 48) || ltb 57 c) ≡ true → (es : List Edge) → Holds w l es → Holds w l (addAll es (digitEdge c p m))
+  unfolding addAll
+  add-digit-none t es q = rw (no-digit t) q
+
+  pub add-digit-one : {w : List ℕ} {l : Lattice} → ((m || ltb c 48) || ltb 57 c) ≡ false → (es : List Edge) → Holds w l (add es (regular p (p + 1) numType (c ∷ []))) → Holds w l (addAll es (digitEdge c p m))
+  unfolding addAll
+  add-digit-one t es q = rw (is-digit t .2) q
+
+-- ---- edges added in a row; to a lattice that is full
+add-all-append : (es cs ds : List Edge) → addAll es (cs ++ ds) ≡ addAll (addAll es cs) ds
+unfolding addAll
+add-all-append es [] ds = refl
+add-all-append es (c ∷ cs) ds = add-all-append (add es c) cs ds
+
+pub full-add-all : {w : List ℕ} {l : Lattice} (es cs : List Edge) → l .full ≡ true → Holds w l es → Holds w l (addAll es cs)
+unfolding addAll AddingIs
+full-add-all es [] f q = q
+full-add-all es (c ∷ cs) f q = full-add-all (add es c) cs f (add-nothing q c (inl f))
+
+-- ---- the walk: with the characters from place p on, the lattice is what it shall be
+pub record Walking (w₀ : List ℕ) (l₀ : Lattice) (line : List ℕ) (marks : List Bool) (w : List ℕ) (l : Lattice) (p at : ℕ) : Type 0 where
+  pub reached : Reached line p at
+  pub long : length w ≡ length w₀
+  pub frame : drop 39424 w ≡ drop 39424 w₀
+  pub holds : (es : List Edge) → Holds w₀ l₀ es
+      → (ds : List Edge) × Holds w l ds × (addAll ds (unmarked marks p (drop p (chars line))) ≡ addAll es (unmarked marks 0 (chars line)))
+
+pub walk-start : (w : List ℕ) (l : Lattice) (line : List ℕ) (marks : List Bool) → Walking w l line marks w l 0 0
+walk-start w l line marks = record { reached = reached-start line; long = refl; frame = refl; holds = λ es q. (es, q, refl) }
+
+module _ {w₀ : List ℕ} {l₀ : Lattice} {line : List ℕ} {marks : List Bool} {w : List ℕ} {l : Lattice} {p at : ℕ} (a : Walking w₀ l₀ line marks w l p at) where
+  pub walk-next : (c k : ℕ) → seq (drop at line) ≡ Char c k → {v : List ℕ} {m : Lattice} → length v ≡ length w → drop 39424 v ≡ drop 39424 w
+      → ((es : List Edge) → Holds w l es → Holds v m (addAll es (digitEdge c p (getD marks p false)))) → Walking w₀ l₀ line marks v m (p + 1) (at + k)
+  unfolding unmarked
+  walk-next c k e y f g =
+      let h = reached-here line p at (a .reached) c k e in
+      let d : drop p (chars line) ≡ c ∷ drop (p + 1) (chars line) = rw (add-one p) (drop-cons (chars line) p 0 (h .0) ∙ rw (h .1)) in
+      record {
+        reached = reached-char line p at (a .reached) c k e;
+        long = y ∙ a .long;
+        frame = f ∙ a .frame;
+        holds = λ es q. let x = a .holds es q in (
+          addAll (x .0) (digitEdge c p (getD marks p false)),
+          g (x .0) (x .1),
+          sym (add-all-append (x .0) (digitEdge c p (getD marks p false)) (unmarked marks (p + 1) (drop (p + 1) (chars line))))
+              ∙ rw (add-one p) (sym (ap (λ (cs : List ℕ). addAll (x .0) (unmarked marks p cs)) (rw (add-one p) at d)) ∙ x .2),
+        );
+      }
+
+  pub walk-end : chars (drop at line) ≡ [] → (es : List Edge) → Holds w₀ l₀ es → Holds w l (addAll es (unmarked marks 0 (chars line)))
+  unfolding addAll unmarked
+  walk-end e es q =
+      let x = a .holds es q in
+      let d : x .0 ≡ addAll es (unmarked marks 0 (chars line)) = (rw (a .reached .behind ∙ e) at (x .2)) in
+      rw d at (x .1)
+
+-- ---- with the marks of the lattice's edges these are the definition's
+pub marks-say : (es : List Edge) (marks : List Bool) → ((p : ℕ) → p < 256 → getD marks p false ≡ covered es p) → (p : ℕ) (w : List ℕ) → p + length w ≤ 256 → unmarked marks p w ≡ fallback es p w
+unfolding unmarked fallback digitEdge
+marks-say es marks m p [] h = refl
+marks-say es marks m p (c ∷ w) h =
+    rw (m p (omega arith), marks-say es marks m (suc p) w (omega arith)) (go (asciiDigit c && not (covered es p)))
+  where
+    go : (b : Bool) → cond b (regular p (suc p) numType (c ∷ []) ∷ []) [] ++ fallback es (suc p) w ≡ cond b (regular p (suc p) numType (c ∷ []) ∷ fallback es (suc p) w) (fallback es (suc p) w)
+    go true = refl
+    go false = refl
+
+-- the two: what the walk over the line adds
+pub marks-add : {w : List ℕ} {l : Lattice} (es : List Edge) (marks : List Bool) (cs : List ℕ) → ((p : ℕ) → p < 256 → getD marks p false ≡ covered es p) → length cs ≤ 256
+    → Holds w l (addAll es (unmarked marks 0 cs)) → Holds w l (addAll es (fallback es 0 cs))
+marks-add es marks cs m h q = rw (marks-say es marks m 0 cs (omega arith)) at q
+
+-- ---- the edges may be listed
+text-num : wellFormed numType ≡ true
+unfolding encodes encode
+text-num = encodes-well-formed (110 ∷ 117 ∷ 109 ∷ []) (refl, (refl, (refl, tt)))
+
+-- an ASCII digit is its own text
+text-digit : (c : ℕ) → asciiDigit c ≡ true → wellFormed (c ∷ []) ≡ true
+unfolding encodes encode
+text-digit c t =
+    let b = and-true (leb 48 c) (leb c 57) t in
+    let x = leb-true c 57 (b .1) in
+    rw (lt-ltb c 128 (omega arith)) at (encodes-well-formed (c ∷ []) (rw (le-leb 0 c (omega arith), le-leb c 0xD7FF (omega arith)), tt))
+
+digit-legal : (n c p : ℕ) → asciiDigit c ≡ true → p < n → n ≤ 256 → Legal false n (regular p (suc p) numType (c ∷ []))
+unfolding sound allowed
+digit-legal n c p t h k =
+    record {
+      fits = record { start = omega arith; end = omega arith; type = omega arith; txt = omega arith; num = λ x e. absurd (Option·some-ne-none x (sym e)) };
+      map = refl;
+      content = rw (lt-ltb p (suc p) (omega arith), le-leb (suc p) n (omega arith), text-num, text-digit c t);
+    }
+
+fallback-legal : (n : ℕ) (es : List Edge) (p : ℕ) (w : List ℕ) → p + length w ≤ n → n ≤ 256 → Legals n (fallback es p w)
+unfolding fallback
+fallback-legal n es p [] h k = nil
+fallback-legal n es p (c ∷ w) h k = go (asciiDigit c) refl (not (covered es p)) (fallback-legal n es (suc p) w (omega arith) k)
+  where
+    go : (a : Bool) → asciiDigit c ≡ a → (b : Bool) → Legals n (fallback es (suc p) w)
+        → Legals n (cond (a && b) (regular p (suc p) numType (c ∷ []) ∷ fallback es (suc p) w) (fallback es (suc p) w))
+    go true t true ls = cons (digit-legal n c p t (omega arith) k) ls
+    go true t false ls = ls
+    go false t b ls = ls
+
+-- so the lattice's edges stay such
+pub fallback-legals : {n : ℕ} {es : List Edge} (w : List ℕ) → length w ≤ n → n ≤ 256 → Legals n es → Legals n (addAll es (fallback es 0 w))
+fallback-legals {n} {es} w h k ls = add-all-legals ls (fallback-legal n es 0 w (omega arith) k)

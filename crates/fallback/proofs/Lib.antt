@@ -1,0 +1,3 @@
+-- The proofs of `fallback`.
+pub mod MarkLaws
+pub mod DigitLaws

@@ -1,0 +1,2 @@
+-- What the steps of the fallback give.
+pub mod Marks

@@ -1,0 +1,97 @@
+// The fallback (01, "The rest of the call"): an ASCII digit without a numeric edge on its place adds a regular edge there. The last stage of the call.
+ghost use mathlib.Core.Path.{_≡_};
+ghost use mathlib.Core.Bool.{false, true, cond};
+ghost use mathlib.Core.List.{List};
+ghost use Prim.Native.Nat.{ℕ, _≤_, _<_};
+ghost use lib.ListN.{length, drop, getD, set, replicate};
+ghost use Rattle.text.specs.Text.{chars};
+ghost use Rattle.edge.specs.Edge.{Edge};
+ghost use Rattle.edge.specs.Layout.{edgeAt, edgesAt};
+ghost use Rattle.lattice.specs.Lattice.{addAll};
+ghost use Rattle.lattice.specs.Kept.{Holds};
+ghost use Rattle.paths.specs.Reading.{Spanned, Spans};
+ghost use Rattle.stages.specs.CallEdge.{Legals};
+ghost use Rattle.numbers.specs.Fallback.{covered, fallback};
+ghost use Rattle.fallback.specs.Marks.{onePlace, digitEdge, unmarked};
+use lattice::Lattice;
+use text::Offset;
+use text::Place;
+use text::Seq;
+
+// Sets the mark of an edge's place where the edge is numeric and one place long.
+fn mark(s: &[u8], at: usize, marks: &mut [bool; 257])
+    requires { ⌜ Spanned 256 (now s) at ⌝ }
+    ensures { λ _. ⌜ now (marks .exit) ≡ cond (onePlace (edgeAt (now (s .entry)) at)) (set (now (marks .entry)) (edgeAt (now (s .entry)) at .start) true) (now (marks .entry)) ⌝ }
+{
+    let map = fields::u16_at(s, at);
+    let start = fields::u16_at(s, at + 2) as usize;
+    let end = fields::u16_at(s, at + 4) as usize;
+    if edge::bit(map, 1) & (end == start + 1) {
+        marks[start] = true;
+    }
+}
+
+// The marks of all places that a numeric edge of one place covers. One walk over the listing.
+fn mark_covered(s: &[u8], count: usize, marks: &mut [bool; 257])
+    requires { ⌜ Spans 256 count (now s) 2 × (now marks ≡ replicate 257 false) ⌝ }
+    ensures { λ _. ⌜ ((p : ℕ) → p < 256 → getD (now (marks .exit)) p false ≡ covered (edgesAt count (now (s .entry)) 2) p) ⌝ }
+{
+    let mut at = 2;
+    let mut left = count;
+    while 0 < left {
+        mark(s, at, marks);
+        at = edge::next_at(s, at);
+        left -= 1;
+    }
+}
+
+// The edge of a character at a place, if it is a digit whose place has no mark.
+fn add_digit(w: &mut [u8], l: Lattice, c: u32, place: usize, marked: bool) -> Lattice
+    requires { ⌜ ((es : List Edge) × Holds (now w) l es) × (place < 256) ⌝ }
+    ensures { λ r. ⌜ (drop 39424 (now (w .exit)) ≡ drop 39424 (now (w .entry))) × ((es : List Edge) → Holds (now (w .entry)) l es → Holds (now (w .exit)) r (addAll es (digitEdge c place marked))) ⌝ }
+{
+    if marked | (c < 48) | (57 < c) {
+        return l;
+    }
+    let txt = [c as u8];
+    lattice::add_regular(w, l, Place(place), Place(place + 1), b"num", &txt)
+}
+
+// The edges of all digits whose places have no mark. One walk over the line.
+fn add_unmarked(w: &mut [u8], l: Lattice, line: &[u8], marks: &[bool; 257]) -> Lattice
+    requires { ⌜ ((es : List Edge) × Holds (now w) l es) × (length (chars (now line)) ≤ 256) ⌝ }
+    ensures { λ r. ⌜ (drop 39424 (now (w .exit)) ≡ drop 39424 (now (w .entry))) × ((es : List Edge) → Holds (now (w .entry)) l es → Holds (now (w .exit)) r (addAll es (unmarked (now (marks .entry)) 0 (chars (now (line .entry)))))) ⌝ }
+{
+    let mut grown = l;
+    let mut place = 0;
+    let mut at = 0;
+    while at < line.len() {
+        match text::seq_at(line, Offset(at)) {
+            Seq::Char(c, len) => {
+                grown = add_digit(w, grown, c, place, marks[place]);
+                place += 1;
+                at += len;
+            }
+            Seq::Ill => {
+                return grown;
+            }
+            Seq::End => {
+                return grown;
+            }
+        }
+    }
+    grown
+}
+
+// The fallback's edges are added. The marks are those of the lattice before the first of them.
+pub fn fallback(w: &mut [u8], l: Lattice, line: &[u8]) -> Lattice
+    requires { ⌜ (length (chars (now line)) ≤ 256) × ((es : List Edge) × Holds (now w) l es × Legals (length (chars (now line))) es) ⌝ }
+    ensures { λ r. ⌜ (drop 39424 (now (w .exit)) ≡ drop 39424 (now (w .entry))) × ((es : List Edge) → Holds (now (w .entry)) l es → Legals (length (chars (now (line .entry)))) es → Holds (now (w .exit)) r (addAll es (fallback es 0 (chars (now (line .entry)))))) ⌝ }
+{
+    if l.full {
+        return l;
+    }
+    let mut marks = [false; 257];
+    mark_covered(w, l.count, &mut marks);
+    add_unmarked(w, l, line, &marks)
+}

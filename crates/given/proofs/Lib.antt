@@ -1,0 +1,2 @@
+-- The proofs of `given`.
+pub mod GivenLaws

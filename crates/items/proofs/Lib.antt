@@ -1,0 +1,2 @@
+-- Laws of the definitions of `items`, for its own proofs and its callers'.
+pub mod TextLaws

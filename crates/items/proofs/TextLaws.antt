@@ -1,0 +1,299 @@
+-- Laws of an item's texts. In order: the strings of a record are short; a character's bytes; the txt and the type of an item, case by case.
+use mathlib.Core.Path.{_≡_, refl, sym, ap, _∙_, subst}
+use mathlib.Core.Bool.{Bool, true, false, cond}
+use mathlib.Core.List.{List, [], _∷_, _++_}
+use mathlib.Core.Option.{Option, none, some, Option·getD}
+use Prim.Native.Nat.{ℕ, zero, suc, _+_, _*_, _-_, _/_, _%_, _≤_, _<_}
+use native.Mathlib.Omega.{arith}
+use lib.ListN.{length, take, drop, getD, length-append}
+use lib.Dec.{eqb, ltb, leb}
+use borrow.Author.Tests.{leb-true, eqb-true, eq-eqb, ne-eqb}
+use Rattle.fields.specs.Part.{part}
+use Rattle.fields.proofs.PartLaws.{length-part}
+use Rattle.text.specs.Sequence.{encode}
+use Rattle.text.specs.Text.{chars, encodes, offsetOf}
+use Rattle.dicts.specs.Table.{Text, Record}
+use Rattle.dicts.specs.Layout.{Field, Is, Fault, thenField, mapField, number, textOf, text, optional, bit, readNumbers, readFields, readRecord}
+use Rattle.dicts.specs.Answers.{partOf, optionally, recordOf, recordField, RecordWithin, Inside}
+use Rattle.dicts.specs.declared.layout.NumProp.{NumProp}
+use Rattle.whole.specs.Whole.{ofNat}
+use Rattle.whole.specs.Decimal.{decimal, padded}
+use Rattle.whole.proofs.DecimalLaws.{length-padded, length-decimal-top}
+use Rattle.pass_list.specs.declared.record.PassEdge.{PassEdge}
+use Rattle.pass_list.specs.Item.{Item, EdgeIs}
+use Rattle.pass_list.specs.Edges.{between, kindName, txtOf, edgeOf}
+use Rattle.dicts.specs.declared.layout.RecordAt.{RecordAt}
+use Rattle.dicts.specs.declared.layout.RecordAt.the-variants as RecordAt
+use Rattle.dicts.proofs.LayoutLaws.{told}
+use Rattle.stages.specs.Ready.{Offsets}
+use Rattle.places.proofs.PlacesLaws.{offset-rises, part-between}
+use Rattle.text.proofs.PlaceLaws.{offset-le}
+use Rattle.items.specs.Sound.{LegalAt, Sound, ItemIs}
+use Rattle.items.specs.Texts.{charTxt, charType, typeOf, Front}
+
+take-short : (n : ℕ) (cs : List ℕ) → length (take n cs) ≤ n
+take-short zero cs = omega arith
+take-short (suc n) [] = omega arith
+take-short (suc n) (c ∷ cs) = omega (arith, take-short n cs)
+
+-- ---- the strings of a record
+abbrev AtMost : Option Text → Type 0
+AtMost none = Unit {0}
+AtMost (some t) = length t ≤ 60
+
+pub record Strings (r : Record) : Type 0 where
+  pub type : length (r .type) ≤ 60
+  pub rom : AtMost (r .rom)
+  pub script : AtMost (r .script)
+
+-- what a field says of its value, where it has one
+abbrev Says : {A : Type 0} → (A → Type 0) → Field A → Type 0
+Says P (Is a next) = P a
+Says P Fault = Unit {0}
+
+says-then : {A B : Type 0} (P : A → Type 0) (Q : B → Type 0) (f : Field A) (k : A → ℕ → Field B) → Says P f → ((a : A) (next : ℕ) → P a → Says Q (k a next)) → Says Q (thenField f k)
+says-then P Q (Is a next) k h g = g a next h
+says-then P Q Fault k h g = tt
+
+says-any : {A : Type 0} (f : Field A) → Says (λ a. Unit {0}) f
+says-any (Is a next) = tt
+says-any Fault = tt
+
+part-at-most : (s : List ℕ) (at n : ℕ) → length (part s at n) ≤ n
+unfolding part
+part-at-most s at n = take-short n (drop at s)
+
+text-of-short : (s : List ℕ) (at n : ℕ) → Says (λ t. length t ≤ 60) (textOf s at n)
+unfolding textOf
+text-of-short s at n = go (leb n 60) (leb (at + n) (length s)) refl
+  where
+    go : (b d : Bool) → leb n 60 ≡ b → Says (λ t. length t ≤ 60) (cond b (cond d (Is (part s at n) (at + n)) Fault) Fault)
+    go true true e = omega (arith, leb-true n 60 e, part-at-most s at n)
+    go true false e = tt
+    go false d e = tt
+
+says-at : {A : Type 0} (P : A → Type 0) {f : Field A} {a : A} {next : ℕ} → Says P f → f ≡ Is a next → P a
+says-at P h e = subst (Says P) e h
+
+text-short : (s : List ℕ) (at : ℕ) → Says (λ t. length t ≤ 60) (text s at)
+unfolding text
+text-short s at = says-then (λ n. Unit {0}) (λ t. length t ≤ 60) (number 1 s at) (λ n next. textOf s next n) (says-any (number 1 s at)) (λ n next u. text-of-short s next n)
+
+opt-text-short : (b : Bool) (s : List ℕ) (at : ℕ) → Says AtMost (optional b text s at)
+unfolding optional
+opt-text-short false s at = tt
+opt-text-short true s at = go (text s at) (text-short s at)
+  where
+    go : (f : Field Text) → Says (λ t. length t ≤ 60) f → Says AtMost (mapField some f)
+    go (Is t next) h = h
+    go Fault h = tt
+
+fields-short : (c m : ℕ) (s : List ℕ) (at : ℕ) → Says Strings (readFields c m s at)
+unfolding readFields
+fields-short c m s at =
+    says-then (λ t. length t ≤ 60) Strings (text s at) _ (text-short s at) (λ type at h.
+    says-then AtMost Strings (optional (bit m 0) text s at) _ (opt-text-short (bit m 0) s at) (λ rom at k.
+    says-then (λ n. Unit {0}) Strings (readNumbers m s at) _ (says-any (readNumbers m s at)) (λ numbers at u.
+    says-then AtMost Strings (optional (bit m 5) text s at) _ (opt-text-short (bit m 5) s at) (λ script at l.
+    record { type = h; rom = k; script = l }))))
+
+record-says : (s : List ℕ) (at : ℕ) → Says Strings (readRecord s at)
+unfolding readRecord
+record-says s at =
+    says-then (λ n. Unit {0}) Strings (number 4 s at) _ (says-any (number 4 s at)) (λ c at u.
+    says-then (λ n. Unit {0}) Strings (number 1 s at) _ (says-any (number 1 s at)) (λ m at u. go c m at (ltb m 128)))
+  where
+    go : (c m at : ℕ) (b : Bool) → Says Strings (cond b (readFields c m s at) Fault)
+    go c m at true = fields-short c m s at
+    go c m at false = tt
+
+pub record-short : (s : List ℕ) (at : ℕ) {r : Record} {next : ℕ} → readRecord s at ≡ Is r next → Strings r
+record-short s at e = says-at Strings (record-says s at) e
+
+pub at-most : {o : Option Text} {t : Text} → AtMost o → o ≡ some t → length t ≤ 60
+at-most h e = subst AtMost e h
+
+-- ---- a character's bytes
+encode-short : (c : ℕ) → length (encode c) ≤ 4
+unfolding encode
+encode-short c = go (ltb c 0x80) (ltb c 0x800) (ltb c 0x10000) _ _ _ _ _ _ _ _ _ _
+  where
+    go : (x y z : Bool) (a b d e f g h i j k : ℕ) → length (cond x (a ∷ []) (cond y (b ∷ d ∷ []) (cond z (e ∷ f ∷ g ∷ []) (h ∷ i ∷ j ∷ k ∷ [])))) ≤ 4
+    go true y z a b d e f g h i j k = omega arith
+    go false true z a b d e f g h i j k = omega arith
+    go false false true a b d e f g h i j k = omega arith
+    go false false false a b d e f g h i j k = omega arith
+
+encodes-short : (cs : List ℕ) → length (encodes cs) ≤ 4 * length cs
+unfolding encodes
+encodes-short [] = omega arith
+encodes-short (c ∷ cs) = simp length-append (omega (arith, encode-short c, encodes-short cs))
+
+pub between-short : (w : List ℕ) (a b : ℕ) → length (between w a b) ≤ 4 * (b - a)
+unfolding between
+between-short w a b = omega (arith, encodes-short (take (b - a) (drop a w)), take-short (b - a) (drop a w))
+
+-- ---- a text at the front of a buffer
+pub front-is : {s u : List ℕ} {r : ℕ} {t v : Text} → t ≡ v → Front s u r t → Front s u r v
+front-is {s} {u} {r} e h = subst (Front s u r) e h
+
+pub front-none : (s : List ℕ) {t : Text} → t ≡ [] → Front s s 0 t
+front-none s e = front-is (sym e) (record { wrote = refl; long = refl })
+
+-- ---- the txt and the type of a character, by what stands at an offset of s
+module _ (s : List ℕ) (at : ℕ) {r : RecordAt} (is : recordField s r ≡ readRecord s at) where
+  pub fault-told : r ≡ RecordAt.Fault → readRecord s at ≡ Fault
+  fault-told e = told (recordField s) is e
+
+  pub txt-fault : (w : List ℕ) (a b : ℕ) → r ≡ RecordAt.Fault → charTxt w s at a b ≡ []
+  unfolding charTxt
+  txt-fault w a b e = rw (fault-told e)
+
+  pub type-fault : r ≡ RecordAt.Fault → charType s at ≡ []
+  unfolding charType
+  type-fault e = rw (fault-told e)
+
+  module _ (p : NumProp) (e : r ≡ RecordAt.Record p) where
+    pub record-told : readRecord s at ≡ Is (recordOf s p) (p .next)
+    record-told = told (recordField s) is e
+
+    pub txt-rom : (w : List ℕ) (a b : ℕ) → p .map / 1 % 2 ≡ 1 → charTxt w s at a b ≡ part s (p .rom .at) (p .rom .len)
+    unfolding charTxt recordOf
+    txt-rom w a b h = rw (record-told, eq-eqb (p .map / 1 % 2) 1 h)
+
+    pub txt-own : (w : List ℕ) (a b : ℕ) → (p .map / 1 % 2 ≡ 1 → ⊥) → charTxt w s at a b ≡ between w a b
+    unfolding charTxt recordOf
+    txt-own w a b h = rw (record-told, ne-eqb (p .map / 1 % 2) 1 h)
+
+    pub type-record : charType s at ≡ part s (p .«num_type» .at) (p .«num_type» .len)
+    unfolding charType recordOf
+    type-record = rw record-told
+
+    pub type-length : p .«num_type» .at + p .«num_type» .len ≤ length s → p .«num_type» .len ≤ 60
+    unfolding recordOf
+    type-length h = omega (arith, length-part s (p .«num_type» .at) (p .«num_type» .len) h, record-short s at record-told .type)
+
+-- what stands between two offsets, a length apart
+pub part-to : (s : List ℕ) (at n : ℕ) → part s at (at + n - at) ≡ part s at n
+part-to s at n = let e : at + n - at ≡ n = omega arith in rw e
+
+-- the bytes of the line between two places, by the offsets
+pub part-places : (line offs : List ℕ) (a b : ℕ) → Offsets line offs → a ≤ b → b ≤ length (chars line) → part line (getD offs a 0) (getD offs b 0 - getD offs a 0) ≡ between (chars line) a b
+part-places line offs a b o h k = rw (o .at a (omega arith), o .at b k) (part-between line a b h)
+
+pub record Spans (line offs : List ℕ) (a b : ℕ) : Type 0 where
+  pub rises : getD offs a 0 ≤ getD offs b 0
+  pub within : getD offs b 0 ≤ length line
+  pub long : getD offs b 0 - getD offs a 0 ≡ length (between (chars line) a b)
+
+pub spans : (line offs : List ℕ) (a b : ℕ) → Offsets line offs → a ≤ b → b ≤ length (chars line) → Spans line offs a b
+spans line offs a b o h k =
+    let x : getD offs a 0 ≡ offsetOf line a = o .at a (omega arith) in
+    let y : getD offs b 0 ≡ offsetOf line b = o .at b k in
+    let r : offsetOf line a ≤ offsetOf line b = offset-rises line a b h in
+    let i : offsetOf line b ≤ length line = offset-le line b in
+    let l : length (part line (getD offs a 0) (getD offs b 0 - getD offs a 0)) ≡ getD offs b 0 - getD offs a 0 = length-part line (getD offs a 0) (getD offs b 0 - getD offs a 0) (omega arith) in
+    record {
+      rises = omega arith;
+      within = omega arith;
+      long = sym l ∙ ap length (part-places line offs a b o h k);
+    }
+
+pub inside-told : {s : List ℕ} {r : RecordAt} {p : NumProp} → RecordWithin s r → r ≡ RecordAt.Record p → Inside s p
+inside-told {s} h e = subst (RecordWithin s) e h
+
+-- ---- the names of the passes
+module _ (k : ℕ) where
+  pub name-d1 : k ≡ 1 → 68 ∷ 49 ∷ [] ≡ kindName k
+  name-d1 h = rw (eq-eqb k 1 h)
+
+  pub name-g1 : k ≡ 2 → 71 ∷ 49 ∷ [] ≡ kindName k
+  name-g1 h = rw h
+
+  pub name-g2 : k ≡ 3 → 71 ∷ 50 ∷ [] ≡ kindName k
+  name-g2 h = rw h
+
+  pub name-g3 : k ≡ 4 → 71 ∷ 51 ∷ [] ≡ kindName k
+  name-g3 h = rw h
+
+  pub name-g4 : (k ≡ 1 → ⊥) → (k ≡ 2 → ⊥) → (k ≡ 3 → ⊥) → (k ≡ 4 → ⊥) → 71 ∷ 52 ∷ [] ≡ kindName k
+  name-g4 a b c d = rw (ne-eqb k 1 a, ne-eqb k 2 b, ne-eqb k 3 c, ne-eqb k 4 d)
+
+-- ---- the texts of an item x, which the code has as e
+module _ (w t : List ℕ) (e : PassEdge) (x : Item) (h : EdgeIs e x) where
+  pub kind-is : e .kind ≡ x .kind
+  kind-is = ap (λ (e : PassEdge). e .kind) (h .is)
+
+  pub txt-char : e .kind ≡ 0 → charTxt w t (e .«record_at» .0) (e .start .0) (e .end .0) ≡ txtOf w t x
+  unfolding charTxt
+  txt-char z = let k : x .kind ≡ 0 = sym kind-is ∙ z in rw (eq-eqb (x .kind) 0 k, h .is)
+
+  pub txt-digits : {v : ℕ} → (e .kind ≡ 0 → ⊥) → e .kind ≡ 1 → v ≡ x .value → padded (e .end .0 - e .start .0) v ≡ txtOf w t x
+  txt-digits n z q = let k : x .kind ≡ 1 = sym kind-is ∙ z in rw (ne-eqb (x .kind) 0 (λ o. omega arith), eq-eqb (x .kind) 1 k, h .is, q)
+
+  pub txt-value : {v : ℕ} → (e .kind ≡ 0 → ⊥) → (e .kind ≡ 1 → ⊥) → v ≡ x .value → decimal v ≡ txtOf w t x
+  txt-value n z q = rw (ne-eqb (x .kind) 0 (λ o. n (kind-is ∙ o)), ne-eqb (x .kind) 1 (λ o. z (kind-is ∙ o)), q)
+
+  pub type-char : e .kind ≡ 0 → charType t (e .«record_at» .0) ≡ typeOf t x
+  unfolding typeOf
+  type-char z = let k : x .kind ≡ 0 = sym kind-is ∙ z in rw (eq-eqb (x .kind) 0 k, h .is)
+
+  pub type-kind : (e .kind ≡ 0 → ⊥) → kindName (e .kind) ≡ typeOf t x
+  unfolding typeOf
+  type-kind z = rw (ne-eqb (x .kind) 0 (λ o. z (kind-is ∙ o)), h .is)
+
+-- ---- the txt of a sound item is short
+get-short : (o : Option Text) (d : Text) → AtMost o → length d ≤ 60 → length (Option·getD o d) ≤ 60
+get-short none d h k = k
+get-short (some t) d h k = h
+
+own-short : (w t : List ℕ) (at a b : ℕ) → LegalAt t at → b ≡ suc a → length (charTxt w t at a b) ≤ 60
+unfolding charTxt
+own-short w t at a b l o =
+    rw (l .reads) (get-short (l .prop .rom) (between w a b) (record-short t at (l .reads) .rom) (omega (arith, between-short w a b)))
+
+pub txt-short : (w t : List ℕ) (x : Item) → Sound w t x → length w ≤ 256 → length (txtOf w t x) ≤ 256
+unfolding charTxt
+txt-short w t x s n = go (eqb (x .kind) 0) (eqb (x .kind) 1) refl
+  where
+    go : (b c : Bool) → eqb (x .kind) 0 ≡ b → length (cond b (charTxt w t (x .record-at) (x .start) (x .end)) (cond c (padded (x .end - x .start) (x .value)) (decimal (x .value)))) ≤ 256
+    go true c e = let k = eqb-true (x .kind) 0 e in omega (arith, own-short w t (x .record-at) (x .start) (x .end) (s .rooted .legal k) (s .rooted .one k))
+    go false true e = omega (arith, length-padded (x .end - x .start) (x .value), s .made .inside)
+    go false false e = omega (arith, length-decimal-top (x .value) (s .small .value))
+
+module _ (line t : List ℕ) (e : PassEdge) (x : Item) (h : ItemIs line t e x) where
+  pub places-of : (e .start .0 ≤ e .end .0) × (e .end .0 ≤ length (chars line))
+  places-of =
+      let a : e .start .0 ≡ x .start = ap (λ (e : PassEdge). e .start .0) (h .is .is) in
+      let b : e .end .0 ≡ x .end = ap (λ (e : PassEdge). e .end .0) (h .is .is) in
+      (omega (arith, h .sound .made .ordered), omega (arith, h .sound .made .inside))
+
+  pub char-fits : length (chars line) ≤ 256 → e .kind ≡ 0 → length (charTxt (chars line) t (e .«record_at» .0) (e .start .0) (e .end .0)) ≤ 256
+  char-fits n z = rw (txt-char (chars line) t e x (h .is) z) (txt-short (chars line) t x (h .sound) n)
+
+-- the value of an item, as the code has it
+pub value-is : (e : PassEdge) (x : Item) → EdgeIs e x → e .num .value ≡ ofNat (x .value)
+value-is e x h = ap (λ (e : PassEdge). e .num .value) (h .is)
+
+-- ---- the type of a sound item
+pub type-of-edge : (w t : List ℕ) (x : Item) → edgeOf w t x .type ≡ typeOf t x
+unfolding edgeOf typeOf charType
+type-of-edge w t x = refl
+
+name-short : (k : ℕ) → length (kindName k) ≤ 60
+name-short k = go (eqb k 1) (eqb k 2) (eqb k 3) (eqb k 4)
+  where
+    go : (a b c d : Bool) → length {A = ℕ} (cond a (68 ∷ 49 ∷ []) (cond b (71 ∷ 49 ∷ []) (cond c (71 ∷ 50 ∷ []) (cond d (71 ∷ 51 ∷ []) (71 ∷ 52 ∷ []))))) ≤ 60
+    go true b c d = omega arith
+    go false true c d = omega arith
+    go false false true d = omega arith
+    go false false false true = omega arith
+    go false false false false = omega arith
+
+pub type-short : (w t : List ℕ) (x : Item) → Sound w t x → length (typeOf t x) ≤ 60
+unfolding typeOf charType
+type-short w t x s = go (eqb (x .kind) 0) refl
+  where
+    go : (b : Bool) → eqb (x .kind) 0 ≡ b → length (cond b (charType t (x .record-at)) (kindName (x .kind))) ≤ 60
+    go true e = let l = s .rooted .legal (eqb-true (x .kind) 0 e) in rw (l .reads) (record-short t (x .record-at) (l .reads) .type)
+    go false e = name-short (x .kind)

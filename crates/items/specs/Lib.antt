@@ -1,0 +1,3 @@
+-- The definitions that the contracts of `items` cite.
+pub mod Sound
+pub mod Texts

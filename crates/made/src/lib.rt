@@ -1,0 +1,272 @@
+// What the marker at a place leads to (01, "The rest of the call"): from the neighbours of the place in the lattice.
+ghost use mathlib.Core.Path.{_≡_};
+ghost use mathlib.Core.Bool.{cond};
+ghost use mathlib.Core.List.{List};
+ghost use Prim.Native.Nat.{ℕ, _+_, _≤_, _<_};
+ghost use lib.ListN.{length, getD, set, replicate};
+ghost use lib.Dec.{ltb};
+ghost use Rattle.edge.specs.Edge.{Edge};
+ghost use Rattle.edge.specs.Layout.{nextAt, edgeAt};
+ghost use Rattle.lattice.specs.Kept.{noEdge};
+ghost use Rattle.numbers.specs.Listed.{wholeValue};
+ghost use Rattle.numbers.specs.Fractions.{isNumeric, marked, byMarker};
+ghost use Rattle.markers.specs.Marks.{markerOf};
+ghost use Rattle.made.specs.Choice.{madeOf, Valid};
+ghost use Rattle.made.specs.Around.{Keeps, sideOf, placeOf, Neighbors, Around};
+ghost use Rattle.made.specs.Decision.{sizeOf, optionOf, WholeValued, otherwiseOf, bothOf, withValuesOf, betweenOf};
+use lattice::Lattice;
+use markers::Marker;
+use paths::Query;
+use text::Place;
+
+// The decision at one place. form 0: nothing; 1: "right%" from the values; 2: "right/left"; 3: the right neighbour's txt and "%", from the marker on.
+// left and right are indices of edges in the lattice, 0 where they are not used.
+pub struct Choice {
+    pub form: usize,
+    pub left: usize,
+    pub right: usize,
+}
+
+// The value of an edge as a whole number, where it has one.
+pub enum Value {
+    Whole(u64),
+    Nothing,
+}
+
+// What is asked for at a place: its right or its left neighbour.
+fn side(right: bool, p: usize) -> Query
+    ensures { λ r. ⌜ r ≡ sideOf right p ⌝ }
+{
+    if right {
+        Query::Right(Place(p))
+    } else {
+        Query::Left(Place(p))
+    }
+}
+
+// The place whose right or left neighbour the edge at an offset may be.
+fn place_at(w: &[u8], at: usize, right: bool) -> usize
+    requires { ⌜ at + 10 ≤ length (now w) ⌝ }
+    ensures { λ r. ⌜ r ≡ placeOf right (edgeAt (now (w .entry)) at) ⌝ }
+{
+    if right {
+        fields::u16_at(w, at + 2) as usize
+    } else {
+        fields::u16_at(w, at + 4) as usize
+    }
+}
+
+// Keeps the edge with index i as the neighbour of a place, where it scores higher than the one kept there.
+fn keep(tops: &mut [usize; 257], table: &mut [usize; 257], place: usize, score: usize, i: usize)
+    requires { ⌜ (place < 257) × (i < 1024) ⌝ }
+    ensures scores { λ _. ⌜ now (tops .exit) ≡ cond (ltb (getD (now (tops .entry)) place 0) score) (set (now (tops .entry)) place score) (now (tops .entry)) ⌝ }
+    ensures indices { λ _. ⌜ now (table .exit) ≡ cond (ltb (getD (now (tops .entry)) place 0) score) (set (now (table .entry)) place (i + 1)) (now (table .entry)) ⌝ }
+{
+    if tops[place] < score {
+        tops[place] = score;
+        table[place] = i + 1;
+    }
+}
+
+// The right or the left neighbours of all places, and their scores. One walk over the lattice.
+fn scored_neighbors(
+    w: &[u8],
+    l: Lattice,
+    right: bool,
+    tops: &mut [usize; 257],
+    table: &mut [usize; 257],
+)
+    requires { ⌜ ((es : List Edge) × Keeps (now w) l es) × (now tops ≡ replicate 257 0) × (now table ≡ replicate 257 0) ⌝ }
+    ensures { λ _. ⌜ ((es : List Edge) → Keeps (now (w .entry)) l es → Neighbors right es (now (table .exit))) ⌝ }
+{
+    let mut at = 2;
+    let mut i = 0;
+    while i < l.count {
+        let place = place_at(w, at, right);
+        let score = paths::score_at(w, at, side(right, place), false);
+        keep(tops, table, place, score, i);
+        at = edge::next_at(w, at);
+        i += 1;
+    }
+}
+
+// The right or the left neighbours of all places: one more than their indices, 0 for none.
+pub fn neighbors(w: &[u8], l: Lattice, right: bool, table: &mut [usize; 257])
+    requires { ⌜ ((es : List Edge) × Keeps (now w) l es) × (now table ≡ replicate 257 0) ⌝ }
+    ensures { λ _. ⌜ ((es : List Edge) → Keeps (now (w .entry)) l es → Neighbors right es (now (table .exit))) ⌝ }
+{
+    let mut tops = [0usize; 257];
+    scored_neighbors(w, l, right, &mut tops, table);
+}
+
+// The value of the edge at an offset.
+fn whole_value_at(w: &[u8], at: usize) -> Value
+    requires { ⌜ (nextAt (now w) at ≤ length (now w)) × WholeValued (edgeAt (now w) at) ⌝ }
+    ensures { λ r. ⌜ optionOf r ≡ wholeValue (edgeAt (now (w .entry)) at) ⌝ }
+{
+    let e = edge::edge_at(w, at);
+    if !edge::bit(e.map, 1) {
+        return Value::Nothing;
+    }
+    if !edge::bit(e.map, 2) {
+        return Value::Nothing;
+    }
+    let d = edge::fields_at(e.map, w, e.fields);
+    Value::Whole(whole::to_u64(f64::from_bits(d.value)))
+}
+
+// The value of the i-th edge.
+fn whole_value(w: &[u8], l: Lattice, i: usize) -> Value
+    requires { ⌜ ((es : List Edge) × Keeps (now w) l es) × (i < l .count) ⌝ }
+    ensures { λ r. ⌜ ((es : List Edge) → Keeps (now (w .entry)) l es → optionOf r ≡ wholeValue (getD es i noEdge)) ⌝ }
+{
+    let at = lattice::offset_at(w, l, i);
+    whole_value_at(w, at)
+}
+
+// Whether the i-th edge is numeric.
+fn is_numeric(w: &[u8], l: Lattice, i: usize) -> bool
+    requires { ⌜ ((es : List Edge) × Keeps (now w) l es) × (i < l .count) ⌝ }
+    ensures { λ r. ⌜ ((es : List Edge) → Keeps (now (w .entry)) l es → r ≡ isNumeric (getD es i noEdge)) ⌝ }
+{
+    let at = lattice::offset_at(w, l, i);
+    edge::bit(fields::u16_at(w, at), 1)
+}
+
+// "Otherwise a percentage marker with a numeric right neighbour": right is one more than its index, 0 for none.
+fn otherwise(w: &[u8], l: Lattice, percent: bool, right: usize) -> Choice
+    requires { ⌜ ((es : List Edge) × Keeps (now w) l es) × (right ≤ l .count) ⌝ }
+    ensures { λ r. ⌜ ((es : List Edge) → Keeps (now (w .entry)) l es → r ≡ otherwiseOf percent es right) ⌝ }
+{
+    if !percent {
+        return Choice {
+            form: 0,
+            left: 0,
+            right: 0,
+        };
+    }
+    if right == 0 {
+        return Choice {
+            form: 0,
+            left: 0,
+            right: 0,
+        };
+    }
+    if !is_numeric(w, l, right - 1) {
+        return Choice {
+            form: 0,
+            left: 0,
+            right: 0,
+        };
+    }
+    Choice {
+        form: 3,
+        left: 0,
+        right: right - 1,
+    }
+}
+
+// Both neighbours have values: the left one decides.
+fn both(percent: bool, other: Choice, left: usize, value: u64, right: usize) -> Choice
+    ensures { λ r. ⌜ r ≡ bothOf percent other left value right ⌝ }
+{
+    if value == 100 {
+        return Choice {
+            form: 1,
+            left,
+            right,
+        };
+    }
+    if percent {
+        return other;
+    }
+    if value == 0 {
+        return other;
+    }
+    Choice {
+        form: 2,
+        left,
+        right,
+    }
+}
+
+// Both neighbours are there, with these values.
+fn with_values(
+    percent: bool,
+    other: Choice,
+    left: usize,
+    left_value: Value,
+    right: usize,
+    right_value: Value,
+) -> Choice
+    ensures { λ r. ⌜ r ≡ withValuesOf percent other left (optionOf «left_value») right (optionOf «right_value») ⌝ }
+{
+    match left_value {
+        Value::Nothing => other,
+        Value::Whole(v) => match right_value {
+            Value::Nothing => other,
+            Value::Whole(_) => both(percent, other, left, v, right),
+        },
+    }
+}
+
+// The choice between two neighbours, each one more than its index, 0 for none.
+fn between(w: &[u8], l: Lattice, percent: bool, other: Choice, left: usize, right: usize) -> Choice
+    requires { ⌜ ((es : List Edge) × Keeps (now w) l es) × (left ≤ l .count) × (right ≤ l .count) ⌝ }
+    ensures { λ r. ⌜ ((es : List Edge) → Keeps (now (w .entry)) l es → r ≡ betweenOf percent other es left right) ⌝ }
+{
+    if left == 0 {
+        return other;
+    }
+    if right == 0 {
+        return other;
+    }
+    let i = left - 1;
+    let j = right - 1;
+    let u = whole_value(w, l, i);
+    let v = whole_value(w, l, j);
+    with_values(percent, other, i, u, j, v)
+}
+
+// What a marker of n characters at a place leads to: percent, or a connector.
+fn marked(
+    w: &[u8],
+    l: Lattice,
+    lefts: &[usize; 257],
+    rights: &[usize; 257],
+    percent: bool,
+    p: usize,
+    n: usize,
+) -> Choice
+    requires { ⌜ ((es : List Edge) × Around (now w) l (now lefts) (now rights) es) × (p + n ≤ 256) ⌝ }
+    ensures { λ r. ⌜ ((es : List Edge) → Around (now (w .entry)) l (now (lefts .entry)) (now (rights .entry)) es → (madeOf es p r ≡ marked percent es p n) × Valid es r) ⌝ }
+{
+    let left = lefts[p];
+    let right = rights[p + n];
+    let other = otherwise(w, l, percent, right);
+    between(w, l, percent, other, left, right)
+}
+
+// What the marker at a place leads to, by the neighbours that the two tables of `neighbors` keep.
+pub fn made_at(
+    w: &[u8],
+    l: Lattice,
+    lefts: &[usize; 257],
+    rights: &[usize; 257],
+    marker: Marker,
+    p: Place,
+) -> Choice
+    requires { ⌜ ((es : List Edge) × Around (now w) l (now lefts) (now rights) es) × (p .0 + sizeOf (markerOf marker) ≤ 256) ⌝ }
+    ensures { λ r. ⌜ ((es : List Edge) → Around (now (w .entry)) l (now (lefts .entry)) (now (rights .entry)) es → (madeOf es (p .0) r ≡ byMarker es (p .0) (markerOf marker)) × Valid es r) ⌝ }
+{
+    let place = p.0;
+    match marker {
+        Marker::Percentage(n) => marked(w, l, lefts, rights, true, place, n),
+        Marker::Connector(n) => marked(w, l, lefts, rights, false, place, n),
+        Marker::NoMarker => Choice {
+            form: 0,
+            left: 0,
+            right: 0,
+        },
+    }
+}

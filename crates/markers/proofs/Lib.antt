@@ -1,0 +1,2 @@
+-- What the proofs of `markers`, and its callers', share.
+pub mod MarkLaws

@@ -1,0 +1,243 @@
+-- Laws of markers and signs by their bytes (`specs/Marks.antt`), for this crate's proofs and its callers'.
+-- In order: a well-formed text stands at an offset as at its place; the longest of a list; the lists of a checked table are well-formed; a list's walk.
+use mathlib.Core.Path.{_≡_, refl, sym, ap, _∙_}
+use mathlib.Core.Bool.{Bool, true, false, cond}
+use mathlib.Core.List.{List, [], _∷_, _++_, append-assoc}
+use Prim.Native.Nat.{ℕ, zero, suc, _+_, _-_, _≤_, _<_}
+use native.Mathlib.Omega.{arith}
+use native.Mathlib.Decide.{decLe}
+use lib.ListN.{length, take, drop, getD, take-append-drop, length-take, length-drop}
+use lib.Seq.{take-append-seam}
+use lib.Dec.{leb, ltb, eqb}
+use borrow.Author.Tests.{le-leb, lt-leb, eq-eqb, ne-eqb}
+use Rattle.fields.specs.Part.{part}
+use Rattle.text.specs.Bytes.{same}
+use Rattle.text.specs.Line.{walked}
+use Rattle.text.specs.declared.Walked.{Walked}
+use Rattle.text.proofs.LineLaws.{count-whole}
+use Rattle.text.specs.Text.{chars, left, wellFormed, encodes, offsetOf}
+use Rattle.text.proofs.BytesLaws.{same-refl, same-true, same-lengths}
+use Rattle.text.proofs.RowLaws.{and-true}
+use Rattle.text.proofs.TextLaws.{text-split, well-formed-split, chars-append, encodes-append}
+use Rattle.text.proofs.PlaceLaws.{reached-place}
+use Rattle.dicts.specs.Table.{Text, Table}
+use Rattle.dicts.specs.Layout.{Field, Is, Fault, number, text, manyAt, textsAt, listAt}
+use Rattle.dicts.specs.Check.{Checked, Fine, Refused, thenItem, item, legalMark, readTexts, readList, readRecords, readTable}
+use Rattle.dicts.proofs.LookupLaws.{Then, then-fine}
+use Rattle.pass_list.specs.Item.{Every, nil, cons}
+use Rattle.dicts.specs.Answers.{tableOf}
+use Rattle.dicts.specs.declared.check.Shape.{Shape}
+use Rattle.dicts.proofs.LayoutLaws.{many-nil, many-fault, many-cons, list-texts, number-cut}
+use Rattle.stages.specs.Ready.{Ready}
+use Rattle.numbers.specs.Fractions.{standsAt, larger, longest, longer, markerAt}
+use Rattle.numbers.specs.Fractions as numbers
+use Rattle.numbers.specs.Signs.{endsAt}
+use Rattle.markers.specs.Marks.{bytesAt, sizeAt, longestAt, markerOf, signOf}
+use Rattle.markers.specs.declared.Marker.the-variants as Marker
+use Rattle.markers.specs.declared.Sign.the-variants as Sign
+
+-- ---- a test and another that say the same
+both-ways : (a b : Bool) → (a ≡ true → b ≡ true) → (b ≡ true → a ≡ true) → a ≡ b
+both-ways true b f g = sym (f refl)
+both-ways false true f g = g refl
+both-ways false false f g = refl
+
+-- ---- a well-formed text m stands in front of the bytes t as its characters stand in front of theirs
+module _ (t m : List ℕ) (h : wellFormed m ≡ true) where
+  by-chars : take (length m) t ≡ m → take (length (chars m)) (chars t) ≡ chars m
+  by-chars e =
+      let q : t ≡ m ++ drop (length m) t = sym (take-append-drop (length m) t) ∙ ap (λ (x : List ℕ). x ++ drop (length m) t) e in
+      ap (λ (x : List ℕ). take (length (chars m)) (chars x)) q
+      ∙ ap (take (length (chars m))) (chars-append m h (drop (length m) t))
+      ∙ take-append-seam (chars m) _
+
+  by-bytes : take (length (chars m)) (chars t) ≡ chars m → take (length m) t ≡ m
+  by-bytes e =
+      let rest = drop (length (chars m)) (chars t) in
+      let q : chars t ≡ chars m ++ rest = sym (take-append-drop (length (chars m)) (chars t)) ∙ ap (λ (x : List ℕ). x ++ rest) e in
+      let r : t ≡ m ++ (encodes rest ++ left t) = text-split t ∙ ap (λ (x : List ℕ). encodes x ++ left t) q ∙ rw (encodes-append, append-assoc, ← well-formed-split m h) in
+      ap (take (length m)) r ∙ take-append-seam m _
+
+  stands-front : same (take (length m) t) m ≡ same (take (length (chars m)) (chars t)) (chars m)
+  stands-front =
+      both-ways _ _
+      (λ e. rw (by-chars (same-true _ _ e)) (same-refl (chars m)))
+      (λ e. rw (by-bytes (same-true _ _ e)) (same-refl m))
+
+-- it stands at the offset of a place as at the place
+pub stands-place : (s : List ℕ) (p : ℕ) (m : List ℕ) → p ≤ length (chars s) → wellFormed m ≡ true → bytesAt s (offsetOf s p) m ≡ standsAt (chars s) p m
+unfolding standsAt
+stands-place s p m h f = stands-front (drop (offsetOf s p) s) m f ∙ ap (λ (x : List ℕ). same (take (length (chars m)) x) (chars m)) (sym (reached-place s p h .behind))
+
+pub stands-told : (s : List ℕ) (p : ℕ) (m : List ℕ) → p ≤ length (chars s) → wellFormed m ≡ true → {b : Bool} {at : ℕ} → at ≡ offsetOf s p → b ≡ bytesAt s at m → b ≡ standsAt (chars s) p m
+stands-told s p m h f q e = e ∙ ap (λ (x : ℕ). bytesAt s x m) q ∙ stands-place s p m h f
+
+-- ---- the longest of a list
+abbrev pub Formed : List Text → Type 0
+Formed = Every (λ m. wellFormed m ≡ true)
+
+pub longest-place : (s : List ℕ) (p : ℕ) → p ≤ length (chars s) → (ms : List Text) → Formed ms → longestAt s (offsetOf s p) ms ≡ longest (chars s) p ms
+unfolding longestAt longest sizeAt
+longest-place s p h [] nil = refl
+longest-place s p h (m ∷ ms) (cons f fs) = rw (stands-place s p m h f, longest-place s p h ms fs)
+
+-- ---- the larger of two lengths
+module _ (a b : ℕ) where
+  pub larger-le : a ≤ b → larger a b ≡ b
+  larger-le h = simp (le-leb a b h)
+
+  pub larger-lt : b < a → larger a b ≡ a
+  larger-lt h = simp (lt-leb a b h)
+
+larger-zero : (a : ℕ) → larger a 0 ≡ a
+larger-zero zero = refl
+larger-zero (suc a) = larger-lt (suc a) 0 (omega arith)
+
+larger-assoc : (a b c : ℕ) → larger (larger a b) c ≡ larger a (larger b c)
+larger-assoc a b c = go (decLe a b) (decLe b c)
+  where
+    go : Dec (a ≤ b) → Dec (b ≤ c) → larger (larger a b) c ≡ larger a (larger b c)
+    go (yes h) (yes k) = ap (λ (x : ℕ). larger x c) (larger-le a b h) ∙ larger-le b c k ∙ sym (ap (larger a) (larger-le b c k) ∙ larger-le a c (omega arith))
+    go (yes h) (no k) = ap (λ (x : ℕ). larger x c) (larger-le a b h) ∙ larger-lt b c (omega arith) ∙ sym (ap (larger a) (larger-lt b c (omega arith)) ∙ larger-le a b h)
+    go (no h) (yes k) = ap (λ (x : ℕ). larger x c) (larger-lt a b (omega arith)) ∙ sym (ap (larger a) (larger-le b c k))
+    go (no h) (no k) =
+        ap (λ (x : ℕ). larger x c) (larger-lt a b (omega arith)) ∙ larger-lt a c (omega arith)
+        ∙ sym (ap (larger a) (larger-lt b c (omega arith)) ∙ larger-lt a b (omega arith))
+
+-- ---- one text at an offset
+module _ (s : List ℕ) (at : ℕ) (m : Text) where
+  pub stands-short : length s - at < length m → false ≡ bytesAt s at m
+  stands-short h = same-lengths (take (length m) (drop at s)) m (λ e. omega (arith, simp (length-take, length-drop) at e))
+
+  pub stands-part : {b : Bool} → b ≡ same (take (at + length m - at) (drop at s)) m → b ≡ bytesAt s at m
+  stands-part e = let k : at + length m - at ≡ length m = omega arith in e ∙ rw k
+
+-- a text of the table's bytes, as the code cuts it out
+pub cut-is : (s : List ℕ) (at n : ℕ) → take (at + n - at) (drop at s) ≡ part s at n
+unfolding part
+cut-is s at n = let k : at + n - at ≡ n = omega arith in rw k
+
+module _ (s : List ℕ) (at : ℕ) (m : Text) {x : Text} (p : x ≡ m) {b : Bool} (e : b ≡ bytesAt s at x) where
+  pub size-stands : b ≡ true → {w : Walked} → w ≡ walked x (length x) → w .count ≡ sizeAt s at m
+  unfolding sizeAt
+  size-stands t f = ap (λ (v : Walked). v .count) f ∙ count-whole x ∙ ap (λ (y : Text). length (chars y)) p ∙ rw (ap (bytesAt s at) (sym p) ∙ sym e ∙ t)
+
+  pub size-none : b ≡ false → 0 ≡ sizeAt s at m
+  unfolding sizeAt
+  size-none t = rw (ap (bytesAt s at) (sym p) ∙ sym e ∙ t)
+
+-- ---- a walk over the texts of the table s: best of those passed, and left of them from next on
+module _ (line : List ℕ) (at : ℕ) (s : List ℕ) where
+  -- the longest of those passed and those that are left is the longest of all
+  abbrev pub SoFar : ℕ → ℕ → ℕ → ℕ → ℕ → Type 0
+  SoFar from n best next left = larger best (longestAt line at (textsAt left s next)) ≡ longestAt line at (textsAt n s from)
+
+  module _ (from n : ℕ) where
+    pub longest-starts : SoFar from n 0 from n
+    longest-starts = larger-le 0 (longestAt line at (textsAt n s from)) (omega arith)
+
+    module _ (best next left : ℕ) (inv : SoFar from n best next left) where
+      pub longest-turn : {m : Text} {behind size more : ℕ} → 0 < left → text s next ≡ Is m behind → size ≡ sizeAt line at m → more ≡ larger best size → SoFar from n more behind (left - 1)
+      unfolding longestAt
+      longest-turn {m} {behind} {size} {more} h e d g =
+          ap (λ (x : ℕ). larger x (longestAt line at (textsAt (left - 1) s behind))) (g ∙ ap (larger best) d)
+          ∙ larger-assoc best (sizeAt line at m) (longestAt line at (textsAt (left - 1) s behind))
+          ∙ ap (λ (ts : List Text). larger best (longestAt line at ts)) (many-cons text s next left (λ z. omega arith) e)
+          ∙ inv
+
+      no-more : [] ≡ textsAt left s next → best ≡ longestAt line at (textsAt n s from)
+      unfolding longestAt
+      no-more e = sym (larger-zero best) ∙ ap (λ (ts : List Text). larger best (longestAt line at ts)) e ∙ inv
+
+      pub longest-fault : text s next ≡ Fault → best ≡ longestAt line at (textsAt n s from)
+      longest-fault e = no-more (many-fault text s next left e)
+
+      pub longest-ends : left ≤ 0 → best ≡ longestAt line at (textsAt n s from)
+      longest-ends h = no-more (many-nil text s next left (omega arith))
+
+  pub longest-missing : (list : ℕ) → length s ≤ list → 0 ≡ longestAt line at (listAt s list)
+  unfolding longestAt listAt
+  longest-missing list h = rw (number-cut s list 1 (omega arith))
+
+  pub longest-list : (list : ℕ) → list < length s → {r : ℕ} → r ≡ longestAt line at (textsAt (getD s list 0) s (list + 1)) → r ≡ longestAt line at (listAt s list)
+  longest-list list h e = e ∙ ap (longestAt line at) (sym (list-texts s list h))
+
+-- ---- the lists of a checked table are well-formed
+mark-formed : (at : ℕ) (f : Field Text) {m : Text} {next : ℕ} → item at legalMark f ≡ Fine m next → wellFormed m ≡ true
+unfolding item legalMark
+mark-formed at Fault e = let z : _≡_ {A = ℕ} 0 1 = cc in absurd (omega arith)
+mark-formed at (Is b k) {m} {next} e = go (legalMark b) refl e
+  where
+    go : (t : Bool) → legalMark b ≡ t → cond t (Fine b k) (Refused 5 at) ≡ Fine m next → wellFormed m ≡ true
+    go true t f = let q : b ≡ m = cc in rw (← q) (and-true (ltb 0 (length b)) (wellFormed b) t .1)
+    go false t f = let z : _≡_ {A = ℕ} 0 1 = cc in absurd (omega arith)
+
+texts-formed : (n : ℕ) (s : List ℕ) (at : ℕ) {ts : List Text} {end : ℕ} → readTexts n s at ≡ Fine ts end → Formed ts
+unfolding readTexts
+texts-formed zero s at {ts} e = let q : [] ≡ ts = cc in rw (← q) nil
+texts-formed (suc n) s at {ts} e =
+    let one = then-fine (item at legalMark (text s at)) _ e in
+    let more = then-fine (readTexts n s (one .next)) _ (one .rest) in
+    let q : one .value ∷ more .value ≡ ts = cc in
+    rw (← q) (cons (mark-formed at (text s at) (one .first)) (texts-formed n s (one .next) (more .first)))
+
+list-formed : (s : List ℕ) (at : ℕ) {ts : List Text} {end : ℕ} → readList s at ≡ Fine ts end → Formed ts
+unfolding readList
+list-formed s at e = let count = then-fine (item at (λ n. true) (number 1 s at)) _ e in texts-formed (count .value) s (count .next) (count .rest)
+
+pub record Marks (t : Table) : Type 0 where
+  pub percentages : Formed (t .percentage-markers)
+  pub connectors : Formed (t .fraction-connectors)
+  pub plus : Formed (t .plus-signs)
+  pub minus : Formed (t .minus-signs)
+
+pub table-marks : (s : List ℕ) {t : Table} {end : ℕ} → readTable s ≡ Fine t end → Marks t
+unfolding readTable
+table-marks s {t} {end} e =
+    let count = then-fine (item 0 (λ n. true) (number 2 s 0)) _ e in
+    let p = then-fine (readList s (count .next)) _ (count .rest) in
+    let f = then-fine (readList s (p .next)) _ (p .rest) in
+    let u = then-fine (readList s (f .next)) _ (f .rest) in
+    let m = then-fine (readList s (u .next)) _ (u .rest) in
+    let rs = then-fine (readRecords (count .value) 0 s (m .next)) _ (m .rest) in
+    go (record { percentage-markers = p .value; fraction-connectors = f .value; plus-signs = u .value; minus-signs = m .value; records = rs .value }) (rs .next) (eqb (rs .next) (length s)) (rs .rest)
+    (record { percentages = list-formed s _ (p .first); connectors = list-formed s _ (f .first); plus = list-formed s _ (u .first); minus = list-formed s _ (m .first) })
+  where
+    go : (x : Table) (k : ℕ) (b : Bool) → cond b (Fine x k) (Refused 4 k) ≡ Fine t end → Marks x → Marks t
+    go x k true g h = let q : x ≡ t = cc in rw (← q) h
+    go x k false g h = let z : _≡_ {A = ℕ} 0 1 = cc in absurd (omega arith)
+
+-- ---- the marker at a place
+module _ (p c : ℕ) {l : ℕ} (e : l ≡ larger p c) where
+  pub longer-none : l ≡ 0 → numbers.noMarker ≡ longer p c
+  longer-none h = simp (eq-eqb (larger p c) 0 (sym e ∙ h))
+
+  module _ (h : l ≡ 0 → ⊥) where
+    pub longer-percentage : c ≤ p → numbers.percentage p ≡ longer p c
+    longer-percentage k = rw (ne-eqb (larger p c) 0 (λ q. h (e ∙ q))) (simp (le-leb c p k))
+
+    pub longer-connector : p < c → numbers.connector c ≡ longer p c
+    longer-connector k = rw (ne-eqb (larger p c) 0 (λ q. h (e ∙ q))) (simp (lt-leb c p k))
+
+pub marker-is : (line table : List ℕ) (h : Shape) {n : ℕ} → Ready line table h n → (p : ℕ) → p ≤ length (chars line) → {at a b : ℕ}
+    → at ≡ offsetOf line p → a ≡ longestAt line at (listAt table (h .percentages)) → b ≡ longestAt line at (listAt table (h .connectors))
+    → longer a b ≡ markerAt (tableOf table h) (chars line) p
+unfolding markerAt tableOf
+marker-is line table h r p k e f g =
+    let m = table-marks table (r .checked) in
+    rw (f, g, e, longest-place line p k (listAt table (h .percentages)) (m .percentages), longest-place line p k (listAt table (h .connectors)) (m .connectors))
+
+-- ---- a sign before a place
+module _ (w : List ℕ) (p : ℕ) (m : Text) {k : ℕ} (e : k ≡ length (chars m)) where
+  pub sign-far : p < k → Sign.NoSign ≡ signOf w p m
+  sign-far h = rw (lt-leb (length (chars m)) p (omega arith))
+
+  module _ (h : k ≤ p) {b : Bool} (s : b ≡ standsAt w (p - k) m) where
+    is-there : endsAt w p m ≡ b
+    is-there = rw (le-leb (length (chars m)) p (omega arith), ← e) (sym s)
+
+    pub sign-there : b ≡ true → Sign.Before k ≡ signOf w p m
+    sign-there t = rw (is-there, t) (rw e)
+
+    pub sign-other : b ≡ false → Sign.NoSign ≡ signOf w p m
+    sign-other t = rw (is-there, t)

@@ -1,0 +1,2 @@
+-- The definitions that the contracts of `markers` cite.
+pub mod Marks

@@ -1,0 +1,39 @@
+-- Markers and signs as the code finds them: by their bytes, at an offset of the line. Definitions only.
+--     bytesAt s at m        the bytes m stand in s at the offset at
+--     longestAt s at ms     how many characters the longest of the texts ms has that stand in s at the offset at; 0 where none does
+--     markerOf r            an answer of `marker_at` as the definitions have it
+--     signOf w p m          what `sign_before` answers: the sign m stands directly before place p of the line's characters w, or it does not
+--     Assumes nothing.
+use Prim.Native.Nat.{ℕ, _≤_, _<_}
+use mathlib.Core.Path.{_≡_}
+use mathlib.Core.Bool.{Bool, cond}
+use mathlib.Core.List.{List, [], _∷_}
+use lib.ListN.{length, take, drop}
+use Rattle.text.specs.Bytes.{same}
+use Rattle.text.specs.Text.{chars}
+use Rattle.dicts.specs.Table.{Text}
+use Rattle.numbers.specs.Fractions.{larger}
+use Rattle.numbers.specs.Fractions as numbers
+use Rattle.numbers.specs.Signs.{endsAt}
+use Rattle.markers.specs.declared.Marker.{Marker}
+use Rattle.markers.specs.declared.Marker.the-variants as Marker
+use Rattle.markers.specs.declared.Sign.{Sign}
+use Rattle.markers.specs.declared.Sign.the-variants as Sign
+
+abbrev pub bytesAt : List ℕ → ℕ → Text → Bool
+bytesAt s at m = same (take (length m) (drop at s)) m
+
+unfoldable pub sizeAt : List ℕ → ℕ → Text → ℕ
+sizeAt s at m = cond (bytesAt s at m) (length (chars m)) 0
+
+unfoldable pub longestAt : List ℕ → ℕ → List Text → ℕ
+longestAt s at [] = 0
+longestAt s at (m ∷ ms) = larger (sizeAt s at m) (longestAt s at ms)
+
+abbrev pub markerOf : Marker → numbers.Marker
+markerOf (Marker.Percentage n) = numbers.percentage n
+markerOf (Marker.Connector n) = numbers.connector n
+markerOf Marker.NoMarker = numbers.noMarker
+
+abbrev pub signOf : List ℕ → ℕ → Text → Sign
+signOf w p m = cond (endsAt w p m) (Sign.Before (length (chars m))) Sign.NoSign

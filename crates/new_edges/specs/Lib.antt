@@ -1,0 +1,2 @@
+-- The definitions that the contracts of `new_edges` cite.
+pub mod NewEdge

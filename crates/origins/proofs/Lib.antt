@@ -1,0 +1,2 @@
+-- The items of characters are sound.
+pub mod OriginLaws

@@ -1,0 +1,2 @@
+-- What is promised of paths beyond the contracts.
+pub mod PathRead

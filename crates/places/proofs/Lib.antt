@@ -1,0 +1,2 @@
+-- What the proofs of `places`, and its callers', share.
+pub mod PlacesLaws

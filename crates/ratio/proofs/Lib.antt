@@ -1,0 +1,2 @@
+-- Laws of Euclid's algorithm, for the proofs of `ratio`.
+pub mod RatioLaws

@@ -1,0 +1,2 @@
+-- What the steps of F1 give.
+pub mod Marks

@@ -1,0 +1,128 @@
+// F1 (01, "The rest of the call"): a numeric edge whose txt begins with a digit, right after an edge whose txt ends with one, turns inactive, and its copy
+// with a separator before its txt is added. One walk marks the places where such edges end, one walk over the edges that were there adds the copies.
+ghost use mathlib.Core.Path.{_≡_};
+ghost use mathlib.Core.Bool.{false, true, cond};
+ghost use mathlib.Core.List.{List};
+ghost use Prim.Native.Nat.{ℕ, _≤_, _<_};
+ghost use lib.ListN.{length, drop, getD, set, replicate};
+ghost use Rattle.digits.specs.TextEnds.{endsWithDigit};
+ghost use Rattle.edge.specs.Edge.{Edge};
+ghost use Rattle.edge.specs.Layout.{edgeAt, edgesAt};
+ghost use Rattle.lattice.specs.Lattice.{add};
+ghost use Rattle.lattice.specs.Kept.{Holds, noEdge};
+ghost use Rattle.paths.specs.Reading.{Spanned, Spans};
+ghost use Rattle.copies.specs.Copy.{Source};
+ghost use Rattle.stages.specs.CallEdge.{CallEdge, CallEdges};
+ghost use Rattle.numbers.specs.Separators.{copyOf, separate};
+ghost use Rattle.separators.specs.Marks.{digitEnds, apartBy, setApart, allApart};
+use lattice::Lattice;
+
+// Sets the mark of the place where an edge ends whose txt ends with a digit.
+fn mark(s: &[u8], at: usize, marks: &mut [bool; 257])
+    requires { ⌜ Spanned 256 (now s) at ⌝ }
+    ensures { λ _. ⌜ now (marks .exit) ≡ cond (endsWithDigit (edgeAt (now (s .entry)) at .txt)) (set (now (marks .entry)) (edgeAt (now (s .entry)) at .end) true) (now (marks .entry)) ⌝ }
+{
+    let e = edge::edge_at(s, at);
+    let txt = e.txt;
+    let end = e.end;
+    let from = txt.at;
+    let to = from + txt.len;
+    let place = end.0;
+    if digits::ends_with_digit(&s[from..to]) {
+        marks[place] = true;
+    }
+}
+
+// The marks of all places where an edge ends whose txt ends with a digit. One walk over the listing.
+fn mark_ends(s: &[u8], count: usize, marks: &mut [bool; 257])
+    requires { ⌜ Spans 256 count (now s) 2 × (now marks ≡ replicate 257 false) ⌝ }
+    ensures { λ _. ⌜ ((p : ℕ) → p < 257 → getD (now (marks .exit)) p false ≡ digitEnds (edgesAt count (now (s .entry)) 2) p) ⌝ }
+{
+    let mut at = 2;
+    let mut left = count;
+    while 0 < left {
+        mark(s, at, marks);
+        at = edge::next_at(s, at);
+        left -= 1;
+    }
+}
+
+// Whether an edge is numeric, begins with a digit, and starts at a place that has a mark.
+fn is_apart(s: &[u8], at: usize, marks: &[bool; 257]) -> bool
+    requires { ⌜ Spanned 256 (now s) at ⌝ }
+    ensures { λ r. ⌜ r ≡ apartBy (now (marks .entry)) (edgeAt (now (s .entry)) at) ⌝ }
+{
+    let e = edge::edge_at(s, at);
+    let txt = e.txt;
+    let start = e.start;
+    let from = txt.at;
+    let to = from + txt.len;
+    let place = start.0;
+    if !edge::bit(e.map, 1) {
+        return false;
+    }
+    if !digits::begins_with_digit(&s[from..to]) {
+        return false;
+    }
+    marks[place]
+}
+
+// The copy of an edge that stands in the listing is added, with its separator: a space if it has a fraction, else "·".
+fn add_separated(w: &mut [u8], l: Lattice, at: usize) -> Lattice
+    requires { ⌜ ((es : List Edge) × Holds (now w) l es) × ((e : Edge) × Source (now w) (l .len) at 2 e) ⌝ }
+    ensures { λ r. ⌜ (drop 39424 (now (w .exit)) ≡ drop 39424 (now (w .entry))) × ((es : List Edge) (e : Edge) → Holds (now (w .entry)) l es → Source (now (w .entry)) (l .len) at 2 e → Holds (now (w .exit)) r (add es (copyOf e))) ⌝ }
+{
+    let map = fields::u16_at(w, at);
+    if edge::bit(map, 4) {
+        return copies::add_copy(w, l, at, b" ");
+    }
+    copies::add_copy(w, l, at, b"\xC2\xB7")
+}
+
+// The i-th edge is set apart, if the marks say so. The copy is made before its original turns inactive: it is active as that was.
+fn set_apart(w: &mut [u8], l: Lattice, i: usize, marks: &[bool; 257]) -> Lattice
+    requires { ⌜ ((n : ℕ) × (n ≤ 256) × ((es : List Edge) × Holds (now w) l es × (i < length es) × CallEdge n (getD es i noEdge))) ⌝ }
+    ensures { λ r. ⌜ (drop 39424 (now (w .exit)) ≡ drop 39424 (now (w .entry))) × ((n : ℕ) (es : List Edge) → n ≤ 256 → Holds (now (w .entry)) l es → i < length es → CallEdge n (getD es i noEdge) → Holds (now (w .exit)) r (setApart (now (marks .entry)) es i)) ⌝ }
+{
+    if l.full {
+        return l;
+    }
+    let at = lattice::offset_at(w, l, i);
+    if !is_apart(w, at, marks) {
+        return l;
+    }
+    let added = add_separated(w, l, at);
+    if added.full {
+        return added;
+    }
+    lattice::turn_off(w, added, i);
+    added
+}
+
+// All edges that are there are set apart in turn, if the marks say so. The copies are not looked at.
+fn set_all_apart(w: &mut [u8], l: Lattice, marks: &[bool; 257]) -> Lattice
+    requires { ⌜ ((n : ℕ) × (n ≤ 256) × ((es : List Edge) × Holds (now w) l es × (length es ≡ l .count) × CallEdges n es)) ⌝ }
+    ensures { λ r. ⌜ (drop 39424 (now (w .exit)) ≡ drop 39424 (now (w .entry))) × ((n : ℕ) (es : List Edge) → n ≤ 256 → Holds (now (w .entry)) l es → length es ≡ l .count → CallEdges n es → Holds (now (w .exit)) r (allApart (now (marks .entry)) es 0 (length es))) ⌝ }
+{
+    let count = l.count;
+    let mut grown = l;
+    let mut i = 0;
+    while i < count {
+        grown = set_apart(w, grown, i, marks);
+        i += 1;
+    }
+    grown
+}
+
+// F1: numbers that follow a digit are set apart.
+pub fn separate(w: &mut [u8], l: Lattice) -> Lattice
+    requires { ⌜ ((n : ℕ) × (n ≤ 256) × ((es : List Edge) × Holds (now w) l es × CallEdges n es)) ⌝ }
+    ensures { λ r. ⌜ (drop 39424 (now (w .exit)) ≡ drop 39424 (now (w .entry))) × ((n : ℕ) (es : List Edge) → n ≤ 256 → Holds (now (w .entry)) l es → CallEdges n es → Holds (now (w .exit)) r (separate es)) ⌝ }
+{
+    if l.full {
+        return l;
+    }
+    let mut marks = [false; 257];
+    mark_ends(w, l.count, &mut marks);
+    set_all_apart(w, l, &marks)
+}

@@ -1,0 +1,57 @@
+/* Rilvostam: written numbers on the lines of registers. The C interface of librilvostam.a.
+ *
+ * A slice is a pointer and a length in bytes. No pointer is NULL, not even with length 0. `out`, `at`, `len` and `in_listing` overlap no
+ * other argument. Bytes need no alignment; `at` and `len` have that of a uint64_t. The library keeps no state and allocates nothing, so calls may run in parallel.
+ *
+ * Each function answers RILVOSTAM_OK or the number of a refusal. `*at` is written on every answer: on a refusal the offset in bytes or the place in
+ * characters that goes with it, or 0. On a refusal `out` is as it was; otherwise the bytes behind what was written are as they were.
+ *
+ * A place counts characters of the line, from 0; an offset counts bytes. Multi-byte numbers are little-endian. */
+#ifndef RILVOSTAM_H
+#define RILVOSTAM_H
+
+#include <stddef.h>
+#include <stdint.h>
+
+#ifdef __cplusplus
+extern "C" {
+#endif
+
+enum {
+    RILVOSTAM_OK = 0,
+    RILVOSTAM_NOT_UTF8 = 2,    /* the line is not well-formed UTF-8: offset of the first ill-formed sequence */
+    RILVOSTAM_OVER_LONG = 3,   /* over 256 characters: offset of the 257th */
+    RILVOSTAM_BAD_LISTING = 6, /* no listing, or one that does not suit the line: offset of the edge, or of what is left over */
+    RILVOSTAM_TOO_LONG = 8,    /* longer than the output */
+    RILVOSTAM_BAD_PLACE = 9    /* a place, start or end above the line's length, or start after end */
+};
+
+/* No edge. */
+#define RILVOSTAM_NONE UINT64_MAX
+
+/* The best edge from place start to place end. A skip other than 0: no numeric edge.
+ * 0: *at is the offset of the edge in the listing, or RILVOSTAM_NONE. */
+uint32_t rilvostam_best_edge(const uint8_t *line, size_t line_len, const uint8_t *listing, size_t listing_len,
+                             uint64_t start, uint64_t end, uint8_t skip, uint64_t *at);
+
+/* The best edge of the longest span that starts at a place; that ends at a place. Answers as best_edge. */
+uint32_t rilvostam_right_neighbor(const uint8_t *line, size_t line_len, const uint8_t *listing, size_t listing_len,
+                                  uint64_t place, uint8_t skip, uint64_t *at);
+uint32_t rilvostam_left_neighbor(const uint8_t *line, size_t line_len, const uint8_t *listing, size_t listing_len,
+                                 uint64_t place, uint8_t skip, uint64_t *at);
+
+/* The path: right neighbours from start until it is at end or past it, written to out as a listing; a place without one is passed over.
+ * 0: *at is the length of that listing. It is never longer than the listing that is read. */
+uint32_t rilvostam_path(const uint8_t *line, size_t line_len, const uint8_t *listing, size_t listing_len,
+                        uint64_t start, uint64_t end, uint8_t skip, uint8_t *out, size_t out_len, uint64_t *at);
+
+/* The text shown at a place: the txt of its right neighbour, or the character itself.
+ * 0: *len bytes from *at on, of the listing where *in_listing is 1, of the line where it is 0. On a refusal *len and *in_listing are 0. */
+uint32_t rilvostam_shown_text(const uint8_t *line, size_t line_len, const uint8_t *listing, size_t listing_len,
+                              uint64_t place, uint64_t *at, uint64_t *len, uint8_t *in_listing);
+
+#ifdef __cplusplus
+}
+#endif
+
+#endif

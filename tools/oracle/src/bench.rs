@@ -1,0 +1,128 @@
+//! Old Rust and new library on the same cases, in one run (feature `library`: build.rs links librilvostam.a). bench/README.md has the figures.
+//! The Rust is timed twice: the lattice with `add_numbers` alone, and with its reading of line, table and edges before it. The library does both in each call.
+
+use std::hint::black_box;
+use std::time::{Duration, Instant};
+
+use crate::cases::{Case, Decoder};
+use crate::edge::Edge;
+use crate::table::{Record, Table};
+
+unsafe extern "C" {
+    #[rustfmt::skip]
+    fn rilvostam_add_numbers(
+        line: *const u8, line_len: usize, table: *const u8, table_len: usize, edges: *const u8, edges_len: usize,
+        work: *mut u8, work_len: usize, out: *mut u8, out_len: usize, at: *mut u64,
+    ) -> u32;
+}
+
+struct Buffers {
+    work: Vec<u8>,
+    out: Vec<u8>,
+}
+
+impl Buffers {
+    fn call(&mut self, c: &Case) -> (u32, u64) {
+        let mut at = 0;
+        // SAFETY: each pointer is that of a slice with its length, and the mutable ones overlap nothing.
+        let status = unsafe {
+            rilvostam_add_numbers(
+                c.line.as_ptr(),
+                c.line.len(),
+                c.table.as_ptr(),
+                c.table.len(),
+                c.edges.as_ptr(),
+                c.edges.len(),
+                self.work.as_mut_ptr(),
+                self.work.len(),
+                self.out.as_mut_ptr(),
+                self.out.len(),
+                &mut at,
+            )
+        };
+        (status, at)
+    }
+}
+
+/// The least of several rounds, as the time of one case.
+fn least(rounds: usize, cases: usize, mut round: impl FnMut()) -> f64 {
+    let mut best = Duration::MAX;
+    for _ in 0..rounds {
+        let start = Instant::now();
+        round();
+        best = best.min(start.elapsed());
+    }
+    best.as_nanos() as f64 / cases as f64
+}
+
+fn row(name: &str, cases: &[Case]) {
+    let mut buffers = Buffers { work: vec![0; 65_536], out: vec![0; 32_768] };
+    for case in cases {
+        assert_eq!(buffers.call(case).0, 0, "{name}: a case is refused");
+    }
+    // Few repeats for slow rounds, and both sides in turn.
+    let repeats = (4000 / cases.len()).max(1);
+    let count = cases.len() * repeats;
+    let new = least(7, count, || {
+        for case in cases.iter().cycle().take(count) {
+            black_box(buffers.call(case));
+        }
+    });
+    let slow = (400 / cases.len()).max(1) * cases.len();
+    let whole = least(3, slow, || {
+        for case in cases.iter().cycle().take(slow) {
+            let Ok(inputs) = Decoder::default().inputs(case) else { panic!("{name}: refused by the old reader") };
+            let mut lattice = inputs.lattice();
+            lattice.add_numbers();
+            black_box(lattice.edges().count());
+        }
+    });
+    let inputs: Vec<_> = cases.iter().map(|c| Decoder::default().inputs(c).ok().expect("read before")).collect();
+    let alone = least(3, slow, || {
+        for inputs in inputs.iter().cycle().take(slow) {
+            let mut lattice = inputs.lattice();
+            lattice.add_numbers();
+            black_box(lattice.edges().count());
+        }
+    });
+    println!("| {name} | {new:.0} | {alone:.0} | {:.1} | {whole:.0} | {:.1} |", alone / new, whole / new);
+}
+
+/// The plain table with so many records more, of a kind that most lines don't have.
+fn table_of(count: usize) -> Table {
+    let mut table = Table::plain();
+    let known: Vec<char> = table.records.iter().map(|r| r.character).collect();
+    let others = ('\u{3400}'..).filter(|c| !known.contains(c)).take(count.saturating_sub(16));
+    table.records.extend(others.map(|c| Record { rom: Some("r".into()), value: Some(7), script: Some("CJK".into()), ..Record::new(c, "other") }));
+    table.records.sort_by_key(|r| r.character);
+    table
+}
+
+/// Numbers with other characters between them, of so many characters.
+fn line_of(length: usize) -> String {
+    "一百二十三xy五万".chars().cycle().take(length).collect()
+}
+
+fn given(count: usize, length: usize) -> Vec<Edge> {
+    (0..count).map(|k| Edge::new_regular(k % length, k % length + 1, format!("t{k}"), "other".into())).collect()
+}
+
+pub fn run() {
+    println!("| cases | library ns | Rust ns | ratio | Rust with its reading ns | ratio |");
+    println!("|---|---|---|---|---|---|");
+    let plain = Table::plain();
+    let short = ["一万五", "二千五", "一百零五", "第五百二十三号", "百分之五", "九千零七兆一千九百九十二億五千四百", "x", ""];
+    row("plain lines of up to 20 characters", &short.map(|line| Case::new(line, &plain, &[])));
+    for length in [16, 64, 256] {
+        row(&format!("a line of {length} characters"), &[Case::new(&line_of(length), &plain, &[])]);
+    }
+    for count in [150, 1_500, 15_000, 65_535] {
+        row(&format!("a line of 20, a table of {count} records"), &[Case::new(&line_of(20), &table_of(count), &[])]);
+    }
+    row("a line of 256, a table of 65535 records", &[Case::new(&line_of(256), &table_of(65_535), &[])]);
+    for count in [10, 100, 900] {
+        row(&format!("a line of 20, {count} given edges"), &[Case::new(&line_of(20), &plain, &given(count, 20))]);
+    }
+    let marks: String = "五分之一".chars().cycle().take(200).collect();
+    row("a line of 200 with 50 connectors", &[Case::new(&marks, &plain, &[])]);
+}

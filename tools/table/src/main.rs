@@ -1,0 +1,64 @@
+//! Tables of characters as text. README.md has the form.
+//!
+//! table encode < TEXT > BYTES      the table's bytes, or a refusal in words with the line of the text where it stands
+//! table decode < BYTES > TEXT      the text of a table's bytes
+//! table explain OFFSET < TEXT      the line of the text that stands at an offset of its bytes, as the library's refusals 4 and 5 name it
+
+mod read;
+mod table;
+mod text;
+
+use std::io::{self, Read, Write};
+use std::process::ExitCode;
+
+fn main() -> ExitCode {
+    let arguments: Vec<String> = std::env::args().skip(1).collect();
+    let words: Vec<&str> = arguments.iter().map(String::as_str).collect();
+    let mut input = Vec::new();
+    if let Err(e) = io::stdin().read_to_end(&mut input) {
+        eprintln!("standard input can't be read: {e}");
+        return ExitCode::from(2);
+    }
+    let answer = match words[..] {
+        ["encode"] => encode(&input),
+        ["decode"] => read::table(&input).map(|t| text::write(&t).into_bytes()),
+        ["explain", offset] => explain(&input, offset),
+        _ => {
+            eprintln!("usage: table encode | decode | explain OFFSET");
+            return ExitCode::from(2);
+        }
+    };
+    match answer.and_then(|bytes| io::stdout().write_all(&bytes).map_err(|e| e.to_string())) {
+        Ok(()) => ExitCode::SUCCESS,
+        Err(message) => {
+            eprintln!("{message}");
+            ExitCode::FAILURE
+        }
+    }
+}
+
+fn parse(input: &[u8]) -> Result<table::Table, String> {
+    text::read(std::str::from_utf8(input).map_err(|e| format!("the text is not UTF-8: offset {}", e.valid_up_to()))?)
+}
+
+fn encode(input: &[u8]) -> Result<Vec<u8>, String> {
+    let table = parse(input)?;
+    match table.refusal() {
+        None => Ok(table.bytes().0),
+        Some((number, line, why)) => Err(format!("line {line}: {why} (refusal {number})")),
+    }
+}
+
+fn explain(input: &[u8], offset: &str) -> Result<Vec<u8>, String> {
+    let offset: usize = offset.parse().map_err(|_| format!("{offset} is no offset"))?;
+    let (bytes, items) = parse(input)?.bytes();
+    let item = items.iter().rev().find(|(at, _)| *at <= offset).map(|(_, line)| *line);
+    match item {
+        _ if offset > bytes.len() => Err(format!("the table has only {} bytes", bytes.len())),
+        Some(line) if line > 0 => {
+            let text = String::from_utf8_lossy(input);
+            Ok(format!("line {line}: {}\n", text.lines().nth(line - 1).unwrap_or("")).into_bytes())
+        }
+        _ => Ok("a count, which no line of the text says\n".into()),
+    }
+}
