@@ -1,6 +1,6 @@
 -- Laws of the pass list before D1 (`specs/Initial.antt`), for a loop over the line. No contract cites this file.
 -- In order: what the table's check gives; no character; one character more, without and with a record; the end of the line.
-use mathlib.Core.Path.{_≡_, refl, ap, _∙_}
+use mathlib.Core.Path.{_≡_, ap, _∙_}
 use mathlib.Core.Bool.{true}
 use mathlib.Core.List.{List, [], _∷_, _++_}
 use mathlib.Core.Option.{none}
@@ -22,11 +22,13 @@ use Rattle.pass_list.specs.Stored.{recordBytes, itemsAt}
 use Rattle.pass_list.proofs.StoredLaws.{items-put}
 use Rattle.pass_edges.proofs.EveryLaws.{every-append}
 use Rattle.pass_edges.proofs.FirstItemsLaws.{first-items-none, first-items-skip, first-items-more}
+use Rattle.items.specs.Sound.{Rooted}
 use Rattle.characters.specs.CharItem.{charItem}
 use Rattle.characters.specs.Index.{FoundAt}
-use Rattle.characters.specs.Initial.{Checked, Origin, SoFar, Initial}
+use Rattle.characters.specs.Initial.{Checked, SoFar, Initial}
 use Rattle.characters.proofs.CharLaws.{legal-parts, char-edge-is, char-made, char-kind, char-small}
-use Rattle.characters.proofs.LegalLaws.{Lawful, table-lawful, found-lawful}
+use Rattle.characters.proofs.LegalLaws.{table-lawful, found-lawful}
+use Rattle.characters.proofs.RootLaws.{char-rooted}
 
 -- ---- what the table's check gives
 module _ (t : List ℕ) (h : Shape) (ok : Checked t h) where
@@ -35,17 +37,13 @@ module _ (t : List ℕ) (h : Shape) (ok : Checked t h) where
   records-rise = table-rises t ok
 
   module _ (c : ℕ) (p : NumProp) (at : ℕ) (f : FoundAt t (tableOf t h .records) c p at) where
-    lawful : Lawful (recordOf t p)
-    lawful = found-lawful (tableOf t h .records) c (table-lawful t ok) (f .found)
-
     legal : (legalNumbers (numbersIn (recordOf t p)) ≡ true) × (digitRule (recordOf t p) ≡ true)
-    legal = let l = lawful in legal-parts (l .0) (recordOf t p) (l .1)
+    legal = let l = found-lawful (tableOf t h .records) c (table-lawful t ok) (f .found) in legal-parts (l .0) (recordOf t p) (l .1)
 
-    origin : (i : ℕ) → Origin t (charItem t p at i c)
-    unfolding charItem
-    origin i =
-        let l = lawful in
-        record { prop = p; place = i; code-point = c; is = refl; reads = f .reads; inside = f .inside; least = l .0; legal = l .1 }
+    found-rooted : (i : ℕ) → Rooted t (charItem t p at i c)
+    found-rooted i =
+        let l = found-lawful (tableOf t h .records) c (table-lawful t ok) (f .found) in
+        char-rooted t (tableOf t h .records) c p at (l .0) f (l .1) (legal .0) i
 
     pub found-small : (i : ℕ) → Small (charItem t p at i c)
     found-small i = char-small t p at i c (legal .0)
@@ -55,7 +53,7 @@ module _ (t : List ℕ) (h : Shape) (ok : Checked t h) where
     pub so-far-skip : find (tableOf t h .records) c ≡ none → SoFar w t h (k + 1) s n
     so-far-skip e =
         let few = so .few in
-        record { items = first-items-skip w t (tableOf t h .records) k c (itemsAt s 0 n) inside here (so .items) e; few = omega arith; small = so .small; origins = so .origins }
+        record { items = first-items-skip w t (tableOf t h .records) k c (itemsAt s 0 n) inside here (so .items) e; few = omega arith; small = so .small; rooted = so .rooted }
 
     pub so-far-more : (p : NumProp) (at : ℕ) (u : List ℕ) → FoundAt t (tableOf t h .records) c p at → Fits (charItem t p at k c) → n * 56 + 56 ≤ length s
         → u ≡ sets s (n * 56) (recordBytes (charItem t p at k c)) → SoFar w t h (k + 1) u (n + 1)
@@ -68,12 +66,12 @@ module _ (t : List ℕ) (h : Shape) (ok : Checked t h) where
               (char-edge-is w t p at k c inside here (f .reads)) (char-made w t p at k c inside here (f .reads) scalars (legal c p at f .1)) (char-kind t p at k c));
           few = omega arith;
           small = rw put (every-append Small (itemsAt s 0 n) (x ∷ []) (so .small) (cons (fits .small) nil));
-          origins = rw put (every-append (Origin t) (itemsAt s 0 n) (x ∷ []) (so .origins) (cons (origin c p at f k) nil));
+          rooted = rw put (every-append (Rooted t) (itemsAt s 0 n) (x ∷ []) (so .rooted) (cons (found-rooted c p at f k) nil));
         }
 
 pub so-far-none : (w t : List ℕ) (h : Shape) (s : List ℕ) → SoFar w t h 0 s 0
 unfolding itemsAt
-so-far-none w t h s = record { items = first-items-none w t (tableOf t h .records); few = omega arith; small = nil; origins = nil }
+so-far-none w t h s = record { items = first-items-none w t (tableOf t h .records); few = omega arith; small = nil; rooted = nil }
 
 -- the line ends at place k
 pub so-far-all : (line t : List ℕ) (h : Shape) (k at n : ℕ) (s : List ℕ) → Reached line k at → chars (drop at line) ≡ [] → SoFar (chars line) t h k s n → Initial line t h s n

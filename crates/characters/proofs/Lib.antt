@@ -1,6 +1,7 @@
 -- Laws of the definitions in specs/, for this crate's proofs and its callers'.
 pub mod CharLaws
 pub mod LegalLaws
+pub mod RootLaws
 pub mod IndexLaws
 pub mod InitialLaws
 pub mod Theorems

@@ -32,8 +32,7 @@ use Rattle.stages.specs.Ready.{Ready}
 use Rattle.numbers.specs.Fractions.{standsAt, larger, longest, longer, markerAt}
 use Rattle.numbers.specs.Fractions as numbers
 use Rattle.numbers.specs.Signs.{endsAt}
-use Rattle.markers.specs.Marks.{bytesAt, sizeAt, longestAt, markerOf, signOf}
-use Rattle.markers.specs.declared.Marker.the-variants as Marker
+use Rattle.markers.specs.Marks.{bytesAt, sizeAt, longestAt, signOf, Formed}
 use Rattle.markers.specs.declared.Sign.the-variants as Sign
 
 -- ---- a test and another that say the same
@@ -73,9 +72,6 @@ pub stands-told : (s : List ℕ) (p : ℕ) (m : List ℕ) → p ≤ length (char
 stands-told s p m h f q e = e ∙ ap (λ (x : ℕ). bytesAt s x m) q ∙ stands-place s p m h f
 
 -- ---- the longest of a list
-abbrev pub Formed : List Text → Type 0
-Formed = Every (λ m. wellFormed m ≡ true)
-
 pub longest-place : (s : List ℕ) (p : ℕ) → p ≤ length (chars s) → (ms : List Text) → Formed ms → longestAt s (offsetOf s p) ms ≡ longest (chars s) p ms
 unfolding longestAt longest sizeAt
 longest-place s p h [] nil = refl

@@ -3,15 +3,17 @@
 --     longestAt s at ms     how many characters the longest of the texts ms has that stand in s at the offset at; 0 where none does
 --     markerOf r            an answer of `marker_at` as the definitions have it
 --     signOf w p m          what `sign_before` answers: the sign m stands directly before place p of the line's characters w, or it does not
+--     Formed ms             each of the texts ms is well-formed
 --     Assumes nothing.
-use Prim.Native.Nat.{ℕ, _≤_, _<_}
+use Prim.Native.Nat.{ℕ}
 use mathlib.Core.Path.{_≡_}
-use mathlib.Core.Bool.{Bool, cond}
+use mathlib.Core.Bool.{Bool, true, cond}
 use mathlib.Core.List.{List, [], _∷_}
 use lib.ListN.{length, take, drop}
 use Rattle.text.specs.Bytes.{same}
-use Rattle.text.specs.Text.{chars}
+use Rattle.text.specs.Text.{chars, wellFormed}
 use Rattle.dicts.specs.Table.{Text}
+use Rattle.pass_list.specs.Item.{Every}
 use Rattle.numbers.specs.Fractions.{larger}
 use Rattle.numbers.specs.Fractions as numbers
 use Rattle.numbers.specs.Signs.{endsAt}
@@ -37,3 +39,6 @@ markerOf Marker.NoMarker = numbers.noMarker
 
 abbrev pub signOf : List ℕ → ℕ → Text → Sign
 signOf w p m = cond (endsAt w p m) (Sign.Before (length (chars m))) Sign.NoSign
+
+abbrev pub Formed : List Text → Type 0
+Formed = Every (λ m. wellFormed m ≡ true)

@@ -1,0 +1,2 @@
+-- The proofs of `five`.
+pub mod FrontLaws

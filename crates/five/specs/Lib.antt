@@ -1,0 +1,2 @@
+-- The passes in the work space.
+pub mod Nth

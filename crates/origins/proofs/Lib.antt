@@ -1,2 +1,0 @@
--- The items of characters are sound.
-pub mod OriginLaws

@@ -1,1 +1,0 @@
-// The items of a line's characters are sound, as the stage that lists them asks: laws in proofs/, no code.

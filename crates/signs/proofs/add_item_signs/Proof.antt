@@ -1,0 +1,58 @@
+-- `signs::add_item_signs` meets its contract, by whether the item has a value. Assumes nothing.
+use borrow.Author.Needs.{needs}
+use mathlib.Core.Path.{refl, _∙_}
+use Prim.Native.Nat.{_≤_}
+use native.Mathlib.Omega.{arith}
+use lib.ListN.{length}
+use Rattle.text.specs.Text.{chars}
+use Rattle.dicts.specs.Layout.{listAt}
+use Rattle.dicts.specs.Answers.{tableOf}
+use Rattle.markers.specs.Marks.{Formed}
+use Rattle.markers.proofs.MarkLaws.{Marks, table-marks}
+use Rattle.signs.proofs.ItemLaws.{both-holds, none-holds}
+use Rattle.signs.proofs.add_item_signs.Statement.{statement}
+use Rattle.signs.proofs.add_item_signs.Tie as tie
+
+-- the lists of signs are well-formed, and the line has few characters
+marks : (a : tie.Start) → Marks (tableOf (a .args .table .now) (a .args .h))
+marks a = table-marks (a .args .table .now) (a .pre .3 .1 .checked)
+
+few : (a : tie.Start) → length (chars (a .args .line .now)) ≤ 256
+few a = let r = a .pre .3 .1 in omega arith
+
+minus-formed : (a : tie.Start) → Formed (listAt (a .args .table .now) (a .args .h .minus))
+unfolding tableOf
+minus-formed a = marks a .minus
+
+plus-formed : (a : tie.Start) → Formed (listAt (a .args .table .now) (a .args .h .plus))
+unfolding tableOf
+plus-formed a = marks a .plus
+
+add-signs-of-requires : tie.Need-add-signs-of-requires
+add-signs-of-requires c κs = let a = c .before .before .before .before .before in (a .pre .0, a .pre .1, a .pre .2, few a, minus-formed a)
+
+add-signs-of-requires-2 : tie.Need-add-signs-of-requires-2
+add-signs-of-requires-2 c κs =
+    let a = c .before .before .before .before .before .before .before .before .before in
+    let p = a .pre in
+    ((_, c .before .before .before .add-signs-of .ensures .1 (p .0 .0) (p .2 .0) (p .0 .1) (p .2 .1 .is)), p .1, p .2, few a, plus-formed a)
+
+same-length : tie.Need-same-length
+same-length c = search needs
+
+returns : tie.Need-returns
+returns c =
+    let two = c .before .before .add-signs-of2 in
+    let k = c .before .before .before .before .before .before in
+    let one = k .add-signs-of in
+    let then = k .before .before in
+    let a = then .before .before .before .before .args in
+    (two .ensures .0 ∙ one .ensures .0, λ es i q e. both-holds (chars (a .line .now)) (a .table .now) (a .h) e (then .if1 .taken) es (two .ensures .1 _ i (one .ensures .1 es i q e) e))
+
+returns-2 : tie.Need-returns-2
+returns-2 c = let a = c .before .before .before .before .args in (refl, λ es i q e. none-holds (chars (a .line .now)) (a .table .now) (a .h) e (c .if1 .left) es q)
+
+pub add-item-signs-spec : {M : Type 1} → statement M
+add-item-signs-spec =
+    tie.close
+    (tie.spec add-signs-of-requires add-signs-of-requires-2 same-length returns returns-2)

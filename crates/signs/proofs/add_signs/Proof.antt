@@ -1,0 +1,116 @@
+-- `signs::add_signs` meets its contract. The loop's invariant: with the items that are left, the lattice is what it shall be (`Toward`), and they are sound.
+-- The measure is how many are left. Assumes nothing.
+use mathlib.Core.Path.{_≡_, sym, subst, _∙_}
+use mathlib.Core.List.{List, map}
+use Prim.Native.Nat.{ℕ, _+_, _-_, _*_, _≤_}
+use native.Mathlib.Omega.{arith}
+use borrow.Author.Needs.{needs}
+use borrow.Rule.Slice.PartAt.{part-to-end}
+use lib.ListN.{length, take, drop}
+use Rattle.text.specs.Text.{chars}
+use Rattle.dicts.specs.Answers.{tableOf}
+use Rattle.pass_list.specs.Item.{Small, EdgeIs}
+use Rattle.pass_list.specs.Stored.{itemAt, itemsAt}
+use Rattle.pass_list.specs.Edges.{edgeOf}
+use Rattle.items.specs.Sound.{Sound, Sounds}
+use Rattle.numbers.specs.Signs.{signs}
+use Rattle.signs.proofs.TowardLaws.{Toward, toward-start, toward-next, toward-end}
+use Rattle.signs.proofs.ItemLaws.{behind-length, rest, rest-start, rest-next, rest-end, sounds-start, sounds-next}
+use Rattle.signs.proofs.add_signs.Statement.{statement}
+use Rattle.signs.proofs.add_signs.Tie as tie
+
+abbrev Inv-loop : tie.InvT-loop
+Inv-loop w₀ line offs table h n list grown₀ i₀ w grown i =
+    Toward w₀ grown₀ (signs (tableOf table h) (chars line) (map (edgeOf (chars line) table) (itemsAt (drop 39424 w₀) 0 n))) w grown (rest (tableOf table h) (chars line) table (drop 39424 w₀) n i)
+    × Sounds (chars line) table (itemsAt (drop 39424 w₀) i (n - i)) × (i ≤ n)
+
+abbrev μ-loop : tie.MeasureT-loop
+μ-loop w₀ line offs table h n list grown₀ i₀ w grown i = n - i
+
+-- the pass list stands where it stood
+list-is : (c : tie.In-loop Inv-loop μ-loop) → let w = c .before .loop .w in take (length w - 39424) (drop 39424 w) ≡ drop 39424 (c .before .before .before .before .before .args .w .now)
+list-is c = part-to-end (c .before .loop .w) 39424 ∙ c .before .loop .inv .0 .frame
+
+-- the item of this turn is sound, and so are the others
+here : (c : tie.In-loop Inv-loop μ-loop) → let a = c .before .before .before .before .before .args in let s = drop 39424 (a .w .now) in let i = c .before .loop .i in
+    Sound (chars (a .line .now)) (a .table .now) (itemAt s (i * 56)) × Sounds (chars (a .line .now)) (a .table .now) (itemsAt s (i + 1) (a .n - (i + 1)))
+here c = sounds-next _ _ _ _ _ (c .loop-test .taken) (c .before .loop .inv .1)
+
+room : (c : tie.In-loop Inv-loop μ-loop) → 39424 + c .before .before .before .before .before .args .n * 56 ≤ length (c .before .loop .w)
+room c = omega (arith, c .before .loop .inv .0 .long, c .before .before .before .before .before .pre .4)
+
+-- what was read is this turn's item
+read-is : (c : tie.After-get Inv-loop μ-loop) → EdgeIs (c .get .result) (itemAt (drop 39424 (c .before .before .before .before .before .before .before .before .args .w .now)) (c .before .before .before .before .loop .i * 56))
+read-is c = subst (λ (s : List ℕ). EdgeIs (c .get .result) (itemAt s (c .before .before .before .before .loop .i * 56))) (list-is (c .before .before .before)) (c .get .ensures)
+
+loop-holds : tie.Need-loop-holds Inv-loop μ-loop
+loop-holds c = let a = c .before .before .before in (rw rest-start (toward-start _ _ _), sounds-start _ _ _ _ (a .pre .3), omega arith)
+
+sub-get : tie.Need-sub-get Inv-loop μ-loop
+sub-get c = omega (arith, room c)
+
+part-get-start : tie.Need-part-get-start Inv-loop μ-loop
+part-get-start c = omega (arith, room (c .before))
+
+part-get-end : tie.Need-part-get-end Inv-loop μ-loop
+part-get-end c = search needs
+
+mul-get : tie.Need-mul-get Inv-loop μ-loop
+mul-get c = let l = c .before .before in omega (arith, room l, l .loop-test .taken, c .before .before .before .before .before .before .before .good)
+
+get-requires : tie.Need-get-requires Inv-loop μ-loop
+get-requires c κs =
+    let l = c .before .before in
+    let i = l .before .loop .i in
+    (omega (arith, room l, l .loop-test .taken, behind-length 39424 (l .before .loop .w)), subst (λ (s : List ℕ). Small (itemAt s (i * 56))) (sym (list-is l)) (here l .0 .small))
+
+add-item-signs-requires : tie.Need-add-item-signs-requires Inv-loop μ-loop
+add-item-signs-requires c κs =
+    let g = c .before in
+    let l = g .before .before .before in
+    let a = l .before .before .before .before .before in
+    let d = l .before .loop .inv .0 .holds (a .pre .0 .0) (a .pre .0 .1) in
+    ((d .0, d .1), a .pre .1, (_, record { is = read-is g; sound = here l .0 }), a .pre .2)
+
+add-i : tie.Need-add-i Inv-loop μ-loop
+add-i c = search needs
+
+loop-less : tie.Need-loop-less Inv-loop μ-loop
+loop-less c = omega arith
+
+loop-again : tie.Need-loop-again Inv-loop μ-loop
+loop-again c =
+    let k = c .before .before in
+    let g = k .before .before in
+    let l = g .before .before .before in
+    let a = l .before .before .before .before .before .args in
+    let i = l .before .loop .i in
+    (toward-next (l .before .loop .inv .0) _ (rest-next (tableOf (a .table .now) (a .h)) (chars (a .line .now)) (a .table .now) (drop 39424 (a .w .now)) (a .n) i (l .loop-test .taken)) (k .add-item-signs .kept .0) (k .add-item-signs .ensures .0) (λ es q. k .add-item-signs .ensures .1 es _ q (read-is g)), here l .1, omega (arith, l .loop-test .taken))
+
+same-length : tie.Need-same-length Inv-loop μ-loop
+same-length c = c .before .loop .inv .0 .long
+
+returns : tie.Need-returns Inv-loop μ-loop
+returns c =
+    let a = c .before .before .before .before .before .args in
+    let t = c .before .loop .inv .0 in
+    (t .frame, toward-end t (rest-end (tableOf (a .table .now) (a .h)) (chars (a .line .now)) (a .table .now) (drop 39424 (a .w .now)) (a .n) (c .before .loop .i) (c .loop-test .left)))
+
+pub add-signs-spec : {M : Type 1} → statement M
+add-signs-spec =
+    tie.close
+    (tie.spec
+    Inv-loop
+    μ-loop
+    loop-holds
+    sub-get
+    part-get-start
+    part-get-end
+    mul-get
+    get-requires
+    add-item-signs-requires
+    add-i
+    loop-less
+    loop-again
+    same-length
+    returns)

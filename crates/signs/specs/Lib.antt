@@ -1,0 +1,2 @@
+-- The definitions that the contracts of `signs` cite.
+pub mod SignEdges

@@ -1,0 +1,221 @@
+// G6: signs directly before a number (01, "The rest of the call"): a regular edge from each sign on, minus before plus, in the table's order.
+use dicts::check::Shape;
+use dicts::layout::Part;
+use dicts::layout::TextAt;
+use lattice::Lattice;
+use markers::Sign;
+use pass_list::record::PassEdge;
+use text::Place;
+ghost use mathlib.Core.Path.{_≡_};
+ghost use mathlib.Core.Bool.{true};
+ghost use mathlib.Core.List.{List, _∷_, [], _++_, map};
+ghost use Prim.Native.Nat.{ℕ, _+_, _*_, _≤_};
+ghost use lib.ListN.{length, drop};
+ghost use Rattle.text.specs.Text.{chars, wellFormed};
+ghost use Rattle.dicts.specs.Layout.{textsAt, listAt};
+ghost use Rattle.dicts.specs.Answers.{partOf, Within, tableOf};
+ghost use Rattle.edge.specs.Edge.{Edge};
+ghost use Rattle.lattice.specs.Lattice.{addAll};
+ghost use Rattle.lattice.specs.Kept.{Holds};
+ghost use Rattle.pass_list.specs.Item.{Item, EdgeIs};
+ghost use Rattle.pass_list.specs.Stored.{itemsAt};
+ghost use Rattle.pass_list.specs.Edges.{txtOf, edgeOf};
+ghost use Rattle.stages.specs.Ready.{Ready, Offsets};
+ghost use Rattle.items.specs.Sound.{Sounds, ItemIs};
+ghost use Rattle.items.specs.Texts.{typeOf};
+ghost use Rattle.numbers.specs.Signs.{signed, signs};
+ghost use Rattle.markers.specs.Marks.{Formed};
+ghost use Rattle.signs.specs.SignEdges.{signEdge, signEdges, Spot, Begins, signsOf};
+
+// Where the pass list stands in the work space.
+const LIST: usize = 39424;
+
+// ---- the signs before one number, whose edge ends at place end and has the type ty and the txt txt
+
+// The edge for one sign of the table.
+fn add_sign(
+    w: &mut [u8],
+    l: Lattice,
+    line: &[u8],
+    offs: &[usize; 257],
+    start: Place,
+    end: Place,
+    ty: &[u8],
+    txt: &[u8],
+    table: &[u8],
+    m: Part,
+) -> Lattice
+    requires { ⌜ ((es : List Edge) × Holds (now w) l es) × Spot (now line) (now offs) (start .0) (end .0) (now ty) (now txt) × Within (now table) m × (wellFormed (partOf (now table) m) ≡ true) ⌝ }
+    ensures { λ r. ⌜ (drop 39424 (now (w .exit)) ≡ drop 39424 (now (w .entry))) × ((es : List Edge) → Holds (now (w .entry)) l es → Holds (now (w .exit)) r (addAll es (signEdge (chars (now (line .entry))) (start .0) (end .0) (now (ty .entry)) (now (txt .entry)) (partOf (now (table .entry)) m)))) ⌝ }
+{
+    let from = m.at;
+    let to = m.at + m.len;
+    match markers::sign_before(line, offs, start, &table[from..to]) {
+        Sign::Before(size) => { lattice::add_regular(w, l, Place(start.0 - size), end, ty, txt) }
+        Sign::NoSign => l,
+    }
+}
+
+// The edges for n signs of the table, in their order.
+fn add_signs_from(
+    w: &mut [u8],
+    l: Lattice,
+    line: &[u8],
+    offs: &[usize; 257],
+    start: Place,
+    end: Place,
+    ty: &[u8],
+    txt: &[u8],
+    table: &[u8],
+    from: usize,
+    n: usize,
+) -> Lattice
+    requires { ⌜ ((es : List Edge) × Holds (now w) l es) × Spot (now line) (now offs) (start .0) (end .0) (now ty) (now txt) × Formed (textsAt n (now table) from) ⌝ }
+    ensures { λ r. ⌜ (drop 39424 (now (w .exit)) ≡ drop 39424 (now (w .entry))) × ((es : List Edge) → Holds (now (w .entry)) l es → Holds (now (w .exit)) r (addAll es (signEdges (chars (now (line .entry))) (start .0) (end .0) (now (ty .entry)) (now (txt .entry)) (textsAt n (now (table .entry)) from)))) ⌝ }
+{
+    let mut grown = l;
+    let mut next = from;
+    let mut left = n;
+    while 0 < left {
+        match dicts::layout::text_at(table, next) {
+            TextAt::Text(m, behind) => {
+                grown = add_sign(w, grown, line, offs, start, end, ty, txt, table, m);
+                next = behind;
+                left -= 1;
+            }
+            TextAt::Fault => {
+                return grown;
+            }
+        }
+    }
+    grown
+}
+
+// The edges for the signs of a list of the table.
+fn add_signs_in(
+    w: &mut [u8],
+    l: Lattice,
+    line: &[u8],
+    offs: &[usize; 257],
+    start: Place,
+    end: Place,
+    ty: &[u8],
+    txt: &[u8],
+    table: &[u8],
+    list: usize,
+) -> Lattice
+    requires { ⌜ ((es : List Edge) × Holds (now w) l es) × Spot (now line) (now offs) (start .0) (end .0) (now ty) (now txt) × Formed (listAt (now table) list) ⌝ }
+    ensures { λ r. ⌜ (drop 39424 (now (w .exit)) ≡ drop 39424 (now (w .entry))) × ((es : List Edge) → Holds (now (w .entry)) l es → Holds (now (w .exit)) r (addAll es (signEdges (chars (now (line .entry))) (start .0) (end .0) (now (ty .entry)) (now (txt .entry)) (listAt (now (table .entry)) list)))) ⌝ }
+{
+    if table.len() <= list {
+        return l;
+    }
+    let n = table[list] as usize;
+    add_signs_from(w, l, line, offs, start, end, ty, txt, table, list + 1, n)
+}
+
+// ---- the signs before an item of the pass list
+
+// The type of a sign's edge goes to the front of a buffer: the item's, a space and the sign.
+fn sign_type(buf: &mut [u8], table: &[u8], x: PassEdge, sign: u8) -> usize
+    requires { ⌜ (62 ≤ length (now buf)) × ((i : Item) × EdgeIs x i × (length (typeOf (now table) i) ≤ 60)) ⌝ }
+    ensures { λ r. ⌜ ((i : Item) → EdgeIs x i → Begins (now (buf .exit)) r (typeOf (now (table .entry)) i ++ (32 ∷ sign ∷ []))) ⌝ }
+{
+    let n = items::type_of(buf, table, x);
+    buf[n] = b' ';
+    buf[n + 1] = sign;
+    n + 2
+}
+
+// The txt of a sign's edge goes to the front of a buffer: the sign and the item's.
+fn sign_txt(
+    buf: &mut [u8],
+    line: &[u8],
+    offs: &[usize; 257],
+    table: &[u8],
+    x: PassEdge,
+    sign: u8,
+) -> usize
+    requires { ⌜ Offsets (now line) (now offs) × ((i : Item) × ItemIs (now line) (now table) x i) × (length (chars (now line)) ≤ 256) × (257 ≤ length (now buf)) ⌝ }
+    ensures { λ r. ⌜ ((i : Item) → EdgeIs x i → Begins (now (buf .exit)) r (sign ∷ txtOf (chars (now (line .entry))) (now (table .entry)) i)) ⌝ }
+{
+    buf[0] = sign;
+    let n = items::txt_of(&mut buf[1..], line, offs, table, x);
+    n + 1
+}
+
+// The edges for the signs of one list before an item: sign is their ASCII byte.
+fn add_signs_of(
+    w: &mut [u8],
+    l: Lattice,
+    line: &[u8],
+    offs: &[usize; 257],
+    table: &[u8],
+    list: usize,
+    x: PassEdge,
+    sign: u8,
+) -> Lattice
+    requires { ⌜ ((es : List Edge) × Holds (now w) l es) × Offsets (now line) (now offs) × ((i : Item) × ItemIs (now line) (now table) x i) × (length (chars (now line)) ≤ 256) × Formed (listAt (now table) list) ⌝ }
+    ensures { λ r. ⌜ (drop 39424 (now (w .exit)) ≡ drop 39424 (now (w .entry))) × ((es : List Edge) (i : Item) → Holds (now (w .entry)) l es → EdgeIs x i → Holds (now (w .exit)) r (addAll es (signed (chars (now (line .entry))) sign (edgeOf (chars (now (line .entry))) (now (table .entry)) i) (listAt (now (table .entry)) list)))) ⌝ }
+{
+    let mut ty = [0u8; 64];
+    let mut txt = [0u8; 264];
+    let n = sign_type(&mut ty, table, x, sign);
+    let k = sign_txt(&mut txt, line, offs, table, x, sign);
+    add_signs_in(
+        w,
+        l,
+        line,
+        offs,
+        x.start,
+        x.end,
+        &ty[..n],
+        &txt[..k],
+        table,
+        list,
+    )
+}
+
+// The edges for the signs before an item: only where it has a value, minus before plus.
+fn add_item_signs(
+    w: &mut [u8],
+    l: Lattice,
+    line: &[u8],
+    offs: &[usize; 257],
+    table: &[u8],
+    h: Shape,
+    x: PassEdge,
+) -> Lattice
+    requires { ⌜ ((es : List Edge) × Holds (now w) l es) × Offsets (now line) (now offs) × ((i : Item) × ItemIs (now line) (now table) x i) × ((n : ℕ) × Ready (now line) (now table) h n) ⌝ }
+    ensures { λ r. ⌜ (drop 39424 (now (w .exit)) ≡ drop 39424 (now (w .entry))) × ((es : List Edge) (i : Item) → Holds (now (w .entry)) l es → EdgeIs x i → Holds (now (w .exit)) r (addAll es (signsOf (tableOf (now (table .entry)) h) (chars (now (line .entry))) (edgeOf (chars (now (line .entry))) (now (table .entry)) i)))) ⌝ }
+{
+    if x.num.has_value {
+        let minus = add_signs_of(w, l, line, offs, table, h.minus, x, b'-');
+        return add_signs_of(w, minus, line, offs, table, h.plus, x, b'+');
+    }
+    l
+}
+
+// G6: the edges for the signs before the n items of the pass list after G4.
+pub fn add_signs(
+    w: &mut [u8],
+    l: Lattice,
+    line: &[u8],
+    offs: &[usize; 257],
+    table: &[u8],
+    h: Shape,
+    n: usize,
+) -> Lattice
+    requires { ⌜ ((es : List Edge) × Holds (now w) l es) × Offsets (now line) (now offs) × ((m : ℕ) × Ready (now line) (now table) h m) × Sounds (chars (now line)) (now table) (itemsAt (drop 39424 (now w)) 0 n) × (39424 + n * 56 ≤ length (now w)) ⌝ }
+    ensures { λ r. ⌜ (drop 39424 (now (w .exit)) ≡ drop 39424 (now (w .entry))) × ((es : List Edge) → Holds (now (w .entry)) l es → Holds (now (w .exit)) r (addAll es (signs (tableOf (now (table .entry)) h) (chars (now (line .entry))) (map (edgeOf (chars (now (line .entry))) (now (table .entry))) (itemsAt (drop 39424 (now (w .entry))) 0 n))))) ⌝ }
+{
+    let list = LIST;
+    let mut grown = l;
+    let mut i = 0;
+    while i < n {
+        let x = pass_list::record::get(&w[list..], i * 56);
+        grown = add_item_signs(w, grown, line, offs, table, h, x);
+        i += 1;
+    }
+    grown
+}

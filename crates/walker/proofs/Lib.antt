@@ -1,0 +1,2 @@
+-- The laws that the proofs of `walker` share.
+pub mod WalkLaws

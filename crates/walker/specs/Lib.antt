@@ -1,0 +1,2 @@
+-- The definitions that the contracts of `walker` cite.
+pub mod Walk
