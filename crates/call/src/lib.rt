@@ -81,7 +81,7 @@ fn check_rest(chars: usize, table: &[u8], edges: &[u8]) -> Lent
 {
     match dicts::check::check_table(table) {
         TableCheck::Refused(number, at) => Lent::Refused(table_refusal(number, at)),
-        TableCheck::Table(h) => match edge::check_listing(edges, chars, true) {
+        TableCheck::Table(h) => match edge_check::check_listing(edges, chars, true) {
             ListingCheck::Refused(at) => Lent::Refused(Refusal::BadEdges(at)),
             ListingCheck::Edges(count) => Lent::Sound(chars, h, count),
         },

@@ -1,22 +1,16 @@
-// Edges in their listing (01, "Listing"): refusal 6, an edge at an offset, the next edge's offset, and an edge written.
+// Edges in their listing (01, "Listing"), read: an edge at an offset, its fields, the next edge's offset. Whatever stands there is read: `edge_check` refuses, `edge_write` writes.
 ghost use mathlib.Core.Path.{_≡_};
 ghost use mathlib.Core.Bool.{true, not, cond};
-ghost use Prim.Native.Nat.{ℕ, _+_, _*_, _/_, _%_, _≤_, _<_};
+ghost use Prim.Native.Nat.{_+_, _/_, _%_, _≤_, _<_};
 ghost use lib.ListN.{length};
 ghost use lib.Dec.{T, eqb};
 ghost use lib.Ieee.{binary64, isNan, nanBits};
-ghost use Rattle.fields.specs.Fields.{leAt, bytesOf};
-ghost use Rattle.text.specs.Text.{wellFormed};
-ghost use Rattle.edge.specs.Edge.{str, opt, numericBytes, headBytes, edgeBytes};
-ghost use Rattle.edge.specs.Layout.{stands, stringEnd, scriptAt, fieldsEnd, nextAt, headEnd, only, numericAt, edgeAt};
-ghost use Rattle.edge.specs.Check.{allowed, each, soundNumeric, sound, good, checkListing};
-ghost use Rattle.edge.specs.Write.{written, writtenTo, Put, regular, numeric, numbersBytes, textPastIf, fieldsPast, Writable, fieldsOf, dataOf};
-ghost use Rattle.edge.specs.View.{numericOf, textOf, viewAt, partAt, noPart, fieldsAt, numbersSound, fieldsSound, Inside};
+ghost use Rattle.fields.specs.Fields.{leAt};
+ghost use Rattle.edge.specs.Layout.{stringEnd, scriptAt, fieldsEnd, nextAt, headEnd};
+ghost use Rattle.edge.specs.Write.{fieldsOf, dataOf};
+ghost use Rattle.edge.specs.View.{viewAt, partAt, noPart, fieldsAt};
 use text::Offset;
 use text::Place;
-
-// The largest number of a listing.
-const TOP: u64 = 9007199254740991;
 
 // Where a text stands in a slice.
 pub struct Part {
@@ -60,10 +54,16 @@ pub struct NumData {
     pub value_s: Part,
 }
 
-// What checking a listing finds: so many edges, or refusal 6 and its offset.
+// The answer of `edge_check`: so many edges, or refusal 6 and its offset.
 pub enum ListingCheck {
     Edges(usize),
     Refused(Offset),
+}
+
+// The answer of the writers of `edge_write`: the offset behind what was written, or that there is no room, the buffer then as it was.
+pub enum Written {
+    To(usize),
+    NoRoom,
 }
 
 // Whether the bit of value p stands in a map.
@@ -104,7 +104,7 @@ fn string_end_if(map: u16, p: u16, s: &[u8], at: usize) -> usize
 }
 
 // Where the script of a numeric edge stands, whose value stands at v.
-fn script_at(map: u16, v: usize) -> usize
+pub fn script_at(map: u16, v: usize) -> usize
     requires { ⌜ v ≤ 10000000000000000000 ⌝ }
     ensures { λ r. ⌜ (r ≡ scriptAt map v) × (r ≤ v + 40) ⌝ }
 {
@@ -213,270 +213,6 @@ pub fn fields_at(map: u16, s: &[u8], at: usize) -> NumFields
         value_s: text_if(map, 256, s, value_s),
     }
 }
-
-// Whether a map may stand.
-fn allowed(given: bool, map: u16) -> bool
-    ensures { λ r. ⌜ r ≡ allowed given map ⌝ }
-{
-    if given {
-        return map == 0;
-    }
-    if bit(map, 1) { map < 512 } else { map == 0 }
-}
-
-fn text_sound(s: &[u8], t: Part) -> bool
-    requires { ⌜ t .at + t .len ≤ length (now s) ⌝ }
-    ensures { λ r. ⌜ r ≡ wellFormed (textOf (now (s .entry)) t) ⌝ }
-{
-    let from = t.at;
-    let to = from + t.len;
-    text::well_formed(&s[from..to])
-}
-
-fn text_sound_if(map: u16, p: u16, s: &[u8], t: Part) -> bool
-    requires { ⌜ (0 < p) × (eqb (map / p % 2) 1 ≡ true → t .at + t .len ≤ length (now s)) ⌝ }
-    ensures { λ r. ⌜ r ≡ cond (eqb (map / p % 2) 1) (wellFormed (textOf (now (s .entry)) t)) true ⌝ }
-{
-    if bit(map, p) { text_sound(s, t) } else { true }
-}
-
-// Whether the numbers of a numeric edge may stand.
-fn numbers_sound(d: NumFields) -> bool
-    ensures { λ r. ⌜ r ≡ numbersSound d ⌝ }
-{
-    let fraction = (d.numerator <= TOP) & (d.denominator <= TOP) & (0 < d.denominator);
-    (!bit(d.map, 4) | fraction) & (!bit(d.map, 8) | (d.base <= TOP))
-}
-
-// Whether the fields of a numeric edge may stand.
-fn fields_sound(s: &[u8], d: NumFields) -> bool
-    requires { ⌜ Inside (length (now s)) d ⌝ }
-    ensures { λ r. ⌜ r ≡ fieldsSound (now (s .entry)) d ⌝ }
-{
-    let orig = text_sound(s, d.orig);
-    let script = text_sound_if(d.map, 32, s, d.script);
-    let value_s = text_sound_if(d.map, 256, s, d.value_s);
-    numbers_sound(d) & orig & script & value_s
-}
-
-// Whether an edge with this map may stand as far as its fields go, if it has any.
-fn fields_sound_at(map: u16, s: &[u8], at: usize) -> bool
-    requires { ⌜ (stands 0 map ≡ true → fieldsEnd map (now s) at ≤ length (now s)) ⌝ }
-    ensures { λ r. ⌜ r ≡ each soundNumeric (only (stands 0 map) (numericAt map (now (s .entry)) at)) ⌝ }
-{
-    if bit(map, 1) {
-        fields_sound(s, fields_at(map, s, at))
-    } else {
-        true
-    }
-}
-
-// Whether the edge at an offset, which is whole, may stand over a line of so many characters.
-fn edge_sound(s: &[u8], at: usize, chars: usize) -> bool
-    requires { ⌜ nextAt (now s) at ≤ length (now s) ⌝ }
-    ensures { λ r. ⌜ r ≡ sound chars (edgeAt (now (s .entry)) at) ⌝ }
-{
-    let e = edge_at(s, at);
-    let span = (e.start.0 < e.end.0) & (e.end.0 <= chars);
-    let texts = text_sound(s, e.ty) & text_sound(s, e.txt);
-    span & texts & fields_sound_at(e.map, s, e.fields)
-}
-
-// Whether the edge at an offset, which ends before next, is whole and may stand.
-fn edge_good(s: &[u8], at: usize, next: usize, chars: usize, given: bool) -> bool
-    requires { ⌜ next ≡ nextAt (now s) at ⌝ }
-    ensures { λ r. ⌜ r ≡ good given chars (now (s .entry)) at ⌝ }
-{
-    if s.len() < next {
-        return false;
-    }
-    allowed(given, fields::u16_at(s, at)) & edge_sound(s, at, chars)
-}
-
-// Refusal 6: a listing over a line of so many characters; given: its edges are given to the call.
-pub fn check_listing(s: &[u8], chars: usize, given: bool) -> ListingCheck
-    ensures { λ r. ⌜ r ≡ checkListing given chars (now (s .entry)) ⌝ }
-{
-    if s.len() < 2 {
-        return ListingCheck::Refused(Offset(0));
-    }
-    let count = fields::u16_at(s, 0) as usize;
-    let mut left = count;
-    let mut at = 2;
-    while 0 < left {
-        let next = next_at(s, at);
-        if !edge_good(s, at, next, chars, given) {
-            return ListingCheck::Refused(Offset(at));
-        }
-        at = next;
-        left -= 1;
-    }
-    if at < s.len() {
-        return ListingCheck::Refused(Offset(at));
-    }
-    ListingCheck::Edges(count)
-}
-
-// ---- writing
-
-// What a writer answers: the offset behind what it wrote, or that there is no room, the buffer then as it was.
-pub enum Written {
-    To(usize),
-    NoRoom,
-}
-
-// A string: its u16 length and its bytes.
-fn put_text(out: &mut [u8], at: usize, t: &[u8]) -> usize
-    requires { ⌜ (at + 2 + length (now t) ≤ length (now out)) × (length (now t) < 65536) ⌝ }
-    ensures { λ r. ⌜ (r ≡ at + 2 + length (now (t .entry))) × Put (now (out .entry)) (now (out .exit)) at r (str (now (t .entry))) ⌝ }
-{
-    fields::put_u16(out, at, t.len() as u16);
-    fields::copy_in(out, at + 2, t);
-    at + 2 + t.len()
-}
-
-// A string that is a part of a slice.
-fn put_part(out: &mut [u8], at: usize, s: &[u8], t: Part) -> usize
-    requires { ⌜ (at + 2 + t .len ≤ length (now out)) × (t .len < 65536) × (t .at + t .len ≤ length (now s)) ⌝ }
-    ensures { λ r. ⌜ (r ≡ at + 2 + t .len) × Put (now (out .entry)) (now (out .exit)) at r (str (textOf (now (s .entry)) t)) ⌝ }
-{
-    let from = t.at;
-    let to = from + t.len;
-    put_text(out, at, &s[from..to])
-}
-
-// The same, only if a bit stands.
-fn put_part_if(map: u16, p: u16, out: &mut [u8], at: usize, s: &[u8], t: Part) -> usize
-    requires { ⌜ (0 < p) × (textPastIf (eqb (map / p % 2) 1) (t .len) at ≤ length (now out)) × (t .len < 65536) × (eqb (map / p % 2) 1 ≡ true → t .at + t .len ≤ length (now s)) ⌝ }
-    ensures { λ r. ⌜ (r ≡ textPastIf (eqb (map / p % 2) 1) (t .len) at) × Put (now (out .entry)) (now (out .exit)) at r (opt str (only (eqb (map / p % 2) 1) (textOf (now (s .entry)) t))) ⌝ }
-{
-    if bit(map, p) {
-        put_part(out, at, s, t)
-    } else {
-        at
-    }
-}
-
-// A number, only if a bit stands.
-fn put_u64_if(map: u16, p: u16, out: &mut [u8], at: usize, v: u64) -> usize
-    requires { ⌜ (0 < p) × (at + 8 * (map / p % 2) ≤ length (now out)) ⌝ }
-    ensures { λ r. ⌜ (r ≡ at + 8 * (map / p % 2)) × Put (now (out .entry)) (now (out .exit)) at r (opt (bytesOf 8) (only (eqb (map / p % 2) 1) v)) ⌝ }
-{
-    if bit(map, p) {
-        fields::put_u64(out, at, v);
-        at + 8
-    } else {
-        at
-    }
-}
-
-// The numbers of a numeric edge.
-fn put_numbers(out: &mut [u8], at: usize, d: NumFields) -> usize
-    requires { ⌜ scriptAt (d .map) at ≤ length (now out) ⌝ }
-    ensures { λ r. ⌜ (r ≡ scriptAt (d .map) at) × Put (now (out .entry)) (now (out .exit)) at r (numbersBytes d) ⌝ }
-{
-    let map = d.map;
-    let numerator = put_u64_if(map, 2, out, at, d.value);
-    let denominator = put_u64_if(map, 4, out, numerator, d.numerator);
-    let base = put_u64_if(map, 4, out, denominator, d.denominator);
-    let multiplier = put_u64_if(map, 8, out, base, d.base);
-    put_u64_if(map, 16, out, multiplier, d.base_multiplier)
-}
-
-// The fields of a numeric edge, their texts in three slices.
-fn put_fields(out: &mut [u8], at: usize, d: NumFields, o: &[u8], c: &[u8], v: &[u8]) -> usize
-    requires { ⌜ (fieldsPast d at ≤ length (now out)) × Writable (now o) (now c) (now v) d ⌝ }
-    ensures { λ r. ⌜ Put (now (out .entry)) (now (out .exit)) at r (numericBytes (numericOf (now (o .entry)) (now (c .entry)) (now (v .entry)) d)) ⌝ }
-{
-    let value = put_part(out, at, o, d.orig);
-    let script = put_numbers(out, value, d);
-    let value_s = put_part_if(d.map, 32, out, script, c, d.script);
-    put_part_if(d.map, 256, out, value_s, v, d.value_s)
-}
-
-// What every edge begins with.
-fn put_head(
-    out: &mut [u8],
-    at: usize,
-    map: u16,
-    start: Place,
-    end: Place,
-    ty: &[u8],
-    txt: &[u8],
-) -> usize
-    requires { ⌜ (at + 10 + length (now ty) + length (now txt) ≤ length (now out)) × (length (now ty) < 65536) × (length (now txt) < 65536) × (start .0 < 65536) × (end .0 < 65536) ⌝ }
-    ensures { λ r. ⌜ (r ≡ at + 10 + length (now (ty .entry)) + length (now (txt .entry))) × Put (now (out .entry)) (now (out .exit)) at r (headBytes map (start .0) (end .0) (now (ty .entry)) (now (txt .entry))) ⌝ }
-{
-    fields::put_u16(out, at, map);
-    fields::put_u16(out, at + 2, start.0 as u16);
-    fields::put_u16(out, at + 4, end.0 as u16);
-    let txt_at = put_text(out, at + 6, ty);
-    put_text(out, txt_at, txt)
-}
-
-// Writes a regular edge.
-pub fn write_regular(
-    out: &mut [u8],
-    at: usize,
-    start: Place,
-    end: Place,
-    ty: &[u8],
-    txt: &[u8],
-) -> Written
-    requires { ⌜ (at ≤ length (now out)) × (length (now ty) < 65536) × (length (now txt) < 65536) × (start .0 < 65536) × (end .0 < 65536) ⌝ }
-    ensures answer { λ r. ⌜ r ≡ written (now (out .entry)) at (edgeBytes (regular (start .0) (end .0) (now (ty .entry)) (now (txt .entry)))) ⌝ }
-    ensures bytes { λ _. ⌜ now (out .exit) ≡ writtenTo (now (out .entry)) at (edgeBytes (regular (start .0) (end .0) (now (ty .entry)) (now (txt .entry)))) ⌝ }
-{
-    if out.len() < at + 10 + ty.len() + txt.len() {
-        return Written::NoRoom;
-    }
-    Written::To(put_head(out, at, 0, start, end, ty, txt))
-}
-
-// Behind a text that is there only if a bit stands.
-fn text_past_if(map: u16, p: u16, len: usize, at: usize) -> usize
-    requires { ⌜ (0 < p) × (len < 65536) × (at ≤ 10000000000000000000) ⌝ }
-    ensures { λ r. ⌜ (r ≡ textPastIf (eqb (map / p % 2) 1) len at) × (r ≤ at + 65537) ⌝ }
-{
-    if bit(map, p) { at + 2 + len } else { at }
-}
-
-// Where fields end that are written from an offset on.
-fn fields_past(d: NumFields, at: usize) -> usize
-    requires { ⌜ (d .orig .len < 65536) × (d .script .len < 65536) × (d .«value_s» .len < 65536) × (at ≤ 9500000000000000000) ⌝ }
-    ensures { λ r. ⌜ r ≡ fieldsPast d at ⌝ }
-{
-    let script = script_at(d.map, at + 2 + d.orig.len);
-    let value_s = text_past_if(d.map, 32, d.script.len, script);
-    text_past_if(d.map, 256, d.value_s.len, value_s)
-}
-
-// Writes a numeric edge. The texts of its fields are parts of o (orig_txt), c (script) and v (value_s).
-pub fn write_numeric(
-    out: &mut [u8],
-    at: usize,
-    start: Place,
-    end: Place,
-    ty: &[u8],
-    txt: &[u8],
-    d: NumFields,
-    o: &[u8],
-    c: &[u8],
-    v: &[u8],
-) -> Written
-    requires { ⌜ (at ≤ length (now out)) × (length (now ty) < 65536) × (length (now txt) < 65536) × (start .0 < 65536) × (end .0 < 65536) × Writable (now o) (now c) (now v) d ⌝ }
-    ensures answer { λ r. ⌜ r ≡ written (now (out .entry)) at (edgeBytes (numeric (start .0) (end .0) (now (ty .entry)) (now (txt .entry)) (now (o .entry)) (now (c .entry)) (now (v .entry)) d)) ⌝ }
-    ensures bytes { λ _. ⌜ now (out .exit) ≡ writtenTo (now (out .entry)) at (edgeBytes (numeric (start .0) (end .0) (now (ty .entry)) (now (txt .entry)) (now (o .entry)) (now (c .entry)) (now (v .entry)) d)) ⌝ }
-{
-    let head = at + 10 + ty.len() + txt.len();
-    if out.len() < fields_past(d, head) {
-        return Written::NoRoom;
-    }
-    put_head(out, at, d.map, start, end, ty, txt);
-    Written::To(put_fields(out, head, d, o, c, v))
-}
-
-// ---- numeric data
 
 // The fields of numeric data.
 pub fn num_fields(d: NumData) -> NumFields

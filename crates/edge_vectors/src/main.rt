@@ -1,10 +1,10 @@
-// Runs damaged listings through `edge::check_listing`: each item cut, each count too large, each fault of content, bytes left over, at the first and at a later edge.
+// Runs damaged listings through `edge_check::check_listing`: each item cut, each count too large, each fault of content, bytes left over, at the first and at a later edge.
 // `stdout` has the expected answers, worked out by hand from the scope: the offset of the faulty edge, of the edge that is missing, or of what is left over.
 ghost use Prim.Native.Nat.{_<_};
 
 // The answer for a listing over a line of three characters.
 fn show(s: &[u8], given: bool) {
-    match edge::check_listing(s, 3, given) {
+    match edge_check::check_listing(s, 3, given) {
         edge::ListingCheck::Edges(count) => {
             io::write_all(1, b"edges ");
             io::print_decimal(1, count as u64);

@@ -1,12 +1,10 @@
 // Little-endian numbers in slices of bytes (01: "Multi-byte numbers are little-endian"), and bytes copied into a slice.
 // What stands at an offset is `leAt` of specs/Fields.antt; what a writer leaves is `sets` of the bytes `bytesOf`.
 ghost use mathlib.Core.Path.{_≡_};
-ghost use mathlib.Core.Bool.{not};
 ghost use Prim.Native.Nat.{_+_, _≤_};
 ghost use lib.ListN.{length};
 ghost use lib.Seq.{sets};
-ghost use lib.Dec.{T};
-ghost use lib.Ieee.{binary64, isNan, nanBits};
+ghost use lib.Ieee.{binary64, ofBits, toBits};
 ghost use Rattle.fields.specs.Fields.{leAt, bytesOf, f64At, f64Bytes};
 
 pub fn u16_at(s: &[u8], at: usize) -> u16
@@ -36,12 +34,32 @@ pub fn u64_at(s: &[u8], at: usize) -> u64
     lo + 4294967296 * hi
 }
 
-// The f64 whose bits stand at an offset. Bits of a NaN are for `u64_at`: which f64 they become is not defined.
+// The f64 of bits. Bits of a NaN are tested first: the kit defines no f64 for them but the result of an operation.
+fn float_of(bits: u64) -> f64
+    ensures { λ r. ⌜ r ≡ ofBits binary64 bits ⌝ }
+{
+    if bits % 0x8000_0000_0000_0000 > 0x7FF0_0000_0000_0000 {
+        return 0.0 / 0.0;
+    }
+    f64::from_bits(bits)
+}
+
+// The bits of an f64, of a NaN those of the quiet one with its sign clear.
+fn bits_of(x: f64) -> u64
+    ensures { λ r. ⌜ r ≡ toBits binary64 x ⌝ }
+{
+    if x != x {
+        return 0x7FF8_0000_0000_0000;
+    }
+    f64::to_bits(x)
+}
+
+// The f64 whose bits stand at an offset. Those of a NaN are not kept: whoever wants them reads `u64_at`.
 pub fn f64_at(s: &[u8], at: usize) -> f64
-    requires { ⌜ (at + 8 ≤ length (now s)) × T (not (nanBits binary64 (leAt (now s) at 8))) ⌝ }
+    requires { ⌜ at + 8 ≤ length (now s) ⌝ }
     ensures { λ r. ⌜ r ≡ f64At (now (s .entry)) at ⌝ }
 {
-    f64::from_bits(u64_at(s, at))
+    float_of(u64_at(s, at))
 }
 
 pub fn put_u16(out: &mut [u8], at: usize, v: u16)
@@ -68,12 +86,11 @@ pub fn put_u64(out: &mut [u8], at: usize, v: u64)
     put_u32(out, at + 4, (v / 4294967296) as u32);
 }
 
-// Writes the bits of x, which is no NaN.
 pub fn put_f64(out: &mut [u8], at: usize, x: f64)
-    requires { ⌜ (at + 8 ≤ length (now out)) × T (not (isNan x)) ⌝ }
+    requires { ⌜ at + 8 ≤ length (now out) ⌝ }
     ensures { λ _. ⌜ now (out .exit) ≡ sets (now (out .entry)) at (f64Bytes x) ⌝ }
 {
-    put_u64(out, at, f64::to_bits(x));
+    put_u64(out, at, bits_of(x));
 }
 
 // Copies s into out from an offset on.

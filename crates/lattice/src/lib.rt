@@ -211,7 +211,7 @@ pub fn add_regular(
     ensures { λ r. ⌜ (drop 39424 (now (w .exit)) ≡ drop 39424 (now (w .entry))) × ((es : List Edge) → Holds (now (w .entry)) l es → Holds (now (w .exit)) r (add es (regular (start .0) (end .0) (now (ty .entry)) (now (txt .entry))))) ⌝ }
 {
     let len = l.len;
-    match edge::write_regular(w, len, start, end, ty, txt) {
+    match edge_write::write_regular(w, len, start, end, ty, txt) {
         Written::To(to) => add_edge(w, l, 8 + ty.len() + txt.len(), to),
         Written::NoRoom => l,
     }
@@ -234,7 +234,7 @@ pub fn add_numeric(
     ensures { λ r. ⌜ (drop 39424 (now (w .exit)) ≡ drop 39424 (now (w .entry))) × ((es : List Edge) → Holds (now (w .entry)) l es → Holds (now (w .exit)) r (add es (numeric (start .0) (end .0) (now (ty .entry)) (now (txt .entry)) (now (o .entry)) (now (c .entry)) (now (v .entry)) d))) ⌝ }
 {
     let len = l.len;
-    match edge::write_numeric(w, len, start, end, ty, txt, d, o, c, v) {
+    match edge_write::write_numeric(w, len, start, end, ty, txt, d, o, c, v) {
         Written::To(to) => add_edge(w, l, 8 + ty.len() + txt.len(), to),
         Written::NoRoom => l,
     }

@@ -7,7 +7,7 @@ use Prim.Native.Nat.{ℕ, _≤_}
 use lib.Dec.{T}
 use lib.Ieee.{binary64, ofBits, toUnsigned, nanBits}
 use borrow.Author.Tests.{not-true, not-false}
-use Rattle.whole.specs.Whole.{TOP, ofNat, IsWhole}
+use Rattle.whole.specs.Whole.{TOP, ofNat}
 use Rattle.whole.proofs.WholeLaws.{ofNat-to-unsigned}
 use Rattle.fields.specs.Fields.{leAt}
 use Rattle.edge.specs.Edge.{f64Bits}
@@ -33,9 +33,6 @@ module _ {s : List ℕ} {at b : ℕ} (r : Read s at b) where
 
   pub read-float : ofBits binary64 b ≡ ofNat (r .number)
   read-float = ap (ofBits binary64) (r .bits) ∙ f64-bits-back (r .number)
-
-  pub read-whole : IsWhole (ofBits binary64 b)
-  read-whole = (r .number, r .small, read-float)
 
 module _ (s : List ℕ) (at : ℕ) {e : EdgeView} (head : e ≡ viewAt s at) {numeric : Bool} (bit-0 : numeric ≡ stands 0 (e .map)) where
   map-is : (k : ℕ) → stands k (e .map) ≡ stands k (mapAt s at)

@@ -2,7 +2,7 @@
 // specs/ItemPass.antt, which mirror those of the passes on numbers and marks.
 ghost use mathlib.Core.Path.{_≡_};
 ghost use Prim.Native.Nat.{ℕ, _+_, _*_, _≤_, _<_};
-ghost use Rattle.whole.specs.Whole.{TOP, ofNat, IsWhole};
+ghost use Rattle.whole.specs.Whole.{TOP, ofNat};
 ghost use Rattle.whole.specs.Answers.{value};
 ghost use Rattle.passes.specs.Passes.{powerOfTen};
 ghost use Rattle.pass_list.specs.Item.{Item, passEdge, EdgeIs};

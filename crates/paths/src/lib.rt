@@ -191,7 +191,7 @@ pub fn check(line: &[u8], listing: &[u8]) -> Checked
     match text::check_line(line) {
         LineCheck::IllFormed(at) => Checked::Refused(Refusal::NotUtf8(at)),
         LineCheck::TooLong(at) => Checked::Refused(Refusal::OverLong(at)),
-        LineCheck::Chars(chars) => match edge::check_listing(listing, chars, false) {
+        LineCheck::Chars(chars) => match edge_check::check_listing(listing, chars, false) {
             ListingCheck::Refused(at) => Checked::Refused(Refusal::BadListing(at)),
             ListingCheck::Edges(count) => Checked::Readable(chars, count),
         },

@@ -9,12 +9,12 @@ use native.Mathlib.Omega.{arith}
 use lib.Dec.{T, ltb, eqb, lt→ltb, le→leb, ltb→lt, eqb→eq, lit<}
 use lib.Arith.{le→nltb}
 use lib.IntN.{ℤ, pos}
-use lib.Ieee.{Float, nan, inf, fin, binary64, up, down, round, ofInt, mul, add, sum, lt, eq, le, inFloat, inUnsigned, toUnsigned, fits, ofBits, toBits, isNan, nanBits}
+use lib.Ieee.{Float, nan, inf, fin, binary64, neg, up, down, round, ofInt, mul, add, sum, lt, eq, le, inFloat, toUnsigned, fits, ofBits, toBits, isNan, nanBits}
 use lib.Ieee.Exact.{HasValue}
 use lib.Ieee.Back.{round-whole, unsigned-back}
 use lib.Ieee.Scale.{round-same}
 use lib.Ieee.Order.{round-mono}
-use lib.Ieee.Fits.{down-pos, and-r}
+use lib.Ieee.Fits.{down-pos, and-i, and-l, and-r}
 use native.Mathlib.Decide.{decLt}
 use borrow.Author.Tests.{lt-ltb, le-ltb}
 use lib.Ieee.Bits.{is-true, is-false, ofBits-toBits, toBits-lt, nanBits-is}
@@ -131,13 +131,38 @@ pub ofNat-in-float : {n : ℕ} → n ≤ TOP → T (inFloat binary64 (pos n))
 unfolding inFloat
 ofNat-in-float {n} h = le→leb n (2 ^ 53) (omega arith)
 
-pub ofNat-in-unsigned : {n : ℕ} → n ≤ TOP → T (inUnsigned binary64 64 (ofNat n))
-unfolding ofNat
-ofNat-in-unsigned {n} h = unsigned-back binary64 64 n (ofNat-in-float h) (omega arith) .0
-
 pub ofNat-to-unsigned : {n : ℕ} → n ≤ TOP → toUnsigned 64 (ofNat n) ≡ n
 unfolding ofNat
 ofNat-to-unsigned {n} h = unsigned-back binary64 64 n (ofNat-in-float h) (omega arith) .1
+
+-- what a u64 can hold of an f64: above -1 and below 2 ^ 64
+abbrev pub over : Float → Bool
+over x = lt (fin true 1 (pos 0)) x
+
+abbrev pub under : Float → Bool
+under x = lt x (fin false 1 (pos 64))
+
+-- the test of `to_u64`, with its limits as the source writes them
+abbrev pub inU64 : Float → Bool
+inU64 x = lt (neg (ofBits binary64 0x3FF0_0000_0000_0000)) x && lt x (ofBits binary64 0x43F0_0000_0000_0000)
+
+pub in-u64-within : (x : Float) → inU64 x ≡ true → T (over x) × T (under x)
+unfolding neg ofBits
+in-u64-within x h = let t = subst T (sym h) tt in (and-l (over x) (under x) t, and-r (over x) (under x) t)
+
+value-in-u64 : (x : Float) (n : ℕ) → n ≤ TOP → HasValue x false n 1 → inU64 x ≡ true
+unfolding neg ofBits lt
+value-in-u64 nan n h p = absurd p
+value-in-u64 (inf s) n h p = absurd p
+value-in-u64 (fin true m e) n h p = absurd (true≢false (p .0))
+value-in-u64 (fin false m e) n h p =
+    let d = down-pos e in
+    let l : n * down e < 2 ^ 64 * down e = mul-lt-mul-of-pos-right (omega arith) d in
+    is-true _ (and-i (over (fin false m e)) (under (fin false m e))
+    (lt→ltb 0 (1 * 2 ^ 0 * down e + m * up e * 1) (omega (arith, d))) (lt→ltb (m * up e * 1) (1 * 2 ^ 64 * down e) (omega (arith, l, p .1))))
+
+pub ofNat-in-u64 : {n : ℕ} → n ≤ TOP → inU64 (ofNat n) ≡ true
+ofNat-in-u64 {n} h = value-in-u64 (ofNat n) n h (ofNat-value n (omega arith))
 
 pub ofNat-injective : {m n : ℕ} → m ≤ TOP → n ≤ TOP → ofNat m ≡ ofNat n → m ≡ n
 ofNat-injective h k e = sym (ofNat-to-unsigned h) ∙ ap (toUnsigned 64) e ∙ ofNat-to-unsigned k

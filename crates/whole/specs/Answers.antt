@@ -1,6 +1,5 @@
 -- What the functions of `whole` answer, case by case. Definitions only.
 --     value n          a product or a sum n: the f64 of n, or Above where n is above TOP
---     number n         the whole number n, or Above where it is above TOP
 --     row n            the number n that a row of digits says, or Above where it is above TOP
 --     readDigits bs    what the bytes bs say in decimal: NoDigits where one of them is no ASCII digit, else the number, or Above; no bytes say 0
 -- Assumes nothing.
@@ -10,8 +9,6 @@ use Prim.Native.Nat.{ℕ, _+_, _*_}
 use lib.Dec.{ltb}
 use Rattle.whole.specs.declared.Value.{Value}
 use Rattle.whole.specs.declared.Value.the-variants as Value
-use Rattle.whole.specs.declared.Number.{Number}
-use Rattle.whole.specs.declared.Number.the-variants as Number
 use Rattle.whole.specs.declared.Row.{Row}
 use Rattle.whole.specs.declared.Row.the-variants as Row
 use Rattle.whole.specs.Whole.{TOP, ofNat}
@@ -19,9 +16,6 @@ use Rattle.whole.specs.Decimal.{isDigit, digitOf}
 
 abbrev pub value : ℕ → Value
 value n = cond (ltb TOP n) Value.Above (Value.Fits (ofNat n))
-
-abbrev pub number : ℕ → Number
-number n = cond (ltb TOP n) Number.Above (Number.Fits n)
 
 abbrev pub row : ℕ → Row
 row n = cond (ltb TOP n) Row.Above (Row.Fits n)

@@ -6,19 +6,13 @@ ghost use Prim.Native.Nat.{ℕ, _+_, _*_, _≤_};
 ghost use lib.Dec.{ltb};
 ghost use lib.ListN.{length};
 ghost use lib.Seq.{sets};
-ghost use Rattle.whole.specs.Whole.{TOP, ofNat, IsWhole};
-ghost use Rattle.whole.specs.Answers.{value, number, readDigits};
+ghost use Rattle.whole.specs.Whole.{TOP, ofNat};
+ghost use Rattle.whole.specs.Answers.{value, readDigits};
 ghost use Rattle.whole.specs.Decimal.{decimal, padded};
 
 // A product or a sum: the f64 itself, or the answer that it is above TOP (refusal 7).
 pub enum Value {
     Fits(f64),
-    Above,
-}
-
-// A whole number in decimal digits: the number, or the answer that it is above TOP.
-pub enum Number {
-    Fits(u64),
     Above,
 }
 
@@ -58,18 +52,22 @@ pub fn sum(a: f64, b: f64) -> Value
     fit(a + b)
 }
 
+// The f64 of n: n itself up to TOP, rounded to the nearest above.
 pub fn of_u64(n: u64) -> f64
-    requires { ⌜ n ≤ TOP ⌝ }
     ensures { λ r. ⌜ r ≡ ofNat n ⌝ }
 {
-    n as f64
+    std::num::nearest_u64_to_f64(n)
 }
 
+// The whole number that x is; of any other x its whole part, and 0 where a u64 has none.
 pub fn to_u64(x: f64) -> u64
-    requires { ⌜ IsWhole x ⌝ }
     ensures { λ r. ⌜ ((n : ℕ) → n ≤ TOP → x ≡ ofNat n → r ≡ n) ⌝ }
 {
-    x as u64
+    if (-1.0 < x) & (x < 18446744073709551616.0) {
+        std::num::truncating_f64_to_u64(x)
+    } else {
+        0
+    }
 }
 
 // How many bytes the decimal text of n has.
@@ -102,19 +100,6 @@ pub fn put_decimal(out: &mut [u8], at: usize, n: u64) -> usize
     let len = decimal_len(n);
     put_padded(out, at, len, n);
     at + len
-}
-
-// The number with one digit more.
-pub fn with_digit(n: u64, digit: u8) -> Number
-    requires { ⌜ (n ≤ TOP) × (digit ≤ 9) ⌝ }
-    ensures { λ r. ⌜ r ≡ number (n * 10 + digit) ⌝ }
-{
-    let more = n * 10 + digit as u64;
-    if more > 9007199254740991 {
-        Number::Above
-    } else {
-        Number::Fits(more)
-    }
 }
 
 // What a row says with one digit more; above TOP it stays what it is, so that no row overflows.

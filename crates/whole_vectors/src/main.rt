@@ -1,7 +1,4 @@
 // Runs vectors of `whole` and `fields` on both sides of their limits. `stdout` has the expected answers, worked out by hand and by IEEE 754.
-ghost use Prim.Native.Nat.{_≤_};
-ghost use Rattle.whole.specs.Whole.{TOP};
-
 // The decimal text of n, and the newline that the line is filled with.
 fn show(n: u64) {
     let mut line = [10u8; 21];
@@ -24,9 +21,7 @@ fn show_row(s: &[u8]) {
     }
 }
 
-fn show_product(m: u64, n: u64)
-    requires { ⌜ (m ≤ TOP) × (n ≤ TOP) ⌝ }
-{
+fn show_product(m: u64, n: u64) {
     match whole::product(whole::of_u64(m), whole::of_u64(n)) {
         whole::Value::Fits(x) => {
             show(whole::to_u64(x));
@@ -37,9 +32,7 @@ fn show_product(m: u64, n: u64)
     }
 }
 
-fn show_sum(m: u64, n: u64)
-    requires { ⌜ (m ≤ TOP) × (n ≤ TOP) ⌝ }
-{
+fn show_sum(m: u64, n: u64) {
     match whole::sum(whole::of_u64(m), whole::of_u64(n)) {
         whole::Value::Fits(x) => {
             show(whole::to_u64(x));
@@ -50,14 +43,43 @@ fn show_sum(m: u64, n: u64)
     }
 }
 
-// The bits of the f64 of n, as a listing has them, in hexadecimal.
-fn show_bits(n: u64)
-    requires { ⌜ n ≤ TOP ⌝ }
-{
+// The bits of x, as a listing has them, in hexadecimal.
+fn show_bits(x: f64) {
     let mut field = [0u8; 8];
-    fields::put_f64(&mut field, 0, whole::of_u64(n));
+    fields::put_f64(&mut field, 0, x);
     io::print_hex(1, fields::u64_at(&field, 0), 16);
     io::write_all(1, b"\n");
+}
+
+// The bits of the f64 that bits are read as.
+fn show_back(bits: u64) {
+    let mut field = [0u8; 8];
+    fields::put_u64(&mut field, 0, bits);
+    show_bits(fields::f64_at(&field, 0));
+}
+
+// Casts on both sides of what each type holds exactly.
+fn casts() {
+    show_bits(whole::of_u64(0));
+    show_bits(whole::of_u64(15000));
+    show_bits(whole::of_u64(9007199254740991));
+    show_bits(whole::of_u64(18446744073709551615));
+    show(whole::to_u64(9007199254740991.0));
+    show(whole::to_u64(2.5));
+    show(whole::to_u64(-0.5));
+    show(whole::to_u64(-1.0));
+    show(whole::to_u64(18446744073709549568.0));
+    show(whole::to_u64(18446744073709551616.0));
+    show(whole::to_u64(0.0 / 0.0));
+}
+
+// An infinity, and the NaNs beside it: all of them are read as the one NaN.
+fn nans() {
+    show_back(0x7FF0_0000_0000_0000);
+    show_back(0x7FF0_0000_0000_0001);
+    show_back(0xFFFF_FFFF_FFFF_FFFF);
+    show_back(0xFFF0_0000_0000_0000);
+    show_back(0x8000_0000_0000_0000);
 }
 
 fn texts() {
@@ -86,7 +108,6 @@ fn main() {
     show_product(9007199254740991, 9007199254740991);
     show_sum(9007199254740990, 1);
     show_sum(9007199254740991, 1);
-    show_bits(0);
-    show_bits(15000);
-    show_bits(9007199254740991);
+    casts();
+    nans();
 }

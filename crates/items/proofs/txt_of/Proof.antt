@@ -27,10 +27,7 @@ returns c i is =
     front-is (txt-char (chars (a .line .now)) (a .table .now) (a .x) i is (c .before .before .before .before .if1 .taken)) (c .before .before .char-txt .ensures)
 
 to-u64-requires : tie.Need-to-u64-requires
-to-u64-requires c κs =
-    let start = c .before .before .before .before .before in
-    let (i, is) = start .pre .1 in
-    (i .value, is .is .fits .small .value, value-is (start .args .x) i (is .is))
+to-u64-requires c κs = search needs
 
 sub-len : tie.Need-sub-len
 sub-len c =

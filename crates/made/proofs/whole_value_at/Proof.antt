@@ -3,7 +3,7 @@ use mathlib.Core.Path.{_≡_, sym, ap, _∙_}
 use mathlib.Core.Option.{some}
 use borrow.Author.Tests.{not-false}
 use Rattle.edge.proofs.CheckLaws.{head-within, view-fields}
-use Rattle.made.proofs.ValueLaws.{Read, read-number, read-float, read-whole, value-regular, value-absent, value-read}
+use Rattle.made.proofs.ValueLaws.{Read, read-number, read-float, value-regular, value-absent, value-read}
 use borrow.Author.Needs.{needs}
 use Rattle.made.proofs.whole_value_at.Statement.{statement}
 use Rattle.made.proofs.whole_value_at.Tie as tie
@@ -38,7 +38,7 @@ float-from-bits-to-u64 : tie.Need-float-from-bits-to-u64
 float-from-bits-to-u64 c = read-number (read (c .before))
 
 to-u64-requires : tie.Need-to-u64-requires
-to-u64-requires c κs = read-whole (read (c .before))
+to-u64-requires c κs = search needs
 
 returns-3 : tie.Need-returns-3
 returns-3 c = let r = read (c .before .before) in ap some (c .to-u64 .ensures _ (r .small) (read-float r)) ∙ sym (r .is)

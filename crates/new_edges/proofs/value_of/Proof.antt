@@ -4,6 +4,7 @@ use mathlib.Core.List.{List}
 use Prim.Native.Nat.{ℕ}
 use lib.ListN.{getD}
 use lib.Ieee.{binary64, ofBits}
+use borrow.Author.Needs.{needs}
 use Rattle.whole.specs.Whole.{ofNat}
 use Rattle.edge.specs.Edge.{Edge}
 use Rattle.edge.specs.declared.NumFields.{NumFields}
@@ -35,7 +36,7 @@ float-from-bits-to-u64 : tie.Need-float-from-bits-to-u64
 float-from-bits-to-u64 c = let r = mine (c .before .before) in rw (c .before .fields-at .ensures, r .bits) (f64-bits-not-nan (r .small))
 
 to-u64-requires : tie.Need-to-u64-requires
-to-u64-requires c κs = let r = mine (c .before .before) in (r .whole, r .small, whole (c .before) r)
+to-u64-requires c κs = search needs
 
 returns : tie.Need-returns
 returns c = λ n es h v. let r = read (c .before .before .before) h v in c .to-u64 .ensures (r .whole) (r .small) (whole (c .before .before) r) ∙ r .is

@@ -1,16 +1,15 @@
--- `whole::of_u64` meets its contract: up to TOP the cast loses nothing. Assumes nothing.
-use mathlib.Core.Path.{refl}
+-- `whole::of_u64` meets its contract: it is the nearest f64. Assumes nothing.
+use borrow.Author.Needs.{needs}
 use Rattle.whole.specs.Whole.{ofNat}
-use Rattle.whole.proofs.WholeLaws.{ofNat-in-float}
 use Rattle.whole.proofs.of_u64.Statement.{statement}
 use Rattle.whole.proofs.of_u64.Tie as tie
 
-int-to-float-result : tie.Need-int-to-float-result
-int-to-float-result c = ofNat-in-float (c .before .pre)
+nearest-u64-to-f64-requires : tie.Need-nearest-u64-to-f64-requires
+nearest-u64-to-f64-requires c κs = search needs
 
 returns : tie.Need-returns
 unfolding ofNat
-returns c = refl
+returns c = c .nearest-u64-to-f64 .ensures
 
 pub of-u64-spec : {M : Type 1} → statement M
-of-u64-spec = tie.close (tie.spec int-to-float-result returns)
+of-u64-spec = tie.close (tie.spec nearest-u64-to-f64-requires returns)

@@ -1,13 +1,18 @@
--- `whole::to_u64` meets its contract: the cast of the f64 of n gives n. Assumes nothing.
-use Rattle.whole.proofs.WholeLaws.{ofNat-in-unsigned, ofNat-to-unsigned}
+-- `whole::to_u64` meets its contract: the f64 of n lies between the two limits, and its whole part is n. Assumes nothing.
+use mathlib.Core.Path.{sym, ap, _∙_}
+use mathlib.Core.Bool.{true≢false}
+use Rattle.whole.proofs.WholeLaws.{inU64, in-u64-within, ofNat-in-u64, ofNat-to-unsigned}
 use Rattle.whole.proofs.to_u64.Statement.{statement}
 use Rattle.whole.proofs.to_u64.Tie as tie
 
-float-to-int-result : tie.Need-float-to-int-result
-float-to-int-result c = rw (c .before .pre .2) (ofNat-in-unsigned (c .before .pre .1))
+truncating-f64-to-u64-requires : tie.Need-truncating-f64-to-u64-requires
+truncating-f64-to-u64-requires c κs = in-u64-within (c .before .args .x) (c .if1 .taken)
 
 returns : tie.Need-returns
-returns c = λ n h p. rw p (ofNat-to-unsigned h)
+returns c = λ n h p. c .truncating-f64-to-u64 .ensures ∙ rw p (ofNat-to-unsigned h)
+
+returns-2 : tie.Need-returns-2
+returns-2 c = λ n h p. absurd (true≢false (sym (ofNat-in-u64 h) ∙ sym (ap inU64 p) ∙ c .if1 .left))
 
 pub to-u64-spec : {M : Type 1} → statement M
-to-u64-spec = tie.close (tie.spec float-to-int-result returns)
+to-u64-spec = tie.close (tie.spec truncating-f64-to-u64-requires returns returns-2)

@@ -8,15 +8,13 @@ number-if-requires : tie.Need-number-if-requires
 number-if-requires c κs = search needs
 
 of-u64-requires : tie.Need-of-u64-requires
-unfolding charItem
-of-u64-requires c κs = rw (c .number-if .ensures) (c .before .before .before .before .before .before .before .before .before .pre .1 .value)
+of-u64-requires c κs = search needs
 
 number-if-requires-2 : tie.Need-number-if-requires-2
 number-if-requires-2 c κs = search needs
 
 of-u64-requires-2 : tie.Need-of-u64-requires-2
-unfolding charItem
-of-u64-requires-2 c κs = rw (c .number-if2 .ensures) (c .before .before .before .before .before .before .before .before .before .before .before .pre .1 .mult)
+of-u64-requires-2 c κs = search needs
 
 number-if-requires-3 : tie.Need-number-if-requires-3
 number-if-requires-3 c κs = search needs

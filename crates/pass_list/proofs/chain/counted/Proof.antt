@@ -20,7 +20,7 @@ enum-told-2 : tie.Need-enum-told-2
 enum-told-2 c = search needs
 
 to-u64-requires : tie.Need-to-u64-requires
-to-u64-requires c κs = let y = c .before .before .pre .1 in (y .0 .value, y .1 .fits .small .value, ap (λ (e : PassEdge). e .num .value) (y .1 .is))
+to-u64-requires c κs = search needs
 
 retags-requires : tie.Need-retags-requires
 retags-requires c κs = let y = c .before .before .before .pre .1 in let s = y .1 .fits .start in omega (arith, ap (λ (e : PassEdge). e .start .0) (y .1 .is))

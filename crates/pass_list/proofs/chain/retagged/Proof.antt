@@ -1,19 +1,14 @@
 -- `retagged` meets its contract: the f64 product is exact. Assumes nothing.
-use mathlib.Core.Path.{ap}
 use native.Mathlib.Omega.{arith}
 use Rattle.whole.proofs.WholeLaws.{ofNat-mul}
 use Prim.Native.Nat.{_/_}
-use Rattle.pass_list.specs.declared.record.PassEdge.{PassEdge}
 use Rattle.pass_list.specs.ItemPass.{withNumbers}
 use borrow.Author.Needs.{needs}
 use Rattle.pass_list.proofs.chain.retagged.Statement.{statement}
 use Rattle.pass_list.proofs.chain.retagged.Tie as tie
 
 of-u64-requires : tie.Need-of-u64-requires
-of-u64-requires c κs =
-    let x = c .before .pre .0 in
-    let s = x .1 .fits .small .base in
-    omega (arith, ap (λ (e : PassEdge). e .num .base) (x .1 .is))
+of-u64-requires c κs = search needs
 
 returns : tie.Need-returns
 unfolding withNumbers

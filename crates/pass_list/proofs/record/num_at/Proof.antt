@@ -1,6 +1,4 @@
 -- `num_at` meets its contract: it reads the fields one by one. Assumes nothing.
-use mathlib.Core.Path.{subst}
-use Rattle.pass_list.specs.Item.{Small}
 use Rattle.pass_list.proofs.StoredLaws.{itemAt-fields}
 use borrow.Author.Needs.{needs}
 use Rattle.pass_list.proofs.record.num_at.Statement.{statement}
@@ -19,7 +17,7 @@ u64-at-requires : tie.Need-u64-at-requires
 u64-at-requires c κs = search needs
 
 of-u64-requires : tie.Need-of-u64-requires
-of-u64-requires c κs = rw (c .u64-at .ensures) (subst Small (itemAt-fields _ _) (c .before .before .before .pre .1) .value)
+of-u64-requires c κs = search needs
 
 add-u64-at-2 : tie.Need-add-u64-at-2
 add-u64-at-2 c = search needs
@@ -28,7 +26,7 @@ u64-at-requires-2 : tie.Need-u64-at-requires-2
 u64-at-requires-2 c κs = search needs
 
 of-u64-requires-2 : tie.Need-of-u64-requires-2
-of-u64-requires-2 c κs = rw (c .u64-at2 .ensures) (subst Small (itemAt-fields _ _) (c .before .before .before .before .before .pre .1) .mult)
+of-u64-requires-2 c κs = search needs
 
 add-u64-at-3 : tie.Need-add-u64-at-3
 add-u64-at-3 c = search needs

@@ -9,7 +9,7 @@ use Rattle.pass_list.proofs.record.put_num.Statement.{statement}
 use Rattle.pass_list.proofs.record.put_num.Tie as tie
 
 to-u64-requires : tie.Need-to-u64-requires
-to-u64-requires c κs = let y = c .before .before .pre .1 in (y .0 .value, y .1 .fits .small .value, ap (λ (n : NumData). n .value) (y .1 .is))
+to-u64-requires c κs = search needs
 
 put-u64-requires : tie.Need-put-u64-requires
 put-u64-requires c κs = search needs
@@ -24,7 +24,7 @@ add-put-u64-2 : tie.Need-add-put-u64-2
 add-put-u64-2 c = search needs
 
 to-u64-requires-2 : tie.Need-to-u64-requires-2
-to-u64-requires-2 c κs = let y = c .before .before .before .before .before .before .before .before .before .before .before .pre .1 in (y .0 .mult, y .1 .fits .small .mult, ap (λ (n : NumData). n .«base_multiplier») (y .1 .is))
+to-u64-requires-2 c κs = search needs
 
 put-u64-requires-3 : tie.Need-put-u64-requires-3
 put-u64-requires-3 c κs = search needs

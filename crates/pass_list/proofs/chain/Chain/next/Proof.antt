@@ -52,14 +52,10 @@ counted-requires : tie.Need-counted-requires
 counted-requires c κs = let p = c .before .before .before .before .pre .0 in let q = c .before .before .before .before .pre .1 in ((p .0 .edge, chain-edge (p .1)), q)
 
 to-u64-requires : tie.Need-to-u64-requires
-to-u64-requires c κs = let p = c .before .before .before .before .before .pre .0 in (p .0 .edge .value, p .1 .fits .small .value, ap (λ (k : Chain). k .edge .num .value) (p .1 .is))
+to-u64-requires c κs = search needs
 
 to-u64-requires-2 : tie.Need-to-u64-requires-2
-to-u64-requires-2 c κs =
-    let p = c .before .before .before .before .before .before .pre .0 in
-    let q = c .before .before .before .before .before .before .pre .1 in
-    let r = as-counted (c .before) (p .0) (q .0) (p .1) (q .1) in
-    (counted _ (p .0 .edge) (q .0) .value, r .fits .small .value, ap (λ (e : PassEdge). e .num .value) (r .is))
+to-u64-requires-2 c κs = search needs
 
 rule-requires : tie.Need-rule-requires
 rule-requires c κs = search needs

@@ -1,0 +1,141 @@
+/* Times the checks of a table and of a listing: nanoseconds for each record and each edge, the least of seven runs of at least 50 ms. */
+#include <stdint.h>
+#include <stdio.h>
+#include <stdlib.h>
+#include <string.h>
+#include <time.h>
+
+size_t timed_check_table(const uint8_t *table, size_t len);
+size_t timed_find_record(const uint8_t *table, size_t len, size_t at, size_t n, uint32_t c);
+size_t timed_check_listing(const uint8_t *listing, size_t len, size_t chars);
+size_t timed_walk(const uint8_t *listing, size_t len, size_t count);
+
+static uint8_t bytes[8 << 20];
+static size_t len;
+
+static void put(uint64_t v, int width) {
+    for (int i = 0; i < width; i++) bytes[len++] = (uint8_t)(v >> (8 * i));
+}
+
+static void text(const char *s, int width) {
+    size_t n = strlen(s);
+    put(n, width);
+    memcpy(bytes + len, s, n);
+    len += n;
+}
+
+/* Records of 40 or so bytes: type, rom, value, base, script. */
+static size_t table(unsigned n, const char *type, const char *rom, const char *script) {
+    len = 0;
+    put(n, 2);
+    put(1, 1);
+    text("%", 1);
+    for (int i = 0; i < 3; i++) put(0, 1);
+    size_t records = len;
+    for (unsigned i = 0; i < n; i++) {
+        put(0x10000 + i, 4);
+        put(1 + 2 + 8 + 32, 1);
+        text(type, 1);
+        text(rom, 1);
+        put(10, 8);
+        put(10, 8);
+        text(script, 1);
+    }
+    return records;
+}
+
+/* Edges over a line of 256 characters; numeric ones with value, base and script. */
+static void listing(unsigned n, int numeric, const char *type, const char *txt) {
+    len = 0;
+    put(n, 2);
+    for (unsigned i = 0; i < n; i++) {
+        put(numeric ? 1 + 2 + 8 + 32 : 0, 2);
+        put(i % 256, 2);
+        put(i % 256 + 1, 2);
+        text(type, 2);
+        text(txt, 2);
+        if (numeric) {
+            text(txt, 2);
+            put(0x4024000000000000u, 8);
+            put(10, 8);
+            text("Han", 2);
+        }
+    }
+}
+
+static double now(void) {
+    struct timespec t;
+    clock_gettime(CLOCK_MONOTONIC, &t);
+    return t.tv_sec * 1e9 + t.tv_nsec;
+}
+
+static size_t expected;
+
+static void same(size_t got) {
+    if (got != expected) {
+        printf("got %zu, expected %zu\n", got, expected);
+        exit(1);
+    }
+}
+
+#define TIME(n, call) \
+    do { \
+        double least = 1e18; \
+        for (int run = 0; run < 7; run++) { \
+            double from = now(), to; \
+            unsigned long rounds = 0; \
+            do { \
+                same(call); \
+                rounds++; \
+                to = now(); \
+            } while (to - from < 5e7); \
+            if ((to - from) / rounds < least) least = (to - from) / rounds; \
+        } \
+        printf(" %8.1f", least / (n)); \
+        fflush(stdout); \
+    } while (0)
+
+static void tables(const char *what, const char *type, const char *rom, const char *script) {
+    static const unsigned sizes[] = {16, 1500, 65535};
+    printf("%-44s", what);
+    for (int i = 0; i < 3; i++) {
+        table(sizes[i], type, rom, script);
+        expected = sizes[i];
+        TIME(sizes[i], timed_check_table(bytes, len));
+    }
+    printf("\n%-44s", "  find_record of the last");
+    for (int i = 0; i < 3; i++) {
+        size_t at = table(sizes[i], type, rom, script);
+        expected = len;
+        TIME(sizes[i], timed_find_record(bytes, len, at, sizes[i], 0x10000 + sizes[i] - 1));
+    }
+    printf("\n");
+}
+
+static void listings(const char *what, int numeric, const char *type, const char *txt) {
+    static const unsigned sizes[] = {10, 1000, 60000};
+    printf("%-44s", what);
+    for (int i = 0; i < 3; i++) {
+        listing(sizes[i], numeric, type, txt);
+        expected = sizes[i];
+        TIME(sizes[i], timed_check_listing(bytes, len, 256));
+    }
+    printf("\n%-44s", "  walk by next_at and edge_at");
+    for (int i = 0; i < 3; i++) {
+        listing(sizes[i], numeric, type, txt);
+        expected = sizes[i] < 256 ? sizes[i] : 256;
+        TIME(sizes[i], timed_walk(bytes, len, sizes[i]));
+    }
+    printf("\n");
+}
+
+int main(void) {
+    printf("ns a record, check_table                           16    1,500   65,535\n");
+    tables("short ASCII strings", "multi", "shi", "Han");
+    tables("strings of 3 bytes each", "\xE5\xA4\x9A", "\xE5\x8D\x81", "\xE6\xBC\xA2");
+    printf("\nns an edge, check_listing                          10    1,000   60,000\n");
+    listings("regular edges, ASCII", 0, "wylie", "bcu");
+    listings("regular edges, a text of 3 bytes", 0, "tib", "\xE5\x8D\x81");
+    listings("numeric edges, ASCII", 1, "numeric", "10");
+    return 0;
+}
