@@ -18,9 +18,9 @@ use Rattle.dicts.specs.Table.{Text, Record, Table}
 use Rattle.dicts.specs.Layout.{Field, Is, Fault, number, text, readRecord}
 use Rattle.dicts.specs.Check.{Checked, Fine, Refused, thenItem, item, legalMark, legalRecord, readTexts, readList, readRecords, readTable}
 use Rattle.dicts.specs.Answers.{tableOf, tableAnswer}
-use Rattle.dicts.specs.declared.check.Shape.{Shape}
-use Rattle.dicts.specs.declared.check.TableCheck.{TableCheck}
-use Rattle.dicts.specs.declared.check.TableCheck.the-variants as TableCheck
+use Rattle.dicts.specs.declared.shape.Shape.{Shape}
+use Rattle.dicts.specs.declared.shape.TableCheck.{TableCheck}
+use Rattle.dicts.specs.declared.shape.TableCheck.the-variants as TableCheck
 use Rattle.edge.specs.Check.{checkListing}
 use Rattle.edge.specs.Layout.{listed}
 use Rattle.edge.specs.declared.ListingCheck.{ListingCheck}

@@ -13,7 +13,7 @@ use lib.Dec.{eqb}
 use Rattle.text.specs.Line.{lineCheck}
 use Rattle.dicts.specs.Check.{Fine, readTable}
 use Rattle.dicts.specs.Answers.{tableOf}
-use Rattle.dicts.specs.declared.check.Shape.{Shape}
+use Rattle.dicts.specs.declared.shape.Shape.{Shape}
 use Rattle.edge.specs.Check.{checkListing}
 use Rattle.edge.specs.declared.ListingCheck.the-variants.{Edges}
 use Rattle.stages.specs.Ready.{Ready}

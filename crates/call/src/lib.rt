@@ -2,8 +2,8 @@
 ghost use mathlib.Core.Path.{_≡_};
 ghost use Rattle.call.specs.Answers.{number, place};
 ghost use Rattle.call.specs.Checks.{tableRefusal, RestIs, LentIs};
-use dicts::check::Shape;
-use dicts::check::TableCheck;
+use dicts::shape::Shape;
+use dicts::shape::TableCheck;
 use edge::ListingCheck;
 use text::LineCheck;
 use text::Offset;
@@ -79,7 +79,7 @@ fn table_refusal(number: u8, at: usize) -> Refusal
 fn check_rest(chars: usize, table: &[u8], edges: &[u8]) -> Lent
     ensures { λ r. ⌜ RestIs chars (now (table .entry)) (now (edges .entry)) r ⌝ }
 {
-    match dicts::check::check_table(table) {
+    match table_check::check_table(table) {
         TableCheck::Refused(number, at) => Lent::Refused(table_refusal(number, at)),
         TableCheck::Table(h) => match edge_check::check_listing(edges, chars, true) {
             ListingCheck::Refused(at) => Lent::Refused(Refusal::BadEdges(at)),

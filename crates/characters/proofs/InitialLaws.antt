@@ -14,7 +14,7 @@ use Rattle.dicts.specs.Table.{find}
 use Rattle.dicts.specs.Layout.{numbersIn, recordsAt}
 use Rattle.dicts.specs.Check.{rising, legalNumbers, digitRule}
 use Rattle.dicts.specs.Answers.{recordOf, tableOf}
-use Rattle.dicts.specs.declared.check.Shape.{Shape}
+use Rattle.dicts.specs.declared.shape.Shape.{Shape}
 use Rattle.dicts.specs.declared.layout.NumProp.{NumProp}
 use Rattle.dicts.proofs.LookupLaws.{table-rises}
 use Rattle.pass_list.specs.Item.{Small, Fits, nil, cons}

@@ -4,7 +4,7 @@ use mathlib.Core.List.{List}
 use Rattle.text.specs.Text.{chars}
 use Rattle.text.proofs.TextLaws.{chars-scalars}
 use Rattle.dicts.specs.Answers.{tableOf}
-use Rattle.dicts.specs.declared.check.Shape.{Shape}
+use Rattle.dicts.specs.declared.shape.Shape.{Shape}
 use Rattle.pass_list.specs.Stored.{itemsAt}
 use Rattle.pass_edges.proofs.Theorems.{FiveAre, five-are}
 use Rattle.characters.specs.Initial.{Initial}

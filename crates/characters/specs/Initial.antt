@@ -10,7 +10,7 @@ use lib.ListN.{length}
 use Rattle.text.specs.Text.{chars}
 use Rattle.dicts.specs.Check.{Fine, readTable}
 use Rattle.dicts.specs.Answers.{tableOf}
-use Rattle.dicts.specs.declared.check.Shape.{Shape}
+use Rattle.dicts.specs.declared.shape.Shape.{Shape}
 use Rattle.pass_list.specs.Item.{Every, AllSmall}
 use Rattle.pass_list.specs.Stored.{itemsAt}
 use Rattle.pass_edges.specs.FirstItems.{FirstItems}

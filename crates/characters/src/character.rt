@@ -6,11 +6,11 @@ ghost use Rattle.dicts.specs.Answers.{partOf, Within, Inside};
 ghost use Rattle.passes.specs.Passes.{cjk};
 ghost use Rattle.pass_list.specs.Item.{numData, Small, EdgeIs};
 ghost use Rattle.characters.specs.CharItem.{numberIf, charItem};
-use dicts::content::is_digit_type;
 use dicts::layout::NumProp;
 use dicts::layout::Part;
 use pass_list::record::NumData;
 use pass_list::record::PassEdge;
+use table_content::is_digit_type;
 use text::Offset;
 use text::Place;
 

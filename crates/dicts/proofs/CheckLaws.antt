@@ -13,9 +13,9 @@ use Rattle.dicts.specs.Table.{Text, Record, Table}
 use Rattle.dicts.specs.Layout.{Field, Is, Fault, onField, number, text, readRecord, manyAt, textsAt, recordsAt, listAt}
 use Rattle.dicts.specs.Check.{Checked, Fine, Refused, thenItem, item, legalMark, legalRecord, readTexts, readList, readRecords, readTable}
 use Rattle.dicts.specs.Answers.{endOf, tableOf}
-use Rattle.dicts.specs.declared.check.Items.{Items}
-use Rattle.dicts.specs.declared.check.Items.the-variants as Items
-use Rattle.dicts.specs.declared.check.Shape.{Shape}
+use Rattle.dicts.specs.declared.shape.Items.{Items}
+use Rattle.dicts.specs.declared.shape.Items.the-variants as Items
+use Rattle.dicts.specs.declared.shape.Shape.{Shape}
 use Rattle.dicts.proofs.LayoutLaws.{number-cut, number-is, byte-is}
 
 -- ---- one item

@@ -26,13 +26,13 @@ use Rattle.dicts.specs.declared.layout.NumbersAt.the-variants as Numbers
 use Rattle.dicts.specs.declared.layout.NumProp.{NumProp}
 use Rattle.dicts.specs.declared.layout.RecordAt.{RecordAt}
 use Rattle.dicts.specs.declared.layout.RecordAt.the-variants as RecordAt
-use Rattle.dicts.specs.declared.check.Items.{Items}
-use Rattle.dicts.specs.declared.check.Items.the-variants as Items
-use Rattle.dicts.specs.declared.check.RecordItem.{RecordItem}
-use Rattle.dicts.specs.declared.check.RecordItem.the-variants as RecordItem
-use Rattle.dicts.specs.declared.check.Shape.{Shape}
-use Rattle.dicts.specs.declared.check.TableCheck.{TableCheck}
-use Rattle.dicts.specs.declared.check.TableCheck.the-variants as TableCheck
+use Rattle.dicts.specs.declared.shape.Items.{Items}
+use Rattle.dicts.specs.declared.shape.Items.the-variants as Items
+use Rattle.dicts.specs.declared.shape.RecordItem.{RecordItem}
+use Rattle.dicts.specs.declared.shape.RecordItem.the-variants as RecordItem
+use Rattle.dicts.specs.declared.shape.Shape.{Shape}
+use Rattle.dicts.specs.declared.shape.TableCheck.{TableCheck}
+use Rattle.dicts.specs.declared.shape.TableCheck.the-variants as TableCheck
 
 abbrev pub partOf : List ℕ → Part → Text
 partOf s p = part s (p .at) (p .len)

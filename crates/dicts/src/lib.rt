@@ -1,6 +1,6 @@
-// The table of characters that a call is lent (01, "Table" and "Record"): reading its bytes, checking them, looking a character up.
+// The table of characters that a call is lent (01, "Table" and "Record"): reading its bytes and looking a character up. Crate `table_check` checks them.
+// The definitions of all three stand here.
 // Every `at` and `next` here is an offset in the table's bytes.
 pub mod layout; // layout.rt: a field, a string and a record at an offset
-pub mod content; // content.rt: what a string or a record may hold (cause 5)
-pub mod check; // check.rt: the whole table, and refusals 4 and 5
+pub mod shape; // shape.rt: the answers of the check
 pub mod lookup; // lookup.rt: the records one by one, and the record of a character

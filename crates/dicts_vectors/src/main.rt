@@ -1,14 +1,14 @@
-// Replays a list of tables, most of them damaged, against `dicts::check::check_table`: a line of standard input is a table in
+// Replays a list of tables, most of them damaged, against `table_check::check_table`: a line of standard input is a table in
 // hexadecimal, a space, and what is wrong with it. The answer goes to standard output with the same words, one line each.
 ghost use Prim.Native.Nat.{_≤_};
 ghost use lib.ListN.{length};
-use dicts::check::TableCheck;
+use dicts::shape::TableCheck;
 
 // Answers the first n bytes of a buffer as a table.
 fn report(buffer: &[u8], n: usize)
     requires { ⌜ n ≤ length (now buffer) ⌝ }
 {
-    match dicts::check::check_table(&buffer[..n]) {
+    match table_check::check_table(&buffer[..n]) {
         TableCheck::Table(shape) => {
             io::write_all(1, b"table of ");
             io::print_decimal(1, shape.count as u64);

@@ -137,9 +137,9 @@ module _ {w t s : List ℕ} {l : Lattice} {n : ℕ} {u : List ℕ} {m : Lattice}
   unfolding OneIs addedBy through
   going-next h v b j y o =
       let more : listedItems w t (addedBy (drop i five) (behind u k)) ≡ listedItems w t (added (nth i) (behind u k)) ++ listedItems w t (addedBy (drop (i + 1) five) (behind v j)) =
-            ap (λ (ps : List Pass). listedItems w t (addedBy ps (behind u k))) (nth-first i h)
-            ∙ ap (λ (z : List Item). listedItems w t (added (nth i) (behind u k) ++ addedBy (drop (i + 1) five) z)) (sym (o .list))
-            ∙ listed-append w t (added (nth i) (behind u k)) (addedBy (drop (i + 1) five) (behind v j)) in
+      ap (λ (ps : List Pass). listedItems w t (addedBy ps (behind u k))) (nth-first i h)
+      ∙ ap (λ (z : List Item). listedItems w t (added (nth i) (behind u k) ++ addedBy (drop (i + 1) five) z)) (sym (o .list))
+      ∙ listed-append w t (added (nth i) (behind u k)) (addedBy (drop (i + 1) five) (behind v j)) in
       record {
         long = y ∙ g .long;
         list = rw (add-one i) (o .next);
@@ -147,9 +147,11 @@ module _ {w t s : List ℕ} {l : Lattice} {n : ℕ} {u : List ℕ} {m : Lattice}
             ∙ above-later (nth i) (drop (i + 1) five) (behind u k) (o .below) ∙ ap (λ (z : List Item). firstAbove (addedBy (drop (i + 1) five) z)) (sym (o .list));
         after = g .after ∙ ap (λ (ps : List Pass). through ps (behind u k)) (nth-first i h) ∙ ap (through (drop (i + 1) five)) (sym (o .list));
         holds = λ es x.
-            let d = g .holds es x in
-            (addAll (d .0) (listedItems w t (added (nth i) (behind u k))), o .holds (d .0) (d .1),
-            sym (add-all-append (d .0) (listedItems w t (added (nth i) (behind u k))) (listedItems w t (addedBy (drop (i + 1) five) (behind v j)))) ∙ ap (addAll (d .0)) (sym more) ∙ d .2);
+            let d = g .holds es x in (
+              addAll (d .0) (listedItems w t (added (nth i) (behind u k))),
+              o .holds (d .0) (d .1),
+              sym (add-all-append (d .0) (listedItems w t (added (nth i) (behind u k))) (listedItems w t (addedBy (drop (i + 1) five) (behind v j)))) ∙ ap (addAll (d .0)) (sym more) ∙ d .2,
+            );
       }
 
   pub going-end : 5 ≤ i → i ≤ 5 → FiveIs w t s l n u (Added m k)

@@ -16,7 +16,7 @@ ghost use Rattle.numbers.specs.Fractions.{madeAt, usedEdges, newEdges, fraction
 ghost use Rattle.made.specs.Choice.{madeOf, Valid};
 ghost use Rattle.made.specs.Around.{Keeps, Around};
 ghost use Rattle.fractions.specs.Mades.{madesOf, usedBy, AllValid, Decided, Planned};
-use dicts::check::Shape;
+use dicts::shape::Shape;
 use lattice::Lattice;
 use made::Choice;
 use text::Place;

@@ -26,7 +26,7 @@ use Rattle.dicts.specs.Check.{Fine, Refused, item, legalMark, readTexts, readLi
 use Rattle.dicts.proofs.LookupLaws.{then-fine}
 use Rattle.pass_list.specs.Item.{nil, cons}
 use Rattle.dicts.specs.Answers.{tableOf}
-use Rattle.dicts.specs.declared.check.Shape.{Shape}
+use Rattle.dicts.specs.declared.shape.Shape.{Shape}
 use Rattle.dicts.proofs.LayoutLaws.{many-nil, many-fault, many-cons, list-texts, number-cut}
 use Rattle.stages.specs.Ready.{Ready}
 use Rattle.numbers.specs.Fractions.{standsAt, larger, longest, longer, markerAt}

@@ -1,7 +1,7 @@
 // Markers and signs of the table in the line (01, "The rest of the call"): the marker that counts at a place, and the sign before a place.
-use dicts::check::Shape;
 use dicts::layout::Part;
 use dicts::layout::TextAt;
+use dicts::shape::Shape;
 use text::Place;
 ghost use mathlib.Core.Path.{_≡_};
 ghost use mathlib.Core.Bool.{true};

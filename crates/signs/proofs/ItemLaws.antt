@@ -15,7 +15,7 @@ use Rattle.text.specs.Text.{chars}
 use Rattle.dicts.specs.Table.{Text, Table}
 use Rattle.dicts.specs.Layout.{listAt}
 use Rattle.dicts.specs.Answers.{tableOf}
-use Rattle.dicts.specs.declared.check.Shape.{Shape}
+use Rattle.dicts.specs.declared.shape.Shape.{Shape}
 use Rattle.passes.specs.NumEdge.{NumEdge}
 use Rattle.pass_list.specs.declared.record.PassEdge.{PassEdge}
 use Rattle.pass_list.specs.Item.{Item, EdgeIs, cons}

@@ -1,7 +1,7 @@
 // G6: signs directly before a number (01, "The rest of the call"): a regular edge from each sign on, minus before plus, in the table's order.
-use dicts::check::Shape;
 use dicts::layout::Part;
 use dicts::layout::TextAt;
+use dicts::shape::Shape;
 use lattice::Lattice;
 use markers::Sign;
 use pass_list::record::PassEdge;

@@ -10,7 +10,7 @@ use lib.ListN.{length, getD}
 use Rattle.text.specs.Text.{chars, wellFormed, offsetOf}
 use Rattle.dicts.specs.Check.{Fine, readTable}
 use Rattle.dicts.specs.Answers.{tableOf}
-use Rattle.dicts.specs.declared.check.Shape.{Shape}
+use Rattle.dicts.specs.declared.shape.Shape.{Shape}
 
 pub record Ready (line table : List ℕ) (h : Shape) (n : ℕ) : Type 0 where
   pub formed : wellFormed line ≡ true

@@ -9,8 +9,8 @@ use Rattle.dicts.specs.Check.{Fine, readTable}
 use Rattle.dicts.specs.Answers.{partOf, textField, tableOf, tableAnswer}
 use Rattle.dicts.specs.declared.layout.TextAt.{TextAt}
 use Rattle.dicts.specs.declared.layout.TextAt.the-variants as TextAt
-use Rattle.dicts.specs.declared.check.Shape.{Shape}
-use Rattle.dicts.specs.declared.check.TableCheck.the-variants as TableCheck
+use Rattle.dicts.specs.declared.shape.Shape.{Shape}
+use Rattle.dicts.specs.declared.shape.TableCheck.the-variants as TableCheck
 
 -- the strings from an answer on: it, and n behind it
 abbrev pub fromAnswer : List ℕ → ℕ → TextAt → List Text

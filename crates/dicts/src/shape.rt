@@ -1,0 +1,30 @@
+// What the check of a table answers (crate `table_check`): the table's shape, or a refusal.
+use crate::layout::NumProp;
+
+// What checking items gives: the offset behind them, or the refusal's number and offset.
+pub enum Items {
+    End(usize),
+    Refused(u8, usize),
+}
+
+// A record, or the refusal's number.
+pub enum RecordItem {
+    Record(NumProp),
+    Refused(u8),
+}
+
+// Where each list begins, at its count; how many records there are and where they begin.
+pub struct Shape {
+    pub percentages: usize,
+    pub connectors: usize,
+    pub plus: usize,
+    pub minus: usize,
+    pub count: usize,
+    pub records: usize,
+}
+
+// A table's shape, or the refusal's number and offset.
+pub enum TableCheck {
+    Table(Shape),
+    Refused(u8, usize),
+}

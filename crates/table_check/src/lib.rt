@@ -1,0 +1,136 @@
+// The whole table: the first faulty item decides, its layout (4) before its content (5).
+ghost use mathlib.Core.Path.{_≡_};
+ghost use Rattle.dicts.specs.Layout.{text, readRecord};
+ghost use Rattle.dicts.specs.Check.{item, legalMark, legalRecord, readTexts, readList, readRecords, readTable};
+ghost use Rattle.dicts.specs.Answers.{endOf, recordItem, tableAnswer};
+use dicts::layout::RecordAt;
+use dicts::layout::TextAt;
+use dicts::layout::record_at;
+use dicts::layout::text_at;
+use dicts::shape::Items;
+use dicts::shape::RecordItem;
+use dicts::shape::Shape;
+use dicts::shape::TableCheck;
+use table_content::legal_mark;
+use table_content::legal_record;
+
+fn mark_item(s: &[u8], at: usize) -> Items
+    ensures { λ r. ⌜ r ≡ endOf (item at legalMark (text (now (s .entry)) at)) ⌝ }
+{
+    match text_at(s, at) {
+        TextAt::Text(p, next) => {
+            if legal_mark(s, p) {
+                Items::End(next)
+            } else {
+                Items::Refused(5, at)
+            }
+        }
+        TextAt::Fault => Items::Refused(4, at),
+    }
+}
+
+// The strings of a list, n of them.
+fn texts_end(s: &[u8], from: usize, n: usize) -> Items
+    ensures { λ r. ⌜ r ≡ endOf (readTexts n (now (s .entry)) from) ⌝ }
+{
+    let mut at = from;
+    let mut left = n;
+    while 0 < left {
+        match mark_item(s, at) {
+            Items::End(next) => {
+                at = next;
+                left -= 1;
+            }
+            Items::Refused(number, place) => {
+                return Items::Refused(number, place);
+            }
+        }
+    }
+    Items::End(at)
+}
+
+// A list: its count, then its strings.
+fn list_end(s: &[u8], at: usize) -> Items
+    ensures { λ r. ⌜ r ≡ endOf (readList (now (s .entry)) at) ⌝ }
+{
+    if s.len() <= at {
+        return Items::Refused(4, at);
+    }
+    let n = s[at] as usize;
+    texts_end(s, at + 1, n)
+}
+
+fn record_item(s: &[u8], at: usize, least: u64) -> RecordItem
+    ensures { λ r. ⌜ recordItem (now (s .entry)) at r ≡ item at (legalRecord least) (readRecord (now (s .entry)) at) ⌝ }
+{
+    match record_at(s, at) {
+        RecordAt::Record(p) => {
+            if legal_record(s, p, least) {
+                RecordItem::Record(p)
+            } else {
+                RecordItem::Refused(5)
+            }
+        }
+        RecordAt::Fault => RecordItem::Refused(4),
+    }
+}
+
+// The records, n of them, their code points rising.
+fn records_end(s: &[u8], from: usize, n: usize) -> Items
+    ensures { λ r. ⌜ r ≡ endOf (readRecords n 0 (now (s .entry)) from) ⌝ }
+{
+    let mut at = from;
+    let mut left = n;
+    let mut least: u64 = 0;
+    while 0 < left {
+        match record_item(s, at, least) {
+            RecordItem::Record(p) => {
+                at = p.next;
+                least = p.code_point as u64 + 1;
+                left -= 1;
+            }
+            RecordItem::Refused(number) => {
+                return Items::Refused(number, at);
+            }
+        }
+    }
+    Items::End(at)
+}
+
+// The table that the bytes are, or why they are none.
+pub fn check_table(s: &[u8]) -> TableCheck
+    ensures { λ r. ⌜ tableAnswer (now (s .entry)) r ≡ readTable (now (s .entry)) ⌝ }
+{
+    if s.len() < 2 {
+        return TableCheck::Refused(4, 0);
+    }
+    let count = fields::u16_at(s, 0) as usize;
+    match list_end(s, 2) {
+        Items::Refused(number, at) => TableCheck::Refused(number, at),
+        Items::End(connectors) => match list_end(s, connectors) {
+            Items::Refused(number, at) => TableCheck::Refused(number, at),
+            Items::End(plus) => match list_end(s, plus) {
+                Items::Refused(number, at) => TableCheck::Refused(number, at),
+                Items::End(minus) => match list_end(s, minus) {
+                    Items::Refused(number, at) => TableCheck::Refused(number, at),
+                    Items::End(records) => match records_end(s, records, count) {
+                        Items::Refused(number, at) => TableCheck::Refused(number, at),
+                        Items::End(end) => {
+                            if end != s.len() {
+                                return TableCheck::Refused(4, end);
+                            }
+                            TableCheck::Table(Shape {
+                                percentages: 2,
+                                connectors: connectors,
+                                plus: plus,
+                                minus: minus,
+                                count: count,
+                                records: records,
+                            })
+                        }
+                    },
+                },
+            },
+        },
+    }
+}
