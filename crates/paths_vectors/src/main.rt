@@ -58,19 +58,19 @@ fn left(place: usize, skip: bool) {
 fn shown(place: usize) {
     let l = listing();
     let line = *b"ab\xe4\xba\x94";
-    let w = paths::shown_text(&line, &l, Place(place));
+    let w = shown::shown_text(&line, &l, Place(place));
     match w {
         Shown::Refused(r) => {
             show_refusal(r);
         }
         Shown::Line(_) => {
             io::write_all(1, b"line ");
-            io::write_all(1, paths::shown_part(&line, &l, w));
+            io::write_all(1, shown::shown_part(&line, &l, w));
             io::write_all(1, b"\n");
         }
         Shown::Listing(_) => {
             io::write_all(1, b"listing ");
-            io::write_all(1, paths::shown_part(&line, &l, w));
+            io::write_all(1, shown::shown_part(&line, &l, w));
             io::write_all(1, b"\n");
         }
     }
@@ -92,7 +92,7 @@ fn show_written(w: Written) {
 fn path(start: usize, end: usize, skip: bool) {
     let l = listing();
     let mut out = [0u8; 64];
-    show_written(paths::path(
+    show_written(path_listing::path(
         b"ab\xe4\xba\x94",
         &l,
         Place(start),
@@ -106,7 +106,7 @@ fn path(start: usize, end: usize, skip: bool) {
 fn exact() {
     let l = listing();
     let mut out = [7u8; 16];
-    show_written(paths::path(b"ab\xe4\xba\x94", &l, Place(0), Place(3), true, &mut out));
+    show_written(path_listing::path(b"ab\xe4\xba\x94", &l, Place(0), Place(3), true, &mut out));
     show_answer(paths::best_edge(b"ab\xe4\xba\x94", &out, Place(0), Place(2), false));
 }
 
@@ -114,7 +114,7 @@ fn exact() {
 fn short() {
     let l = listing();
     let mut out = [7u8; 15];
-    show_written(paths::path(b"ab\xe4\xba\x94", &l, Place(0), Place(3), true, &mut out));
+    show_written(path_listing::path(b"ab\xe4\xba\x94", &l, Place(0), Place(3), true, &mut out));
     if out[0] == 7 {
         io::write_all(1, b"untouched\n");
     }
@@ -124,14 +124,14 @@ fn short() {
 fn no_place() {
     let l = listing();
     let mut out = [7u8; 2];
-    show_written(paths::path(b"ab\xe4\xba\x94", &l, Place(2), Place(2), false, &mut out));
+    show_written(path_listing::path(b"ab\xe4\xba\x94", &l, Place(2), Place(2), false, &mut out));
     show_answer(paths::right_neighbor(b"ab\xe4\xba\x94", &out, Place(0), false));
 }
 
 fn no_room() {
     let l = listing();
     let mut out = [7u8; 1];
-    show_written(paths::path(b"ab\xe4\xba\x94", &l, Place(2), Place(2), false, &mut out));
+    show_written(path_listing::path(b"ab\xe4\xba\x94", &l, Place(2), Place(2), false, &mut out));
 }
 
 // The refusals in their order: 2, 3, 6, then 9.

@@ -132,7 +132,7 @@ pub extern "C" fn rilvostam_path(
     ensures place { λ _. ⌜ now (at .exit) ≡ writtenAt (written (pathOut (now (line .entry)) (now (listing .entry)) (placeOf start) (placeOf end) (isSet skip) (length (now (out .entry))))) ⌝ }
     ensures output { λ _. ⌜ now (out .exit) ≡ after (now (out .entry)) (pathOut (now (line .entry)) (now (listing .entry)) (placeOf start) (placeOf end) (isSet skip) (length (now (out .entry)))) ⌝ }
 {
-    let a = paths::path(
+    let a = path_listing::path(
         line,
         listing,
         Place(start as usize),
@@ -199,7 +199,7 @@ pub extern "C" fn rilvostam_shown_text(
     ensures len { λ _. ⌜ now (len .exit) ≡ shownLen (shown (now (line .entry)) (now (listing .entry)) (placeOf place)) ⌝ }
     ensures within { λ _. ⌜ now (within .exit) ≡ inListing (shown (now (line .entry)) (now (listing .entry)) (placeOf place)) ⌝ }
 {
-    let a = paths::shown_text(line, listing, Place(place as usize));
+    let a = shown::shown_text(line, listing, Place(place as usize));
     *at = shown_at(a);
     *len = shown_len(a);
     *within = in_listing(a);

@@ -6,7 +6,7 @@ use Rattle.rilvostam.proofs.rilvostam_path.Statement.{statement}
 use Rattle.rilvostam.proofs.rilvostam_path.Tie as tie
 use Rattle.rilvostam.proofs.rilvostam_path.Reads as reads
 use Rattle.rilvostam.proofs.rilvostam_path.Lts as lts
-use Rattle.paths.proofs.path.Reads as path-reads
+use Rattle.path_listing.proofs.path.Reads as path-reads
 use Rattle.rilvostam.proofs.written_at.Reads as written-at-reads
 use Rattle.rilvostam.proofs.written_status.Reads as written-status-reads
 

@@ -6,7 +6,7 @@ use Rattle.rilvostam.proofs.rilvostam_shown_text.Statement.{statement}
 use Rattle.rilvostam.proofs.rilvostam_shown_text.Tie as tie
 use Rattle.rilvostam.proofs.rilvostam_shown_text.Reads as reads
 use Rattle.rilvostam.proofs.rilvostam_shown_text.Lts as lts
-use Rattle.paths.proofs.shown_text.Reads as shown-text-reads
+use Rattle.shown.proofs.shown_text.Reads as shown-text-reads
 use Rattle.rilvostam.proofs.in_listing.Reads as in-listing-reads
 use Rattle.rilvostam.proofs.shown_at.Reads as shown-at-reads
 use Rattle.rilvostam.proofs.shown_len.Reads as shown-len-reads

@@ -1,11 +1,11 @@
--- `paths::right_neighbors` meets its contract. The loop's invariant: for each place what is kept and the edges that are left have its right neighbour
+-- `path_listing::right_neighbors` meets its contract. The loop's invariant: for each place what is kept and the edges that are left have its right neighbour
 -- (`Table`). The measure is how many are left. Assumes nothing.
 use native.Mathlib.Omega.{arith}
 use borrow.Author.Needs.{needs}
 use Rattle.edge.proofs.CheckLaws.{head-within}
 use Rattle.paths.proofs.TableLaws.{Table, table-start, table-first, table-head, table-place, table-turn, table-ends}
-use Rattle.paths.proofs.right_neighbors.Statement.{statement}
-use Rattle.paths.proofs.right_neighbors.Tie as tie
+use Rattle.path_listing.proofs.right_neighbors.Statement.{statement}
+use Rattle.path_listing.proofs.right_neighbors.Tie as tie
 
 abbrev Inv-loop : tie.InvT-loop
 Inv-loop s count skip tops₀ ats₀ at₀ left₀ tops ats at left = Table skip s count at left tops ats

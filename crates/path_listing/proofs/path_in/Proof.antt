@@ -1,17 +1,17 @@
--- `paths::path_in` meets its contract, by the size of the path. Assumes nothing.
+-- `path_listing::path_in` meets its contract, by the size of the path. Assumes nothing.
 use mathlib.Core.Path.{_≡_, sym, _∙_}
 use mathlib.Core.List.{List}
 use Prim.Native.Nat.{ℕ}
 use native.Mathlib.Omega.{arith}
 use lib.ListN.{length}
 use Rattle.paths.specs.declared.Size.the-variants.{Fits}
 use Rattle.paths.specs.Path.{path}
 use Rattle.paths.specs.Table.{byTable, sizeOf}
 use Rattle.paths.proofs.TableLaws.{rights-steps}
 use Rattle.paths.proofs.PathLaws.{path-over, fits-count, fits-head, fits-edges, path-written}
 use borrow.Author.Needs.{needs}
-use Rattle.paths.proofs.path_in.Statement.{statement}
-use Rattle.paths.proofs.path_in.Tie as tie
+use Rattle.path_listing.proofs.path_in.Statement.{statement}
+use Rattle.path_listing.proofs.path_in.Tie as tie
 
 -- the tables after the walk over the listing
 abbrev tops-of : tie.After-right-neighbors → List ℕ

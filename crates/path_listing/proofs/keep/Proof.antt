@@ -1,9 +1,9 @@
--- `paths::keep` meets its contract, by whether the edge scores higher. Assumes nothing.
+-- `path_listing::keep` meets its contract, by whether the edge scores higher. Assumes nothing.
 use mathlib.Core.Path.{_≡_}
 use borrow.Author.Tests.{lt-ltb, le-ltb}
 use borrow.Author.Needs.{needs}
-use Rattle.paths.proofs.keep.Statement.{statement}
-use Rattle.paths.proofs.keep.Tie as tie
+use Rattle.path_listing.proofs.keep.Statement.{statement}
+use Rattle.path_listing.proofs.keep.Tie as tie
 
 mul-if1 : tie.Need-mul-if1
 mul-if1 c = search needs

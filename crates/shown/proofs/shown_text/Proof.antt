@@ -1,12 +1,12 @@
--- `paths::shown_text` meets its contract, by what the checks answer. Assumes nothing.
+-- `shown::shown_text` meets its contract, by what the checks answer. Assumes nothing.
 use mathlib.Core.Path.{_≡_, sym, _∙_}
 use borrow.Author.Needs.{needs}
 use Rattle.paths.specs.declared.Checked.the-variants as Checked
 use Rattle.paths.specs.Reading.{readCheck}
 use Rattle.paths.proofs.ReadingLaws.{reads}
 use Rattle.paths.proofs.ShownLaws.{shown-refused, shown-outside, shown-inside}
-use Rattle.paths.proofs.shown_text.Statement.{statement}
-use Rattle.paths.proofs.shown_text.Tie as tie
+use Rattle.shown.proofs.shown_text.Statement.{statement}
+use Rattle.shown.proofs.shown_text.Tie as tie
 
 check-requires : tie.Need-check-requires
 check-requires c κs = search needs

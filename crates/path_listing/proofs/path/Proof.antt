@@ -1,18 +1,18 @@
--- `paths::path` meets its contract, by what the checks answer: answer and output are of one decision. Assumes nothing.
+-- `path_listing::path` meets its contract, by what the checks answer: answer and output are of one decision. Assumes nothing.
 use mathlib.Core.Path.{_≡_, sym, ap, _∙_}
 use mathlib.Core.Bool.{true}
 use native.Mathlib.Nat.{le-trans}
 use lib.ListN.{length}
 use borrow.Author.Tests.{not-true, not-false}
 use Rattle.paths.specs.declared.Checked.the-variants as Checked
 use Rattle.paths.specs.declared.Query.the-variants as Query
 use Rattle.paths.specs.Reading.{readCheck, inside}
 use Rattle.paths.specs.Path.{written, after}
 use Rattle.paths.proofs.ReadingLaws.{reads, spans-le}
 use Rattle.paths.proofs.PathLaws.{out-refused, out-outside, out-inside, span-inside}
 use borrow.Author.Needs.{needs}
-use Rattle.paths.proofs.path.Statement.{statement}
-use Rattle.paths.proofs.path.Tie as tie
+use Rattle.path_listing.proofs.path.Statement.{statement}
+use Rattle.path_listing.proofs.path.Tie as tie
 
 -- the checks refuse nothing, and the places are within the line
 is-readable : (c : tie.After-known-told2) → let a = c .before .before .before .before .before .before .before .args in

@@ -1,11 +1,11 @@
--- `paths::shown_at` meets its contract, by the right neighbour. Assumes nothing.
+-- `shown::shown_at` meets its contract, by the right neighbour. Assumes nothing.
 use mathlib.Core.Path.{sym, _∙_}
 use native.Mathlib.Omega.{arith}
 use Rattle.paths.proofs.ReadingLaws.{spans-whole, found-head}
 use Rattle.paths.proofs.ShownLaws.{offset-next, shown-listing, shown-line}
 use borrow.Author.Needs.{needs}
-use Rattle.paths.proofs.shown_at.Statement.{statement}
-use Rattle.paths.proofs.shown_at.Tie as tie
+use Rattle.shown.proofs.shown_at.Statement.{statement}
+use Rattle.shown.proofs.shown_at.Tie as tie
 
 best-of-requires : tie.Need-best-of-requires
 best-of-requires c κs = spans-whole _ _ _ _ (c .before .before .pre .0)

@@ -1,0 +1,82 @@
+// The text shown at a place of a line (01, "Added: ..").
+ghost use mathlib.Core.Path.{_≡_};
+ghost use mathlib.Core.Bool.{false};
+ghost use Prim.Native.Nat.{_+_, _<_};
+ghost use Rattle.edge.specs.View.{textOf};
+ghost use Rattle.paths.specs.declared.Query.the-variants as Query;
+ghost use Rattle.paths.specs.Best.{best, withOffsets, found};
+ghost use Rattle.paths.specs.Reading.{Spans};
+ghost use Rattle.paths.specs.Shown.{shownBy, shown, shownPart};
+use edge::Part;
+use paths::Checked;
+use paths::Found;
+use paths::Query;
+use paths::Refusal;
+use paths::Shown;
+use paths::best_of;
+use paths::check;
+use text::Place;
+
+// The text shown at a place of a line of so many characters.
+fn shown_at(line: &[u8], listing: &[u8], chars: usize, count: usize, place: Place) -> Shown
+    requires { ⌜ Spans chars count (now listing) 2 × (place .0 < chars) ⌝ }
+    ensures { λ r. ⌜ r ≡ shownBy (now (line .entry)) (now (listing .entry)) (place .0) (found (best false (Query.Right place) (withOffsets count (now (listing .entry)) 2))) ⌝ }
+{
+    match best_of(listing, 2, count, Query::Right(place), false) {
+        Found::At(at) => {
+            let e = edge::edge_at(listing, at.0);
+            let txt = e.txt;
+            Shown::Listing(txt)
+        }
+        Found::Nothing => {
+            let from = text::offset_of(line, place);
+            let to = text::offset_of(line, Place(place.0 + 1));
+            Shown::Line(Part {
+                at: from.0,
+                len: to.0 - from.0,
+            })
+        }
+    }
+}
+
+// The text shown at a place.
+pub fn shown_text(line: &[u8], listing: &[u8], place: Place) -> Shown
+    ensures { λ r. ⌜ r ≡ shown (now (line .entry)) (now (listing .entry)) place ⌝ }
+{
+    match check(line, listing) {
+        Checked::Refused(r) => Shown::Refused(r),
+        Checked::Readable(chars, count) => {
+            if chars <= place.0 {
+                return Shown::Refused(Refusal::BadPlace);
+            }
+            shown_at(line, listing, chars, count, place)
+        }
+    }
+}
+
+// A part of a slice; what of it is behind the slice's end is left out.
+fn part_of(s: &[u8], p: Part) -> &[u8]
+    ensures { λ r. ⌜ now r ≡ textOf (now (s .entry)) p ⌝ }
+{
+    let at = p.at;
+    let len = p.len;
+    if s.len() <= at {
+        return &s[..0];
+    }
+    if s.len() - at < len {
+        return &s[at..];
+    }
+    let end = at + len;
+    &s[at..end]
+}
+
+// The bytes of a text shown, a part of the slice that it names; none for a refusal.
+pub fn shown_part<'a>(line: &'a [u8], listing: &'a [u8], w: Shown) -> &'a [u8]
+    ensures { λ r. ⌜ now r ≡ shownPart (now (line .entry)) (now (listing .entry)) w ⌝ }
+{
+    match w {
+        Shown::Listing(p) => part_of(listing, p),
+        Shown::Line(p) => part_of(line, p),
+        Shown::Refused(_) => &line[..0],
+    }
+}
