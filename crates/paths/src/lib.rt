@@ -7,8 +7,6 @@ ghost use Rattle.edge.specs.Layout.{edgeAt, headEnd};
 ghost use Rattle.edge.specs.View.{textOf};
 ghost use Rattle.paths.specs.Best.{startsWith, regularClass, class, asked, score, best, withOffsets, Whole, found};
 ghost use Rattle.paths.specs.Reading.{number, place, readCheck, inside, answer};
-ghost use Rattle.paths.specs.Shown.{shown};
-ghost use Rattle.paths.specs.Path.{path};
 use edge::ListingCheck;
 use edge::Part;
 use text::LineCheck;
