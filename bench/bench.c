@@ -5,6 +5,8 @@
 #include <string.h>
 #include <time.h>
 
+#include "rilvostam.h"
+
 size_t timed_check_table(const uint8_t *table, size_t len);
 size_t timed_find_record(const uint8_t *table, size_t len, size_t at, size_t n, uint32_t c);
 size_t timed_check_listing(const uint8_t *listing, size_t len, size_t chars);
@@ -70,6 +72,14 @@ static double now(void) {
 }
 
 static size_t expected;
+static uint8_t line[256];
+
+/* The best edge over the line's last character: line and listing are checked, then every edge is looked at. */
+static size_t best(void) {
+    uint64_t at;
+    uint32_t refused = rilvostam_best_edge(line, sizeof line, bytes, len, 255, 256, 0, &at);
+    return refused ? SIZE_MAX - 1 : at == RILVOSTAM_NONE ? 0 : 1;
+}
 
 static void same(size_t got) {
     if (got != expected) {
@@ -126,10 +136,17 @@ static void listings(const char *what, int numeric, const char *type, const char
         expected = sizes[i] < 256 ? sizes[i] : 256;
         TIME(sizes[i], timed_walk(bytes, len, sizes[i]));
     }
+    printf("\n%-44s", "  rilvostam_best_edge");
+    for (int i = 0; i < 3; i++) {
+        listing(sizes[i], numeric, type, txt);
+        expected = sizes[i] > 255;
+        TIME(sizes[i], best());
+    }
     printf("\n");
 }
 
 int main(void) {
+    memset(line, 'x', sizeof line);
     printf("ns a record, check_table                           16    1,500   65,535\n");
     tables("short ASCII strings", "multi", "shi", "Han");
     tables("strings of 3 bytes each", "\xE5\xA4\x9A", "\xE5\x8D\x81", "\xE6\xBC\xA2");
