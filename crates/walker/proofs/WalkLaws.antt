@@ -61,3 +61,9 @@ pub onward-step : (s : List ℕ) (at left : ℕ) {next end : ℕ} → 0 < left �
 unfolding onward
 onward-step s at zero h n e = absurd (omega arith)
 onward-step s at (suc left) h n e = let m : suc left - 1 ≡ left = omega arith in rw (m, n) e
+
+-- where a step leads nowhere, no number of steps does
+pub onward-stuck : (s : List ℕ) (at left : ℕ) {next end : ℕ} → next ≡ behind s at → next ≡ at → onward left s at ≡ end → at ≡ end
+unfolding onward
+onward-stuck s at zero n m e = e
+onward-stuck s at (suc left) n m e = onward-stuck s at left n m (ap (onward left s) (sym m ∙ n) ∙ e)

@@ -51,14 +51,18 @@ fn behind(listing: &[u8], at: usize) -> usize
     }
 }
 
-// Where a walk from the front stands after i steps.
+// Where a walk from the front stands after i steps. It stops at its end, however many steps are left.
 fn onward(listing: &[u8], i: usize) -> usize
     ensures { λ r. ⌜ r ≡ onward i (now (listing .entry)) 2 ⌝ }
 {
     let mut at = FIRST;
     let mut left = i;
     while 0 < left {
-        at = behind(listing, at);
+        let next = behind(listing, at);
+        if next == at {
+            return at;
+        }
+        at = next;
         left -= 1;
     }
     at
