@@ -1,4 +1,5 @@
--- Laws of an item's texts. In order: the strings of a record are short; a character's bytes; the txt and the type of an item, case by case.
+-- Laws of an item's texts. In order: the strings of a record are short; a character's bytes; a text at the front of a buffer; the txt and the type of a
+-- character, by its record; the line's bytes between two places; the names of the passes; the texts of an item, and that they are short.
 use mathlib.Core.Path.{_≡_, refl, sym, ap, _∙_, subst}
 use mathlib.Core.Bool.{Bool, true, false, cond}
 use mathlib.Core.List.{List, [], _∷_, _++_}
