@@ -1,0 +1,2 @@
+-- The definitions that the contracts of `listing_rows` cite.
+pub mod ListingRows

@@ -1,0 +1,2 @@
+-- Laws of the rows, for the crate's own proofs and its callers'.
+pub mod RowsLaws

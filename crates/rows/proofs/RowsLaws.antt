@@ -1,0 +1,163 @@
+-- Laws of the rows (`specs/Rows.antt`): what stands behind one another, how long it is, and what a writer answers. No contract cites this file.
+-- In order: one column; the mark; a row's columns; the row of an edge of a listing; the row of a refusal.
+use mathlib.Core.Path.{_≡_, refl, sym, ap, _∙_}
+use mathlib.Core.Bool.{Bool, true, false, not, cond}
+use mathlib.Core.List.{List, [], _∷_, _++_}
+use Prim.Native.Nat.{ℕ, _+_, _-_, _≤_, _<_}
+use native.Mathlib.Nat.{add-sub-cancel-left}
+use native.Mathlib.Omega.{arith}
+use lib.ListN.{length, set, take, drop, length-append}
+use lib.Seq.{sets}
+use borrow.Author.Tests.{not-true, not-false}
+use Rattle.whole.specs.Decimal.{decimal}
+use Rattle.whole.proofs.SetsLaws.{sets-then}
+use Rattle.fields.specs.Part.{part}
+use Rattle.fields.proofs.PartLaws.{length-part}
+use Rattle.edge.specs.declared.Part.{Part}
+use Rattle.edge.specs.declared.EdgeView.{EdgeView}
+use Rattle.edge.specs.declared.Written.the-variants.{To, NoRoom}
+use Rattle.edge.specs.Edge.{Text, Numeric}
+use Rattle.edge.specs.Layout.{stands, only, mapAt, textAt, stringEnd, headEnd, nextAt, numericAt, edgeAt}
+use Rattle.edge.specs.View.{textOf, viewAt}
+use Rattle.edge.specs.Write.{written, writtenTo, Put}
+use Rattle.edge.proofs.CheckLaws.{head-within, type-within, txt-within}
+use Rattle.edge.proofs.WriteLaws.{put-then, no-room, put-there}
+use Rattle.rows.specs.Rows.{ended, mark, row, rowBytes, refusedBytes, viewMark, viewRow}
+
+-- ---- one column
+pub put-ended : (bs s : List ℕ) {t : List ℕ} (at by : ℕ) {end : ℕ} → t ≡ sets s at bs → end ≡ at + length bs → Put s (set t end by) at (end + 1) (ended bs by)
+put-ended bs s at by {end} e k = record { wrote = sets-then s at end bs (by ∷ []) e k refl; next = simp length-append (omega arith) }
+
+-- the part that is lent to a writer
+pub put-slice : (s : List ℕ) (p : Part) (by : ℕ) {w t : List ℕ} {at r : ℕ} → Put w t at r (ended (take (p .at + p .len - p .at) (drop (p .at) s)) by) → Put w t at r (ended (textOf s p) by)
+unfolding part
+put-slice s p by q = rw (add-sub-cancel-left (p .at) (p .len)) at q
+
+-- ---- the mark
+module _ (m : ℕ) (b : Bool) (bit-0 : b ≡ stands 0 m) where
+  pub mark-regular : not b ≡ true → 45 ≡ viewMark m
+  mark-regular off = rw (sym bit-0 ∙ not-true b off)
+
+  module _ (on : not b ≡ false) (a : Bool) (bit-7 : a ≡ stands 7 m) where
+    pub mark-active : a ≡ true → 49 ≡ viewMark m
+    mark-active h = rw (sym bit-0 ∙ not-false b on, sym bit-7 ∙ h)
+
+    pub mark-inactive : a ≡ false → 48 ≡ viewMark m
+    mark-inactive h = rw (sym bit-0 ∙ not-false b on, sym bit-7 ∙ h)
+
+mark-only : (b : Bool) (n : Numeric) → cond b (cond (n .active) 49 48) 45 ≡ mark (only b n)
+mark-only true n = refl
+mark-only false n = refl
+
+-- ---- a row's columns
+pub length-row : (a z : ℕ) (ty tx : Text) (m : ℕ) → length (row a z ty tx m) ≡ length (decimal a) + length (decimal z) + length ty + length tx + 6
+unfolding row
+length-row a z ty tx m = simp length-append (omega arith)
+
+module _ (s : List ℕ) (e : EdgeView) (ty-in : e .ty .at + e .ty .len ≤ length s) (tx-in : e .txt .at + e .txt .len ≤ length s) where
+  pub length-view-row : length (viewRow s e) ≡ length (decimal (e .start .0)) + length (decimal (e .end .0)) + e .ty .len + e .txt .len + 6
+  length-view-row =
+      let t = length-part s (e .ty .at) (e .ty .len) ty-in in
+      let x = length-part s (e .txt .at) (e .txt .len) tx-in in
+      length-row (e .start .0) (e .end .0) (textOf s (e .ty)) (textOf s (e .txt)) (viewMark (e .map)) ∙ rw (t, x)
+
+  -- the room for each column
+  module _ (at n : ℕ) (room : at + length (viewRow s e) ≤ n) where
+    pub start-room : at + length (decimal (e .start .0)) + 1 ≤ n
+    start-room = let l = length-view-row in omega arith
+
+    module _ {t u : List ℕ} {k : ℕ} (p : Put t u at k (ended (decimal (e .start .0)) 9)) where
+      pub end-room : k + length (decimal (e .end .0)) + 1 ≤ n
+      end-room = let l = length-view-row in let i = p .next in let j = length-append (decimal (e .start .0)) (9 ∷ []) in omega arith
+
+      module _ {v : List ℕ} {h : ℕ} (q : Put u v k h (ended (decimal (e .end .0)) 9)) where
+        pub type-room : h + e .ty .len + 1 ≤ n
+        type-room =
+            let l = length-view-row in
+            let i = p .next in
+            let j = length-append (decimal (e .start .0)) (9 ∷ []) in
+            let x = q .next in
+            let y = length-append (decimal (e .end .0)) (9 ∷ []) in
+            omega arith
+
+        module _ {w : List ℕ} {g : ℕ} (r : Put v w h g (ended (textOf s (e .ty)) 9)) where
+          past-type : g ≡ at + length (decimal (e .start .0)) + length (decimal (e .end .0)) + e .ty .len + 3
+          past-type =
+              let i = p .next in
+              let j = length-append (decimal (e .start .0)) (9 ∷ []) in
+              let x = q .next in
+              let y = length-append (decimal (e .end .0)) (9 ∷ []) in
+              let a = r .next in
+              let b = length-append (textOf s (e .ty)) (9 ∷ []) in
+              let c = length-part s (e .ty .at) (e .ty .len) ty-in in
+              omega arith
+
+          pub txt-room : g + e .txt .len + 1 ≤ n
+          txt-room = let l = length-view-row in let x = past-type in omega arith
+
+          pub mark-room : {x : List ℕ} {f : ℕ} → Put w x g f (ended (textOf s (e .txt)) 9) → f + 2 ≤ n
+          mark-room o =
+              let l = length-view-row in
+              let x = past-type in
+              let a = o .next in
+              let b = length-append (textOf s (e .txt)) (9 ∷ []) in
+              let c = length-part s (e .txt .at) (e .txt .len) tx-in in
+              omega arith
+
+pub put-all-columns : (a z : ℕ) (ty tx : Text) (m : ℕ) {b : ℕ} {s t u v w x : List ℕ} {at h i j k r : ℕ} → b ≡ m
+    → Put s t at h (ended (decimal a) 9) → Put t u h i (ended (decimal z) 9) → Put u v i j (ended ty 9) → Put v w j k (ended tx 9) → Put w x k r (ended (b ∷ []) 10)
+    → Put s x at r (row a z ty tx m)
+unfolding row
+put-all-columns a z ty tx m e p q f g h = put-then p (put-then q (put-then f (put-then g (rw e at h))))
+
+-- ---- the row of an edge of a listing
+module _ (s : List ℕ) (from : ℕ) (e : EdgeView) (read : e ≡ viewAt s from) (there : nextAt s from ≤ length s) where
+  row-is : viewRow s e ≡ rowBytes (edgeAt s from)
+  unfolding viewAt edgeAt textAt numericAt
+  row-is = rw read (ap (row _ _ _ _) (mark-only (stands 0 (mapAt s from)) (numericAt (mapAt s from) s (headEnd s from))))
+
+  pub type-in : e .ty .at + e .ty .len ≤ length s
+  type-in = type-within s from (length s) e read (head-within s from (length s) there)
+
+  pub txt-in : e .txt .at + e .txt .len ≤ length s
+  txt-in = txt-within s from (length s) e read (head-within s from (length s) there)
+
+  pub texts-in : e .ty .len + e .txt .len ≤ length s
+  unfolding viewAt stringEnd
+  texts-in = rw read (let h = head-within s from (length s) there in omega arith)
+
+  module _ (out : List ℕ) (at : ℕ) (inside : at ≤ length out) {a z : ℕ} (a-is : a ≡ length (decimal (e .start .0)) + 1) (z-is : z ≡ length (decimal (e .end .0)) + 1) where
+    pub row-no-room : length out - at < a + z + e .ty .len + e .txt .len + 4
+        → (NoRoom ≡ written out at (rowBytes (edgeAt s from))) × (out ≡ writtenTo out at (rowBytes (edgeAt s from)))
+    row-no-room h = rw (sym row-is) (let l = length-view-row s e type-in txt-in in no-room out at (viewRow s e) (omega arith))
+
+    pub row-room : a + z + e .ty .len + e .txt .len + 4 ≤ length out - at → at + length (viewRow s e) ≤ length out
+    row-room h = let l = length-view-row s e type-in txt-in in omega arith
+
+    pub row-there : {t : List ℕ} {r : ℕ} → a + z + e .ty .len + e .txt .len + 4 ≤ length out - at → Put out t at r (viewRow s e)
+        → (To r ≡ written out at (rowBytes (edgeAt s from))) × (t ≡ writtenTo out at (rowBytes (edgeAt s from)))
+    row-there h p = rw (sym row-is) (put-there out at (viewRow s e) (row-room h) p)
+
+-- ---- the row of a refusal
+abbrev refused : List ℕ
+refused = 114 ∷ 101 ∷ 102 ∷ 117 ∷ 115 ∷ 101 ∷ 100 ∷ []
+
+module _ (out : List ℕ) (at n p : ℕ) (inside : at ≤ length out) {a z : ℕ} (a-is : a ≡ length (decimal n) + 1) (z-is : z ≡ length (decimal p) + 1) where
+  length-refused : length (refusedBytes n p) ≡ a + z + 8
+  unfolding refusedBytes
+  length-refused = simp length-append (omega arith)
+
+  pub refused-no-room : length out - at < a + z + 8 → (NoRoom ≡ written out at (refusedBytes n p)) × (out ≡ writtenTo out at (refusedBytes n p))
+  refused-no-room h = let l = length-refused in no-room out at (refusedBytes n p) (omega arith)
+
+  module _ (room : a + z + 8 ≤ length out - at) {t : List ℕ} {k : ℕ} (first : Put out t at k (ended refused 32)) where
+    pub number-room : k + length (decimal n) + 1 ≤ length out
+    number-room = let e = first .next in omega arith
+
+    module _ {u : List ℕ} {h : ℕ} (second : Put t u k h (ended (decimal n) 32)) where
+      pub place-room : h + length (decimal p) + 1 ≤ length out
+      place-room = let e = first .next in let f = second .next in let l = length-append (decimal n) (32 ∷ []) in omega arith
+
+      pub refused-there : {v : List ℕ} {r : ℕ} → Put u v h r (ended (decimal p) 10) → (To r ≡ written out at (refusedBytes n p)) × (v ≡ writtenTo out at (refusedBytes n p))
+      unfolding refusedBytes
+      refused-there q = let l = length-refused in put-there out at (refusedBytes n p) (omega arith) (put-then first (put-then second q))
