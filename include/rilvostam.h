@@ -1,7 +1,8 @@
 /* Rilvostam: written numbers on the lines of registers. The C interface of librilvostam.a.
  *
- * A slice is a pointer and a length in bytes. No pointer is NULL, not even with length 0. `out`, `at`, `len` and `in_listing` overlap no
- * other argument. Bytes need no alignment; `at` and `len` have that of a uint64_t. The library keeps no state and allocates nothing, so calls may run in parallel.
+ * A slice is a pointer and a length in bytes. No pointer is NULL, not even with length 0. `work`, `out`, `at`, `len` and `in_listing` overlap no
+ * other argument. Bytes need no alignment; `at` and `len` have that of a uint64_t. The library keeps no state and allocates nothing, so calls may run in parallel, each with
+ * buffers of its own.
  *
  * Each function answers RILVOSTAM_OK or the number of a refusal. `*at` is written on every answer: on a refusal the offset in bytes or the place in
  * characters that goes with it, or 0. On a refusal `out` is as it was; otherwise the bytes behind what was written are as they were.
@@ -17,17 +18,35 @@
 extern "C" {
 #endif
 
+#define RILVOSTAM_VERSION "0.1.0"
+
+/* Refusals, with what *at says then. */
 enum {
     RILVOSTAM_OK = 0,
-    RILVOSTAM_NOT_UTF8 = 2,    /* the line is not well-formed UTF-8: offset of the first ill-formed sequence */
-    RILVOSTAM_OVER_LONG = 3,   /* over 256 characters: offset of the 257th */
-    RILVOSTAM_BAD_LISTING = 6, /* no listing, or one that does not suit the line: offset of the edge, or of what is left over */
-    RILVOSTAM_TOO_LONG = 8,    /* longer than the output */
-    RILVOSTAM_BAD_PLACE = 9    /* a place, start or end above the line's length, or start after end */
+    RILVOSTAM_SHORT_WORK = 1,    /* work space under RILVOSTAM_WORK bytes: 0 */
+    RILVOSTAM_NOT_UTF8 = 2,      /* the line is not well-formed UTF-8: offset of the first ill-formed sequence */
+    RILVOSTAM_OVER_LONG = 3,     /* over 256 characters: offset of the 257th */
+    RILVOSTAM_TABLE_LAYOUT = 4,  /* no table, or bytes left over: offset of the item, or of what is left over */
+    RILVOSTAM_TABLE_CONTENT = 5, /* a record or string that may not stand in a table: its offset */
+    RILVOSTAM_BAD_LISTING = 6,   /* no listing, or one that does not suit the line: offset of the edge, or of what is left over */
+    RILVOSTAM_ABOVE_TOP = 7,     /* a number above 9,007,199,254,740,991: the place where it starts */
+    RILVOSTAM_TOO_LONG = 8,      /* the listing has over 1,024 edges or RILVOSTAM_OUT bytes, or is longer than the output: 0 */
+    RILVOSTAM_BAD_PLACE = 9      /* a place, start or end above the line's length, or start after end: 0 */
 };
+
+/* Bytes of work space that rilvostam_add_numbers needs, and bytes of output that always suffice. */
+#define RILVOSTAM_WORK 65536
+#define RILVOSTAM_OUT 32768
 
 /* No edge. */
 #define RILVOSTAM_NONE UINT64_MAX
+
+/* The edges of a line as a listing: the given ones, then those of its numbers. `table` says which characters count; `edges` is a listing of regular edges
+ * (no edges: the two bytes 00 00). What `work` held before has no influence, and what it holds afterwards means nothing.
+ * 0: *at is the length of the listing in out. */
+uint32_t rilvostam_add_numbers(const uint8_t *line, size_t line_len, const uint8_t *table, size_t table_len,
+                               const uint8_t *edges, size_t edges_len, uint8_t *work, size_t work_len,
+                               uint8_t *out, size_t out_len, uint64_t *at);
 
 /* The best edge from place start to place end. A skip other than 0: no numeric edge.
  * 0: *at is the offset of the edge in the listing, or RILVOSTAM_NONE. */

@@ -1,7 +1,8 @@
 #!/usr/bin/env python3
 """The definitions of the call, written once more in Python and held against the old program's answers.
 
-usage: model.py CASES ANSWERS      the files that `oracle gen` and `oracle answer` write (tools/oracle/README.md)
+usage: model.py CASES ANSWERS             the files that `oracle gen` and `oracle answer` write (tools/oracle/README.md)
+       model.py --ordered CASES OURS      the answers that tools/compare/numbers writes: in 01's order, not sorted
 
 Names are those of crates/passes, paths, lattice and numbers, specs/: a reader can hold each function against its definition.
 It answers what `oracle answer` answers: the listing sorted by start, end, type and txt, or 5 bytes for refusal 7 or 8. Cases that the oracle refuses
@@ -310,7 +311,7 @@ def edge_bytes(e):
     return struct.pack("<HHH", bits, e["start"], e["end"]) + string(e["type"]) + string(e["txt"]) + rest
 
 
-def add_numbers(line, table, given):
+def add_numbers(line, table, given, ordered):
     w, (lists, records) = chars(line), read_table(table)
     first = edges = [char_edge(p, c, records[c]) for p, c in enumerate(w) if c in records]
     added = []
@@ -325,7 +326,9 @@ def add_numbers(line, table, given):
     lattice = add_all(fractions(lists, w, lattice), signs(lists, w, edges))
     lattice = separate(lattice)
     lattice = add_all(lattice, fallback(lattice, w))
-    listing = [edge_bytes(e) for e in sorted(lattice, key=lambda e: (e["start"], e["end"], e["type"], e["txt"]))]
+    if not ordered:
+        lattice = sorted(lattice, key=lambda e: (e["start"], e["end"], e["type"], e["txt"]))
+    listing = [edge_bytes(e) for e in lattice]
     if len(listing) > 1024 or 2 + sum(map(len, listing)) > 32768:
         return struct.pack("<BI", 8, 0)
     return struct.pack("<H", len(listing)) + b"".join(listing)
@@ -338,12 +341,13 @@ def frames(path):
 
 
 def main():
-    cases, answers = frames(sys.argv[1]), frames(sys.argv[2])
+    ordered = sys.argv[1] == "--ordered"
+    cases, answers = map(frames, sys.argv[1 + ordered : 3 + ordered])
     count = differences = 0
     for line, table, given, answer in zip(cases, cases, cases, answers):
         if len(answer) == 5 and answer[0] < 7:
             continue
-        if add_numbers(line, table, given) != answer:
+        if add_numbers(line, table, given, ordered) != answer:
             differences += 1
             print("case", count, "differs:", line.decode())
         count += 1

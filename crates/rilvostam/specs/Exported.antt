@@ -1,5 +1,6 @@
 -- What the functions of the C interface answer, by the answers of the functions underneath: a status, 0 or the number of 01's refusal, and the numbers that go
 -- with it. Definitions only.
+--     callStatus, callAt            the call: the bytes of the listing
 --     NONE                          no edge
 --     placeOf p, isSet b            a place, and whether skip is set, as C gives them
 --     answerStatus, answerAt        best edge and neighbours: the offset of the edge, or NONE; the refusal's place or offset
@@ -10,6 +11,8 @@ use Prim.Native.Nat.{ℕ}
 use mathlib.Core.Bool.{Bool, not}
 use lib.Dec.{eqb}
 use Rattle.text.specs.declared.Place.{Place}
+use Rattle.numbers.specs.Call as numbers
+use Rattle.call.specs.Answers.{Brief, of-length, refused, brief}
 use Rattle.paths.specs.declared.Found.{Found}
 use Rattle.paths.specs.declared.Found.the-variants.{At, Nothing}
 use Rattle.paths.specs.declared.Answer.{Answer}
@@ -19,6 +22,20 @@ use Rattle.paths.specs.declared.Written.the-variants as Written
 use Rattle.paths.specs.declared.Shown.{Shown}
 use Rattle.paths.specs.declared.Shown.the-variants as Shown
 use Rattle.paths.specs.Reading.{number, place}
+
+abbrev pub statusOf : Brief → ℕ
+statusOf (of-length n) = 0
+statusOf (refused n p) = n
+
+abbrev pub atOf : Brief → ℕ
+atOf (of-length n) = n
+atOf (refused n p) = p
+
+abbrev pub callStatus : numbers.Answer → ℕ
+callStatus a = statusOf (brief a)
+
+abbrev pub callAt : numbers.Answer → ℕ
+callAt a = atOf (brief a)
 
 abbrev pub NONE : ℕ
 NONE = 18446744073709551615

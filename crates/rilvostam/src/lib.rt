@@ -1,5 +1,7 @@
 // The C interface, declared in include/rilvostam.h. Each function is thin: it calls the proved function underneath and translates its answer.
 // A skip other than 0 is set; places are 64-bit numbers.
+mod entry; // entry.rt: the call
+
 ghost use mathlib.Core.Path.{_≡_};
 ghost use lib.ListN.{length};
 ghost use Rattle.paths.specs.declared.Query.the-variants.{Span, Right, Left};
