@@ -95,11 +95,11 @@ module _ {w t : List ℕ} {i : ℕ} {s : List ℕ} {n : ℕ} (scalars : Scalars 
 
       -- then the joined edges were added, from v to u
       pub one-added : (l : Lattice) (u : List ℕ) (m : Lattice) → take 39424 v ≡ take 39424 s → length v ≡ length s → drop 39424 u ≡ drop 39424 v
-          → ((es : List Edge) → Holds v l es → Holds u m (addAll es (listedItems w t (ofKind (suc i) (behind v k))))) → OneIs w t i s l n u (Added m k)
+          → ((es : List Edge) → Holds v l es → Holds u m (addAll es (listedItems w t (ofKind (i + 1) (behind v k))))) → OneIs w t i s l n u (Added m k)
       unfolding OneIs
       one-added l u m front long frame g =
           let same : behind u k ≡ behind v k = ap (λ (b : List ℕ). itemsAt b 0 k) frame in
-          let new : ofKind (suc i) (behind v k) ≡ added (nth i) (behind s n) = ap (ofKind (suc i)) after-is ∙ ap (λ (j : ℕ). ofKind j (after (nth i) (behind s n))) (sym (nth-kind i h)) ∙ sym (added-of-kind (nth i) (behind s n) earlier) in
+          let new : ofKind (i + 1) (behind v k) ≡ added (nth i) (behind s n) = ap (λ (j : ℕ). ofKind j (behind v k)) (add-one i) ∙ ap (ofKind (suc i)) after-is ∙ ap (λ (j : ℕ). ofKind j (after (nth i) (behind s n))) (sym (nth-kind i h)) ∙ sym (added-of-kind (nth i) (behind s n) earlier) in
           record {
             below = not-above .0;
             list = same ∙ after-is;
@@ -137,9 +137,9 @@ module _ {w t s : List ℕ} {l : Lattice} {n : ℕ} {u : List ℕ} {m : Lattice}
   unfolding OneIs addedBy through
   going-next h v b j y o =
       let more : listedItems w t (addedBy (drop i five) (behind u k)) ≡ listedItems w t (added (nth i) (behind u k)) ++ listedItems w t (addedBy (drop (i + 1) five) (behind v j)) =
-            ap (λ (ps : List Pass). listedItems w t (addedBy ps (behind u k))) (nth-first i h)
-            ∙ ap (λ (z : List Item). listedItems w t (added (nth i) (behind u k) ++ addedBy (drop (i + 1) five) z)) (sym (o .list))
-            ∙ listed-append w t (added (nth i) (behind u k)) (addedBy (drop (i + 1) five) (behind v j)) in
+      ap (λ (ps : List Pass). listedItems w t (addedBy ps (behind u k))) (nth-first i h)
+      ∙ ap (λ (z : List Item). listedItems w t (added (nth i) (behind u k) ++ addedBy (drop (i + 1) five) z)) (sym (o .list))
+      ∙ listed-append w t (added (nth i) (behind u k)) (addedBy (drop (i + 1) five) (behind v j)) in
       record {
         long = y ∙ g .long;
         list = rw (add-one i) (o .next);
@@ -147,9 +147,11 @@ module _ {w t s : List ℕ} {l : Lattice} {n : ℕ} {u : List ℕ} {m : Lattice}
             ∙ above-later (nth i) (drop (i + 1) five) (behind u k) (o .below) ∙ ap (λ (z : List Item). firstAbove (addedBy (drop (i + 1) five) z)) (sym (o .list));
         after = g .after ∙ ap (λ (ps : List Pass). through ps (behind u k)) (nth-first i h) ∙ ap (through (drop (i + 1) five)) (sym (o .list));
         holds = λ es x.
-            let d = g .holds es x in
-            (addAll (d .0) (listedItems w t (added (nth i) (behind u k))), o .holds (d .0) (d .1),
-            sym (add-all-append (d .0) (listedItems w t (added (nth i) (behind u k))) (listedItems w t (addedBy (drop (i + 1) five) (behind v j)))) ∙ ap (addAll (d .0)) (sym more) ∙ d .2);
+            let d = g .holds es x in (
+              addAll (d .0) (listedItems w t (added (nth i) (behind u k))),
+              o .holds (d .0) (d .1),
+              sym (add-all-append (d .0) (listedItems w t (added (nth i) (behind u k))) (listedItems w t (addedBy (drop (i + 1) five) (behind v j)))) ∙ ap (addAll (d .0)) (sym more) ∙ d .2,
+            );
       }
 
   pub going-end : 5 ≤ i → i ≤ 5 → FiveIs w t s l n u (Added m k)

@@ -177,11 +177,11 @@ map-small e f =
     )
 
 -- ---- the item's fields
-only-told : {A : Type 0} (b : Bool) (u a : A) → optionally b u ≡ some a → u ≡ a
+pub only-told : {A : Type 0} (b : Bool) (u a : A) → optionally b u ≡ some a → u ≡ a
 only-told true u a e = Option·some-injective u a e
 only-told false u a e = absurd (Option·some-ne-none a (sym e))
 
-map-told : (g : ℕ → ℕ) (b : Bool) (u a : ℕ) → Option·map g (optionally b u) ≡ some a → g u ≡ a
+pub map-told : (g : ℕ → ℕ) (b : Bool) (u a : ℕ) → Option·map g (optionally b u) ≡ some a → g u ≡ a
 map-told g true u a e = Option·some-injective (g u) a e
 map-told g false u a e = absurd (Option·some-ne-none a (sym e))
 

@@ -2,3 +2,4 @@
 pub mod Sound
 pub mod Texts
 pub mod Fields
+pub mod Adding
