@@ -16,11 +16,10 @@ use Rattle.text.proofs.TextLaws.{left-append, encodes-well-formed}
 use Rattle.dicts.specs.Table.{Text, Table}
 use Rattle.passes.specs.NumEdge.{NumEdge, has}
 use Rattle.edge.specs.Edge.{Edge, Numeric}
-use Rattle.edge.specs.Write.{regular}
 use Rattle.edge.specs.Check.{allowed, each, soundNumeric, sound}
 use Rattle.lattice.specs.Lattice.{addAll}
-use Rattle.pass_list.specs.Item.{Every, nil, cons}
-use Rattle.stages.specs.CallEdge.{CallEdge, CallEdges, Short}
+use Rattle.pass_list.specs.Item.{nil, cons}
+use Rattle.stages.specs.CallEdge.{CallEdge, CallEdges}
 use Rattle.stages.proofs.CallLaws.{add-all-call}
 use Rattle.numbers.specs.Listed.{listedEdge}
 use Rattle.numbers.specs.Signs.{endsAt, signEdge, signed, signs}
