@@ -1,6 +1,5 @@
 -- `replay::read_bytes` meets its contract: a frame that is given fits into the buffer. Assumes nothing.
 use mathlib.Core.Path.{sym}
-use native.Mathlib.Omega.{arith}
 use lib.Seq.{length-take-le}
 use Rattle.replay.proofs.FrameLaws.{no-frame, frame-of}
 use borrow.Author.Needs.{needs}
