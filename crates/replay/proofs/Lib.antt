@@ -1,0 +1,2 @@
+-- The proofs of `replay`.
+pub mod FrameLaws

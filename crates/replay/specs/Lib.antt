@@ -1,0 +1,2 @@
+-- What the frames of a case are known to be.
+pub mod Frames
