@@ -1,2 +1,4 @@
 -- The proofs of `five`.
 pub mod FrontLaws
+pub mod RootLaws
+pub mod FiveLaws

@@ -1,2 +1,3 @@
 -- The passes in the work space.
 pub mod Nth
+pub mod Five

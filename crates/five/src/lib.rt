@@ -6,7 +6,9 @@ ghost use Rattle.pass_list.specs.Item.{AllSmall};
 ghost use Rattle.pass_list.specs.Stored.{itemsAt};
 ghost use Rattle.pass_list.specs.Answers.{PassedIs};
 ghost use Rattle.five.specs.Nth.{nth};
+use lattice::Lattice;
 use pass_list::run::Passed;
+use text::Place;
 
 // The i-th pass over a list, counted from 0.
 fn apply(list: &mut [u8], n: usize, i: usize) -> Passed
@@ -35,4 +37,10 @@ pub fn pass_behind(w: &mut [u8], n: usize, i: usize) -> Passed
 {
     let from = 39424;
     apply(&mut w[from..], n, i)
+}
+
+// What the passes give: the lattice with the joined edges and how many edges the list has then; or the start of the first joined edge above TOP.
+pub enum Passes {
+    Added(Lattice, usize),
+    Above(Place),
 }

@@ -8,7 +8,7 @@ use native.Mathlib.Omega.{arith}
 use native.Mathlib.Decide.{decLe}
 use lib.ListN.{length, take, drop, getD, take-append-drop, length-take, length-drop}
 use lib.Seq.{take-append-seam}
-use lib.Dec.{leb, ltb, eqb}
+use lib.Dec.{ltb, eqb}
 use borrow.Author.Tests.{le-leb, lt-leb, eq-eqb, ne-eqb}
 use Rattle.fields.specs.Part.{part}
 use Rattle.text.specs.Bytes.{same}
@@ -21,10 +21,10 @@ use Rattle.text.proofs.RowLaws.{and-true}
 use Rattle.text.proofs.TextLaws.{text-split, well-formed-split, chars-append, encodes-append}
 use Rattle.text.proofs.PlaceLaws.{reached-place}
 use Rattle.dicts.specs.Table.{Text, Table}
-use Rattle.dicts.specs.Layout.{Field, Is, Fault, number, text, manyAt, textsAt, listAt}
-use Rattle.dicts.specs.Check.{Checked, Fine, Refused, thenItem, item, legalMark, readTexts, readList, readRecords, readTable}
-use Rattle.dicts.proofs.LookupLaws.{Then, then-fine}
-use Rattle.pass_list.specs.Item.{Every, nil, cons}
+use Rattle.dicts.specs.Layout.{Field, Is, Fault, number, text, textsAt, listAt}
+use Rattle.dicts.specs.Check.{Fine, Refused, item, legalMark, readTexts, readList, readRecords, readTable}
+use Rattle.dicts.proofs.LookupLaws.{then-fine}
+use Rattle.pass_list.specs.Item.{nil, cons}
 use Rattle.dicts.specs.Answers.{tableOf}
 use Rattle.dicts.specs.declared.check.Shape.{Shape}
 use Rattle.dicts.proofs.LayoutLaws.{many-nil, many-fault, many-cons, list-texts, number-cut}

@@ -1,5 +1,6 @@
 -- Markers and signs as the code finds them: by their bytes, at an offset of the line. Definitions only.
 --     bytesAt s at m        the bytes m stand in s at the offset at
+--     sizeAt s at m         how many characters m has, where it stands there; otherwise 0
 --     longestAt s at ms     how many characters the longest of the texts ms has that stand in s at the offset at; 0 where none does
 --     markerOf r            an answer of `marker_at` as the definitions have it
 --     signOf w p m          what `sign_before` answers: the sign m stands directly before place p of the line's characters w, or it does not

@@ -42,7 +42,7 @@ not-false false p = sym p
 pub some-inj : {A : Type 0} {a b : A} → some a ≡ some b → a ≡ b
 some-inj {a = a} p = cc
 
-none-some : {A : Type 0} {b : A} → _≡_ {A = Option A} none (some b) → ⊥
+pub none-some : {A : Type 0} {b : A} → _≡_ {A = Option A} none (some b) → ⊥
 none-some p = let z : _≡_ {A = ℕ} 0 1 = cc in omega arith
 
 pub only-some : {A : Type 0} (t : Bool) {a b : A} → only t a ≡ some b → (t ≡ true) × (a ≡ b)

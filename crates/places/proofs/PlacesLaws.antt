@@ -1,15 +1,14 @@
 -- Laws of the offsets of places (`stages/specs/Ready.antt`, `pass_list/specs/Edges.antt`), for this crate's proofs and its callers'.
 -- In order: offsets rise; the part of a line between two places; the table of offsets as a walk fills it.
-use mathlib.Core.Path.{_≡_, refl, sym, ap, _∙_}
-use mathlib.Core.Bool.{true}
-use mathlib.Core.List.{List, [], _∷_}
+use mathlib.Core.Path.{_≡_, sym, ap, _∙_}
+use mathlib.Core.List.{List, []}
 use Prim.Native.Nat.{ℕ, _+_, _-_, _≤_, _<_}
 use native.Mathlib.Omega.{arith}
-use lib.ListN.{length, take, drop, getD, set}
+use lib.ListN.{length, drop, getD, set}
 use lib.Seq.{getD-set-same, getD-set-other}
 use borrow.Author.Count.{below-more}
 use Rattle.fields.specs.Part.{part}
-use Rattle.text.specs.Text.{chars, wellFormed, encodes, offsetOf, partOf}
+use Rattle.text.specs.Text.{chars, offsetOf}
 use Rattle.text.proofs.PlaceLaws.{Reached, reached-count, offset-part, offset-le, part-bytes}
 use Rattle.pass_list.specs.Edges.{between}
 use Rattle.stages.specs.Ready.{Offsets}

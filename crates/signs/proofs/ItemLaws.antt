@@ -1,24 +1,24 @@
 -- Laws of G6 for an item of the pass list, and for the whole list (`specs/SignEdges.antt`). No contract cites this file.
 -- In order: texts at the front of a buffer; what the sign's edges of an item are; both lists; the items one at a time. Assumes nothing.
-use mathlib.Core.Path.{_≡_, refl, sym, ap, _∙_, subst}
+use mathlib.Core.Path.{_≡_, refl, sym, ap, _∙_}
 use mathlib.Core.Bool.{Bool, true, false, cond}
 use mathlib.Core.List.{List, [], _∷_, _++_, map, append-assoc}
 use Prim.Native.Nat.{ℕ, suc, _+_, _-_, _*_, _≤_, _<_}
 use native.Mathlib.Nat.{sub-zero}
 use native.Mathlib.Numerals.{add-one}
 use native.Mathlib.Omega.{arith}
-use lib.ListN.{length, take, drop, set, length-append, length-set, length-take, length-drop}
-use lib.Seq.{sets, sets-eq, length-sets, take-append-seam, take-append-le, take-suc-set, take-length}
+use lib.ListN.{length, take, drop, set, length-append, length-set, length-drop}
+use lib.Seq.{sets-eq, length-sets, take-append-seam, take-append-le, take-suc-set, take-length}
 use borrow.Rule.Slice.PartAt.{part-to-end}
 use borrow.Rule.Slice.PartMut.{putMid}
 use Rattle.text.specs.Text.{chars}
 use Rattle.dicts.specs.Table.{Text, Table}
 use Rattle.dicts.specs.Layout.{listAt}
-use Rattle.dicts.specs.Answers.{tableOf, optionally}
+use Rattle.dicts.specs.Answers.{tableOf}
 use Rattle.dicts.specs.declared.check.Shape.{Shape}
 use Rattle.passes.specs.NumEdge.{NumEdge}
 use Rattle.pass_list.specs.declared.record.PassEdge.{PassEdge}
-use Rattle.pass_list.specs.Item.{Item, EdgeIs, Every, nil, cons}
+use Rattle.pass_list.specs.Item.{Item, EdgeIs, cons}
 use Rattle.pass_list.specs.Stored.{itemAt, itemsAt}
 use Rattle.pass_list.specs.Edges.{txtOf, edgeOf}
 use Rattle.pass_list.proofs.StoredLaws.{items-cons, items-none}

@@ -2,3 +2,4 @@
 pub mod TowardLaws
 pub mod SignLaws
 pub mod ItemLaws
+pub mod CallLaws

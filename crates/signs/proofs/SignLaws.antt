@@ -1,9 +1,9 @@
 -- Laws of the edges that signs give (`specs/SignEdges.antt`), for this crate's proofs and its callers'. No contract cites this file.
 -- In order: one sign; the signs of a list one at a time. Assumes nothing.
-use mathlib.Core.Path.{_≡_, refl, sym, ap, _∙_, subst}
-use mathlib.Core.Bool.{Bool, true, false, cond, _&&_}
+use mathlib.Core.Path.{_≡_, refl, sym, ap, _∙_}
+use mathlib.Core.Bool.{Bool, true, false, cond}
 use mathlib.Core.List.{List, [], _∷_, _++_}
-use Prim.Native.Nat.{ℕ, zero, suc, _+_, _-_, _≤_, _<_}
+use Prim.Native.Nat.{ℕ, _+_, _-_, _≤_, _<_}
 use native.Mathlib.Omega.{arith}
 use lib.ListN.{length, getD}
 use lib.Dec.{leb}
@@ -11,14 +11,14 @@ use borrow.Author.Tests.{leb-true}
 use Rattle.text.specs.Text.{chars, wellFormed}
 use Rattle.text.proofs.RowLaws.{and-true}
 use Rattle.dicts.specs.Table.{Text}
-use Rattle.dicts.specs.Layout.{Is, Fault, number, text, textsAt, listAt}
+use Rattle.dicts.specs.Layout.{Is, Fault, text, textsAt, listAt}
 use Rattle.dicts.proofs.LayoutLaws.{many-nil, many-fault, many-cons, list-texts, number-cut}
 use Rattle.edge.specs.Edge.{Edge}
 use Rattle.edge.specs.Write.{regular}
 use Rattle.lattice.specs.declared.Lattice.{Lattice}
 use Rattle.lattice.specs.Lattice.{add, addAll}
 use Rattle.lattice.specs.Kept.{Holds}
-use Rattle.pass_list.specs.Item.{Every, nil, cons}
+use Rattle.pass_list.specs.Item.{cons}
 use Rattle.numbers.specs.Fractions.{standsAt}
 use Rattle.numbers.specs.Signs.{endsAt}
 use Rattle.markers.specs.Marks.{signOf, Formed}

@@ -6,7 +6,7 @@
 --     Begins s r t                s begins with the r bytes t
 --     signsOf t w e               G6's edges for the passes' edge e
 --     Assumes nothing.
-use Prim.Native.Nat.{ℕ, _+_, _-_, _≤_, _<_}
+use Prim.Native.Nat.{ℕ, _+_, _-_, _≤_}
 use mathlib.Core.Path.{_≡_}
 use mathlib.Core.Bool.{cond}
 use mathlib.Core.List.{List, [], _∷_, _++_}

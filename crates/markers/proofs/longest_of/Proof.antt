@@ -1,6 +1,5 @@
 -- `markers::longest_of` meets its contract. The loop's invariant: the longest of the texts passed and those that are left is the longest of all. The measure is how many are left. Assumes nothing.
 use borrow.Author.Needs.{needs}
-use native.Mathlib.Omega.{arith}
 use Rattle.dicts.specs.Answers.{textField}
 use Rattle.dicts.proofs.LayoutLaws.{told, within-told}
 use Rattle.markers.proofs.MarkLaws.{SoFar, longest-starts, longest-turn, longest-fault, longest-ends}

@@ -1,6 +1,8 @@
 -- `signs::add_signs_from` meets its contract. The loop's invariant: with the signs that are left, the lattice is what it shall be (`Toward`), and they are
 -- well-formed. The measure is how many are left. Assumes nothing.
 use mathlib.Core.Path.{_≡_}
+use mathlib.Core.List.{List}
+use Prim.Native.Nat.{ℕ}
 use native.Mathlib.Omega.{arith}
 use borrow.Author.Needs.{needs}
 use Rattle.text.specs.Text.{chars}
@@ -8,7 +10,7 @@ use Rattle.dicts.specs.Layout.{Is, text, textsAt}
 use Rattle.dicts.specs.Answers.{partOf, textField}
 use Rattle.dicts.proofs.LayoutLaws.{told, within-told}
 use Rattle.markers.specs.Marks.{Formed}
-use Rattle.signs.specs.SignEdges.{signEdges}
+use Rattle.signs.specs.SignEdges.{signEdge, signEdges}
 use Rattle.signs.proofs.TowardLaws.{Toward, toward-start, toward-next, toward-end}
 use Rattle.signs.proofs.SignLaws.{signs-turn, signs-fault, signs-end, formed-first, formed-rest}
 use Rattle.signs.proofs.add_signs_from.Statement.{statement}
@@ -21,9 +23,15 @@ Inv-loop w₀ line offs start end ty txt table from n grown₀ next₀ left₀ w
 abbrev μ-loop : tie.MeasureT-loop
 μ-loop w₀ line offs start end ty txt table from n grown₀ next₀ left₀ w grown next left = left
 
--- the sign that was read
-told-at : (c : tie.After-m Inv-loop μ-loop) → text (c .before .before .before .before .before .before .before .before .before .before .args .table .now) (c .before .before .before .before .loop .next) ≡ Is (partOf (c .before .before .before .before .before .before .before .before .before .before .args .table .now) (c .m .given .0 .0)) (c .m .given .0 .1 .0)
-told-at c = told (textField (c .before .before .before .before .before .before .before .before .before .before .args .table .now)) (c .before .before .text-at .ensures .0) (c .m .given .1)
+-- the loop's place, and the sign that was read there
+abbrev at-loop : tie.After-m Inv-loop μ-loop → tie.At-loop Inv-loop μ-loop
+at-loop c = c .before .before .before .before
+
+abbrev table : tie.After-m Inv-loop μ-loop → List ℕ
+table c = at-loop c .before .before .before .before .before .before .args .table .now
+
+told-at : (c : tie.After-m Inv-loop μ-loop) → text (table c) (at-loop c .loop .next) ≡ Is (partOf (table c) (c .m .given .0 .0)) (c .m .given .0 .1 .0)
+told-at c = told (textField (table c)) (c .before .before .text-at .ensures .0) (c .m .given .1)
 
 loop-holds : tie.Need-loop-holds Inv-loop μ-loop
 loop-holds c = (toward-start _ _ _, c .before .before .before .before .before .pre .2)
@@ -56,7 +64,8 @@ loop-again c =
     let t = m .before .before in
     let l = t .before .before in
     let taken = t .before .loop-test .taken in
-    (toward-next (l .loop .inv .0) _ (signs-turn _ _ _ _ _ _ _ _ taken (told-at m)) (g .add-sign .kept .0) (g .add-sign .ensures .0) (g .add-sign .ensures .1), formed-rest _ _ _ (l .loop .inv .1) taken (told-at m))
+    let a = l .before .before .before .before .before .before .args in
+    (toward-next (l .loop .inv .0) (signEdge (chars (a .line .now)) (a .start .0) (a .end .0) (a .ty .now) (a .txt .now) (partOf (a .table .now) (m .m .given .0 .0))) (signs-turn (chars (a .line .now)) (a .start .0) (a .end .0) (a .ty .now) (a .txt .now) (a .table .now) (l .loop .next) (l .loop .left) taken (told-at m)) (g .add-sign .kept .0) (g .add-sign .ensures .0) (g .add-sign .ensures .1), formed-rest _ _ _ (l .loop .inv .1) taken (told-at m))
 
 enum-told : tie.Need-enum-told Inv-loop μ-loop
 enum-told c = search needs

@@ -16,10 +16,17 @@ use Rattle.signs.proofs.add_signs_of.Statement.{statement}
 use Rattle.signs.proofs.add_signs_of.Tie as tie
 
 -- the two texts, for an item that x is
-type-is : (c : tie.After-sign-type) (i : Item) → EdgeIs (c .before .before .before .before .before .args .x) i → Begins (c .sign-type .last .0) (c .sign-type .result) (typeOf (c .before .before .before .before .before .args .table .now) i ++ (32 ∷ c .before .before .before .before .before .args .sign ∷ []))
+abbrev typed : tie.After-sign-type → tie.Start
+typed c = c .before .before .before .before .before
+
+abbrev texted : tie.After-sign-txt → tie.Start
+texted c = c .before .before .before .before .before .before .before .before
+
+type-is : (c : tie.After-sign-type) (i : Item) → EdgeIs (typed c .args .x) i → Begins (c .sign-type .last .0) (c .sign-type .result) (typeOf (typed c .args .table .now) i ++ (32 ∷ typed c .args .sign ∷ []))
 type-is c i e = c .sign-type .ensures i e
 
-txt-is : (c : tie.After-sign-txt) (i : Item) → let a = c .before .before .before .before .before .before .before .before in EdgeIs (a .args .x) i → Begins (c .sign-txt .last .0) (c .sign-txt .result) (a .args .sign ∷ txtOf (chars (a .args .line .now)) (a .args .table .now) i)
+txt-is : (c : tie.After-sign-txt) (i : Item) → EdgeIs (texted c .args .x) i
+    → Begins (c .sign-txt .last .0) (c .sign-txt .result) (texted c .args .sign ∷ txtOf (chars (texted c .args .line .now)) (texted c .args .table .now) i)
 txt-is c i e = c .sign-txt .ensures i e
 
 slice-aggregate-sign-type : tie.Need-slice-aggregate-sign-type

@@ -1,0 +1,7 @@
+-- The laws of `fractions`.
+pub mod KeepsLaws
+pub mod MadesLaws
+pub mod MarkerLaws
+pub mod NewLaws
+pub mod ChooseLaws
+pub mod StageLaws

@@ -1,0 +1,59 @@
+-- The three loops in a row are the stage. No contract cites this file.
+-- In order: a full lattice; what the last loop asks for; what it leaves. Assumes nothing.
+use mathlib.Core.Path.{_≡_, refl, sym, ap, _∙_, subst}
+use mathlib.Core.Bool.{true, false}
+use mathlib.Core.List.{List}
+use Prim.Native.Nat.{ℕ, _≤_}
+use lib.ListN.{length}
+use Rattle.dicts.specs.Table.{Table}
+use Rattle.edge.specs.Edge.{Edge}
+use Rattle.lattice.specs.declared.Lattice.{Lattice}
+use Rattle.lattice.specs.Lattice.{addAll, turnOff}
+use Rattle.lattice.specs.Kept.{Holds}
+use Rattle.lattice.proofs.HoldsLaws.{over-of}
+use Rattle.stages.specs.CallEdge.{CallEdges}
+use Rattle.stages.proofs.OverLaws.{holds-full, over-add-all, over-turn-off}
+use Rattle.stages.proofs.CallLaws.{turn-off-call}
+use Rattle.numbers.specs.Fractions.{Made, madeFrom, newEdges, usedEdges, fractions}
+use Rattle.made.specs.Around.{Keeps}
+use Rattle.fractions.specs.Mades.{madesOf, AllValid, Decided, Planned}
+use Rattle.fractions.proofs.KeepsLaws.{keeps-turn-off, valid-keeps}
+use Rattle.fractions.proofs.MadesLaws.{mades-all, mades-keep}
+use Rattle.fractions.proofs.NewLaws.{new-call}
+
+-- ---- a full lattice
+pub full-stage : (t : Table) (c : List ℕ) {w : List ℕ} {l : Lattice} {es : List Edge} → Holds w l es → l .full ≡ true → Holds w l (fractions t c es)
+unfolding fractions
+full-stage t c {es = es} q f =
+    let ms = madeFrom t c es 0 (length c) in
+    holds-full q f (over-add-all (turnOff es (usedEdges ms)) (newEdges ms) (over-turn-off es (usedEdges ms) ∙ over-of q f))
+
+-- what `choose` asks for
+pub keeps-of : {n : ℕ} {w : List ℕ} {l : Lattice} {es : List Edge} → n ≤ 256 → l .full ≡ false → Holds w l es → CallEdges n es → Keeps w l es
+keeps-of {n} few f q c = record { chars = n; few = few; not-full = f; holds = q; edges = c }
+
+-- t and c are the table and the line's characters
+module _ (t : Table) (c : List ℕ) {n : ℕ} (es : List Edge) (fs ls rs : List ℕ) (d : Decided t c es fs ls rs n) where
+  pub all-valid : AllValid es fs ls rs n
+  all-valid p h = d p h .1
+
+  same-mades : madesOf (turnOff es (usedEdges (madesOf es fs ls rs 0 n))) fs ls rs 0 n ≡ madesOf es fs ls rs 0 n
+  same-mades = mades-keep (keeps-turn-off es (usedEdges (madesOf es fs ls rs 0 n))) fs ls rs n all-valid
+
+  are-mades : madesOf es fs ls rs 0 n ≡ madeFrom t c es 0 n
+  are-mades = mades-all es fs ls rs t c n (λ q x. d q x .0)
+
+  -- ---- what the last loop asks for
+  pub planned : n ≤ 256 → CallEdges n es → {w : List ℕ} {l : Lattice} → Holds w l (turnOff es (usedEdges (madesOf es fs ls rs 0 n))) → Planned n w l (turnOff es (usedEdges (madesOf es fs ls rs 0 n))) fs ls rs
+  planned few call q = record {
+    has = record { holds = q; call = turn-off-call (usedEdges (madesOf es fs ls rs 0 n)) call };
+    valid = λ p h. valid-keeps (keeps-turn-off es (usedEdges (madesOf es fs ls rs 0 n))) (d p h .1);
+    new = subst (λ (ms : List Made). CallEdges n (newEdges ms)) (sym (same-mades ∙ are-mades)) (new-call t c es few call 0 n);
+  }
+
+  -- ---- what it leaves
+  pub stage-is : length c ≡ n → addAll (turnOff es (usedEdges (madesOf es fs ls rs 0 n))) (newEdges (madesOf (turnOff es (usedEdges (madesOf es fs ls rs 0 n))) fs ls rs 0 n)) ≡ fractions t c es
+  unfolding fractions
+  stage-is e =
+      ap (λ (ms : List Made). addAll (turnOff es (usedEdges (madesOf es fs ls rs 0 n))) (newEdges ms)) same-mades
+      ∙ ap (λ (ms : List Made). addAll (turnOff es (usedEdges ms)) (newEdges ms)) (are-mades ∙ ap (madeFrom t c es 0) (sym e))

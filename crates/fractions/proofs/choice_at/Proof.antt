@@ -1,0 +1,32 @@
+-- `fractions::choice_at` meets its contract: a marker ends within the line, so its neighbours are kept. Assumes nothing.
+use mathlib.Core.Path.{ap, _∙_}
+use native.Mathlib.Omega.{arith}
+use Rattle.text.specs.Text.{chars}
+use Rattle.dicts.specs.Answers.{tableOf}
+use Rattle.numbers.specs.Fractions.{byMarker, madeAt}
+use Rattle.made.specs.Decision.{sizeOf}
+use Rattle.fractions.proofs.MarkerLaws.{marker-fits}
+use borrow.Author.Needs.{needs}
+use Rattle.fractions.proofs.choice_at.Statement.{statement}
+use Rattle.fractions.proofs.choice_at.Tie as tie
+
+marker-at-requires : tie.Need-marker-at-requires
+marker-at-requires c κs = search needs
+
+made-at-requires : tie.Need-made-at-requires
+made-at-requires c κs =
+    let s = c .before .before .before .before in
+    let r = s .pre .0 .1 in
+    let w = chars (s .args .line .now) in
+    let n = r .count in
+    let few = r .few in
+    let p = s .pre .3 in
+    let e = ap sizeOf (c .marker-at .ensures) in
+    (s .pre .2, omega (arith, marker-fits w (s .args .p) (omega arith) (tableOf (s .args .table .now) (s .args .h))))
+
+returns : tie.Need-returns
+unfolding madeAt
+returns c = λ es a. let m = c .made-at .ensures es a in (m .0 ∙ ap (byMarker es (c .before .before .before .before .before .args .p)) (c .before .marker-at .ensures), m .1)
+
+pub choice-at-spec : {M : Type 1} → statement M
+choice-at-spec = tie.close (tie.spec marker-at-requires made-at-requires returns)

@@ -1,0 +1,61 @@
+-- `fractions::fractions` meets its contract: the three loops in a row are the stage. Assumes nothing.
+use mathlib.Core.Path.{_≡_, refl, subst, _∙_}
+use mathlib.Core.Bool.{false}
+use mathlib.Core.List.{List}
+use Rattle.text.specs.Text.{chars}
+use Rattle.dicts.specs.Answers.{tableOf}
+use Rattle.edge.specs.Edge.{Edge}
+use Rattle.lattice.specs.Kept.{Holds}
+use Rattle.stages.specs.CallEdge.{CallEdges}
+use Rattle.fractions.specs.Mades.{Decided}
+use Rattle.fractions.proofs.StageLaws.{full-stage, keeps-of, planned, stage-is}
+use borrow.Author.Needs.{needs}
+use Rattle.fractions.proofs.fractions.Statement.{statement}
+use Rattle.fractions.proofs.fractions.Tie as tie
+
+abbrev start : tie.After-choose → tie.Start
+start c = c .before .before .before .before .before .before .before .before .before
+
+no-full : (c : tie.After-choose) → start c .args .l .full ≡ false
+no-full c = c .before .before .before .before .before .if1 .left
+
+decided : (c : tie.After-choose) {es : List Edge} → Holds (start c .args .w .now) (start c .args .l) es → CallEdges (start c .args .n) es
+    → Decided (tableOf (start c .args .table .now) (start c .args .h)) (chars (start c .args .line .now)) es (c .choose .last .1 .1 .1 .1 .1 .1 .1 .0) (c .choose .last .1 .1 .1 .1 .1 .1 .1 .1 .0) (c .choose .last .1 .1 .1 .1 .1 .1 .1 .1 .1 .0) (start c .args .n)
+decided c h k = c .choose .ensures _ (keeps-of (start c .pre .0 .few) (no-full c) h k)
+
+returns : tie.Need-returns
+returns c = let s = c .before .before .before .before in (refl, λ es h k. full-stage (tableOf (s .args .table .now) (s .args .h)) (chars (s .args .line .now)) h (c .if1 .taken))
+
+choose-requires : tie.Need-choose-requires
+choose-requires c κs = let p = c .before .before .before .before .before .before .before .before .pre in (p .0, p .2, (p .1 .0, keeps-of (p .0 .few) (c .before .before .before .before .if1 .left) (p .1 .1) (p .1 .2)), refl, refl, refl)
+
+turn-off-all-requires : tie.Need-turn-off-all-requires
+turn-off-all-requires c κs = let g = c .before .before .before .before in let p = start g .pre in ((p .1 .0, p .1 .1, λ q h. decided g (p .1 .1) (p .1 .2) q h .1), no-full g, p .0 .few)
+
+add-all-requires : tie.Need-add-all-requires
+add-all-requires c κs =
+    let f = c .before .before .before .before .before .before in
+    let g = f .before .before .before .before .before in
+    let p = start g .pre in
+    ((_, planned _ _ (p .1 .0) _ _ _ (decided g (p .1 .1) (p .1 .2)) (p .0 .few) (p .1 .2) (f .turn-off-all .ensures .1 _ (p .1 .1) (λ q h. decided g (p .1 .1) (p .1 .2) q h .1))), p .0 .few)
+
+same-length : tie.Need-same-length
+same-length c = search needs
+
+returns-2 : tie.Need-returns-2
+returns-2 c =
+    let a = c .before .before in
+    let f = a .before .before .before .before .before .before .before in
+    let g = f .before .before .before .before .before in
+    let r = start g .pre .0 in (
+      a .add-all .ensures .0 ∙ f .turn-off-all .ensures .0,
+      λ es h k.
+          let d = decided g h k in
+          subst (Holds (a .add-all .last .0) (a .add-all .result)) (stage-is _ _ es _ _ _ d (r .count))
+          (a .add-all .ensures .1 _ (planned _ _ es _ _ _ d (r .few) k (f .turn-off-all .ensures .1 es h (λ q x. d q x .1)))),
+    )
+
+pub fractions-spec : {M : Type 1} → statement M
+fractions-spec =
+    tie.close
+    (tie.spec returns choose-requires turn-off-all-requires add-all-requires same-length returns-2)

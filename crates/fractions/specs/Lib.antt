@@ -1,0 +1,2 @@
+-- The definitions that the contracts of `fractions` cite.
+pub mod Mades

@@ -1,0 +1,208 @@
+// The stage of fractions and percentages (01, "The rest of the call"): every place is decided before an edge changes; then the used edges turn
+// inactive, and the new ones are added.
+ghost use mathlib.Core.Path.{_≡_};
+ghost use mathlib.Core.Bool.{true, false};
+ghost use mathlib.Core.List.{List, []};
+ghost use Prim.Native.Nat.{ℕ, _≤_, _<_};
+ghost use lib.ListN.{length, drop, getD};
+ghost use Rattle.text.specs.Text.{chars};
+ghost use Rattle.dicts.specs.Answers.{tableOf};
+ghost use Rattle.edge.specs.Edge.{Edge};
+ghost use Rattle.lattice.specs.Lattice.{addAll, turnOff};
+ghost use Rattle.lattice.specs.Kept.{Holds};
+ghost use Rattle.stages.specs.Ready.{Ready, Offsets};
+ghost use Rattle.stages.specs.CallEdge.{CallEdges};
+ghost use Rattle.numbers.specs.Fractions.{madeAt, usedEdges, newEdges, fractions};
+ghost use Rattle.made.specs.Choice.{madeOf, Valid};
+ghost use Rattle.made.specs.Around.{Keeps, Around};
+ghost use Rattle.fractions.specs.Mades.{madesOf, usedBy, AllValid, Decided, Planned};
+use dicts::check::Shape;
+use lattice::Lattice;
+use made::Choice;
+use text::Place;
+
+// What the marker at a place leads to. before and behind keep the left and the right neighbours of all places.
+fn choice_at(
+    w: &[u8],
+    l: Lattice,
+    line: &[u8],
+    offs: &[usize; 257],
+    table: &[u8],
+    h: Shape,
+    before: &[usize; 257],
+    behind: &[usize; 257],
+    p: usize,
+) -> Choice
+    requires { ⌜ ((n : ℕ) × Ready (now line) (now table) h n) × Offsets (now line) (now offs) × ((es : List Edge) × Around (now w) l (now before) (now behind) es) × (p < length (chars (now line))) ⌝ }
+    ensures { λ r. ⌜ ((es : List Edge) → Around (now (w .entry)) l (now (before .entry)) (now (behind .entry)) es → (madeOf es p r ≡ madeAt (tableOf (now (table .entry)) h) (chars (now (line .entry))) es p) × Valid es r) ⌝ }
+{
+    let marker = markers::marker_at(line, offs, table, h, Place(p));
+    made::made_at(w, l, before, behind, marker, Place(p))
+}
+
+// The choices of all n places.
+fn choose_all(
+    w: &[u8],
+    l: Lattice,
+    line: &[u8],
+    offs: &[usize; 257],
+    table: &[u8],
+    h: Shape,
+    n: usize,
+    before: &[usize; 257],
+    behind: &[usize; 257],
+    forms: &mut [usize; 256],
+    lefts: &mut [usize; 256],
+    rights: &mut [usize; 256],
+)
+    requires { ⌜ Ready (now line) (now table) h n × Offsets (now line) (now offs) × ((es : List Edge) × Around (now w) l (now before) (now behind) es) × (length (now forms) ≡ 256) × (length (now lefts) ≡ 256) × (length (now rights) ≡ 256) ⌝ }
+    ensures { λ _. ⌜ ((es : List Edge) → Around (now (w .entry)) l (now (before .entry)) (now (behind .entry)) es → Decided (tableOf (now (table .entry)) h) (chars (now (line .entry))) es (now (forms .exit)) (now (lefts .exit)) (now (rights .exit)) n) ⌝ }
+{
+    let mut p = 0;
+    while p < n {
+        let c = choice_at(w, l, line, offs, table, h, before, behind, p);
+        forms[p] = c.form;
+        lefts[p] = c.left;
+        rights[p] = c.right;
+        p += 1;
+    }
+}
+
+// The same, from the neighbours in the lattice.
+fn choose(
+    w: &[u8],
+    l: Lattice,
+    line: &[u8],
+    offs: &[usize; 257],
+    table: &[u8],
+    h: Shape,
+    n: usize,
+    forms: &mut [usize; 256],
+    lefts: &mut [usize; 256],
+    rights: &mut [usize; 256],
+)
+    requires { ⌜ Ready (now line) (now table) h n × Offsets (now line) (now offs) × ((es : List Edge) × Keeps (now w) l es) × (length (now forms) ≡ 256) × (length (now lefts) ≡ 256) × (length (now rights) ≡ 256) ⌝ }
+    ensures { λ _. ⌜ ((es : List Edge) → Keeps (now (w .entry)) l es → Decided (tableOf (now (table .entry)) h) (chars (now (line .entry))) es (now (forms .exit)) (now (lefts .exit)) (now (rights .exit)) n) ⌝ }
+{
+    let mut before = [0usize; 257];
+    let mut behind = [0usize; 257];
+    made::neighbors(w, l, false, &mut before);
+    made::neighbors(w, l, true, &mut behind);
+    choose_all(
+        w,
+        l,
+        line,
+        offs,
+        table,
+        h,
+        n,
+        &before,
+        &behind,
+        forms,
+        lefts,
+        rights,
+    );
+}
+
+// The edges that a choice uses turn inactive.
+fn turn_off_used(w: &mut [u8], l: Lattice, c: Choice)
+    requires { ⌜ ((es : List Edge) × Holds (now w) l es × Valid es c) × (l .full ≡ false) ⌝ }
+    ensures { λ _. ⌜ (drop 39424 (now (w .exit)) ≡ drop 39424 (now (w .entry))) × ((es : List Edge) → Holds (now (w .entry)) l es → Holds (now (w .exit)) l (turnOff es (usedBy c))) ⌝ }
+{
+    let left = c.left;
+    let right = c.right;
+    if c.form == 0 {
+        return;
+    }
+    if c.form == 3 {
+        lattice::turn_off(w, l, right);
+        return;
+    }
+    lattice::turn_off(w, l, left);
+    lattice::turn_off(w, l, right);
+}
+
+// The edges that the choices of n places use turn inactive.
+fn turn_off_all(
+    w: &mut [u8],
+    l: Lattice,
+    forms: &[usize; 256],
+    lefts: &[usize; 256],
+    rights: &[usize; 256],
+    n: usize,
+)
+    requires { ⌜ ((es : List Edge) × Holds (now w) l es × AllValid es (now forms) (now lefts) (now rights) n) × (l .full ≡ false) × (n ≤ 256) ⌝ }
+    ensures { λ _. ⌜ (drop 39424 (now (w .exit)) ≡ drop 39424 (now (w .entry))) × ((es : List Edge) → Holds (now (w .entry)) l es → AllValid es (now (forms .entry)) (now (lefts .entry)) (now (rights .entry)) n → Holds (now (w .exit)) l (turnOff es (usedEdges (madesOf es (now (forms .entry)) (now (lefts .entry)) (now (rights .entry)) 0 n)))) ⌝ }
+{
+    let mut p = 0;
+    while p < n {
+        let c = Choice {
+            form: forms[p],
+            left: lefts[p],
+            right: rights[p],
+        };
+        turn_off_used(w, l, c);
+        p += 1;
+    }
+}
+
+// The edges that the choices of n places make are added.
+fn add_all(
+    w: &mut [u8],
+    l: Lattice,
+    forms: &[usize; 256],
+    lefts: &[usize; 256],
+    rights: &[usize; 256],
+    n: usize,
+) -> Lattice
+    requires { ⌜ ((es : List Edge) × Planned n (now w) l es (now forms) (now lefts) (now rights)) × (n ≤ 256) ⌝ }
+    ensures { λ r. ⌜ (drop 39424 (now (w .exit)) ≡ drop 39424 (now (w .entry))) × ((es : List Edge) → Planned n (now (w .entry)) l es (now (forms .entry)) (now (lefts .entry)) (now (rights .entry)) → Holds (now (w .exit)) r (addAll es (newEdges (madesOf es (now (forms .entry)) (now (lefts .entry)) (now (rights .entry)) 0 n)))) ⌝ }
+{
+    let mut grown = l;
+    let mut p = 0;
+    while p < n {
+        let c = Choice {
+            form: forms[p],
+            left: lefts[p],
+            right: rights[p],
+        };
+        grown = new_edges::add_choice(w, grown, p, c);
+        p += 1;
+    }
+    grown
+}
+
+// The stage of fractions and percentages. A lattice that is full stays as it is.
+pub fn fractions(
+    w: &mut [u8],
+    l: Lattice,
+    line: &[u8],
+    offs: &[usize; 257],
+    table: &[u8],
+    h: Shape,
+    n: usize,
+) -> Lattice
+    requires { ⌜ Ready (now line) (now table) h n × ((es : List Edge) × Holds (now w) l es × CallEdges n es) × Offsets (now line) (now offs) ⌝ }
+    ensures { λ r. ⌜ (drop 39424 (now (w .exit)) ≡ drop 39424 (now (w .entry))) × ((es : List Edge) → Holds (now (w .entry)) l es → CallEdges n es → Holds (now (w .exit)) r (fractions (tableOf (now (table .entry)) h) (chars (now (line .entry))) es)) ⌝ }
+{
+    if l.full {
+        return l;
+    }
+    let mut forms = [0usize; 256];
+    let mut lefts = [0usize; 256];
+    let mut rights = [0usize; 256];
+    choose(
+        w,
+        l,
+        line,
+        offs,
+        table,
+        h,
+        n,
+        &mut forms,
+        &mut lefts,
+        &mut rights,
+    );
+    turn_off_all(w, l, &forms, &lefts, &rights, n);
+    add_all(w, l, &forms, &lefts, &rights, n)
+}

@@ -1,0 +1,112 @@
+-- G6's edges are edges of the call, where the passes' edges are. No contract cites this file.
+-- In order: texts with a sign; the edge for one sign; for all; the lattice with them. Assumes nothing.
+use mathlib.Core.Path.{_≡_, refl, sym, ap, _∙_}
+use mathlib.Core.Bool.{Bool, true, false, cond, _&&_}
+use mathlib.Core.List.{List, [], _∷_, _++_, map}
+use mathlib.Core.Option.{some, Option·some-ne-none}
+use Prim.Native.Nat.{ℕ, _-_, _≤_, _<_}
+use native.Mathlib.Omega.{arith}
+use lib.ListN.{length, length-append}
+use lib.Dec.{leb, ltb}
+use borrow.Author.Tests.{lt-ltb, ltb-true}
+use Rattle.text.specs.Sequence.{encode}
+use Rattle.text.specs.Text.{chars, isNil, wellFormed, encodes}
+use Rattle.text.proofs.RowLaws.{and-true}
+use Rattle.text.proofs.TextLaws.{left-append, encodes-well-formed}
+use Rattle.dicts.specs.Table.{Text, Table}
+use Rattle.passes.specs.NumEdge.{NumEdge, has}
+use Rattle.edge.specs.Edge.{Edge, Numeric}
+use Rattle.edge.specs.Check.{allowed, each, soundNumeric, sound}
+use Rattle.lattice.specs.Lattice.{addAll}
+use Rattle.pass_list.specs.Item.{nil, cons}
+use Rattle.stages.specs.CallEdge.{CallEdge, CallEdges}
+use Rattle.stages.proofs.CallLaws.{add-all-call}
+use Rattle.numbers.specs.Listed.{listedEdge}
+use Rattle.numbers.specs.Signs.{endsAt, signEdge, signed, signs}
+
+-- ---- texts with a sign: c is its ASCII byte
+formed-append : (s t : Text) → wellFormed s ≡ true → wellFormed t ≡ true → wellFormed (s ++ t) ≡ true
+formed-append s t h k = ap isNil (left-append s h t) ∙ k
+
+pub record SignByte (c : ℕ) : Type 0 where
+  pub alone : wellFormed (c ∷ []) ≡ true
+  pub behind : wellFormed (32 ∷ c ∷ []) ≡ true
+
+minus-byte : SignByte 45
+unfolding encodes encode
+minus-byte = record { alone = encodes-well-formed (45 ∷ []) (refl, tt); behind = encodes-well-formed (32 ∷ 45 ∷ []) (refl, (refl, tt)) }
+
+plus-byte : SignByte 43
+unfolding encodes encode
+plus-byte = record { alone = encodes-well-formed (43 ∷ []) (refl, tt); behind = encodes-well-formed (32 ∷ 43 ∷ []) (refl, (refl, tt)) }
+
+-- ---- the edge for one sign
+module _ {n : ℕ} (e : NumEdge) (h : CallEdge n (listedEdge e)) where
+  record Parts : Type 0 where
+    pub ordered : e .start < e .end
+    pub inside : leb (e .end) n ≡ true
+    pub type : wellFormed (e .type) ≡ true
+    pub txt : wellFormed (e .txt) ≡ true
+
+  parts : Parts
+  unfolding sound listedEdge
+  parts =
+      let whole = and-true ((ltb (e .start) (e .end) && leb (e .end) n) && (wellFormed (e .type) && wellFormed (e .txt))) (each soundNumeric (listedEdge e .num)) (h .legal .content) .0 in
+      let two = and-true (ltb (e .start) (e .end) && leb (e .end) n) (wellFormed (e .type) && wellFormed (e .txt)) whole in
+      let places = and-true (ltb (e .start) (e .end)) (leb (e .end) n) (two .0) in
+      let texts = and-true (wellFormed (e .type)) (wellFormed (e .txt)) (two .1) in
+      record { ordered = ltb-true (e .start) (e .end) (places .0); inside = places .1; type = texts .0; txt = texts .1 }
+
+  record Lengths : Type 0 where
+    pub start : e .start < 65536
+    pub end : e .end < 65536
+    pub type : length (e .type) ≤ 60
+    pub txt : length (e .txt) ≤ 256
+
+  lengths : Lengths
+  unfolding listedEdge
+  lengths = let s = h .short _ refl in record { start = h .legal .fits .start; end = h .legal .fits .end; type = s .type; txt = s .txt }
+
+  sign-call : (c : ℕ) → SignByte c → (m : Text) → CallEdge n (signEdge c e m)
+  unfolding sound allowed
+  sign-call c b m =
+      let p = parts in
+      let l = lengths in
+      let less : e .start - length (chars m) < e .end = omega arith in
+      let never : (x : Numeric) → signEdge c e m .num ≡ some x → ⊥ = λ x q. Option·some-ne-none x (sym q) in
+      record {
+        legal = record {
+          fits = record { start = omega arith; end = l .end; type = omega (arith, length-append (e .type) (32 ∷ c ∷ [])); txt = omega arith; num = λ x q. absurd (never x q) };
+          map = refl;
+          content = rw (lt-ltb (e .start - length (chars m)) (e .end) less, p .inside, formed-append (e .type) (32 ∷ c ∷ []) (p .type) (b .behind), formed-append (c ∷ []) (e .txt) (b .alone) (p .txt));
+        };
+        short = λ x q. absurd (never x q);
+        value = λ x v q g. absurd (never x q);
+      }
+
+  signed-call : (w : List ℕ) (c : ℕ) → SignByte c → (ms : List Text) → CallEdges n (signed w c e ms)
+  unfolding signed
+  signed-call w c b [] = nil
+  signed-call w c b (m ∷ ms) = go (endsAt w (e .start) m) (signed-call w c b ms)
+    where
+      go : (t : Bool) → CallEdges n (signed w c e ms) → CallEdges n (cond t (signEdge c e m ∷ signed w c e ms) (signed w c e ms))
+      go true k = cons (sign-call c b m) k
+      go false k = k
+
+-- ---- the edges for all
+every-append : {n : ℕ} (es fs : List Edge) → CallEdges n es → CallEdges n fs → CallEdges n (es ++ fs)
+every-append [] fs nil k = k
+every-append (e ∷ es) fs (cons p h) k = cons p (every-append es fs h k)
+
+pub signs-call : {n : ℕ} (t : Table) (w : List ℕ) (es : List NumEdge) → CallEdges n (map listedEdge es) → CallEdges n (signs t w es)
+unfolding signs
+signs-call t w [] nil = nil
+signs-call {n} t w (e ∷ es) (cons p h) = every-append _ (signs t w es) (go (has (e .value))) (signs-call t w es h)
+  where
+    go : (b : Bool) → CallEdges n (cond b (signed w 45 e (t .minus-signs) ++ signed w 43 e (t .plus-signs)) [])
+    go true = every-append _ _ (signed-call e p w 45 minus-byte (t .minus-signs)) (signed-call e p w 43 plus-byte (t .plus-signs))
+    go false = nil
+
+-- so the lattice's edges stay such
+pub add-signs-call : {n : ℕ} {fs : List Edge} (t : Table) (w : List ℕ) (es : List NumEdge) → CallEdges n fs → CallEdges n (map listedEdge es) → CallEdges n (addAll fs (signs t w es))
+add-signs-call t w es h k = add-all-call h (signs-call t w es k)
