@@ -1,2 +1,4 @@
 -- The proofs of `call`.
 pub mod CheckLaws
+pub mod StageLaws
+pub mod AnswerLaws

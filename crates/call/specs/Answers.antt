@@ -3,7 +3,10 @@
 --     Brief               an answer without the listing's bytes: its length, or a refusal's number and place
 --     brief a             the definition's answer a so
 --     answerOf r          the code's answer so
+--     AnswerIs out now r a   the code answered r, and the output out became now, as the definition's answer a says
 --     Assumes nothing.
+use mathlib.Core.Path.{_≡_}
+use mathlib.Core.List.{List}
 use Prim.Native.Nat.{ℕ}
 use lib.ListN.{length}
 use Rattle.numbers.specs.Call as numbers
@@ -43,3 +46,7 @@ brief (numbers.refused n p) = refused n p
 abbrev pub answerOf : Answer → Brief
 answerOf (Answer.Listing n) = of-length n
 answerOf (Answer.Refused r) = refused (number r) (place r)
+
+pub record AnswerIs (out now : List ℕ) (r : Answer) (a : numbers.Answer) : Type 0 where
+  pub answer : answerOf r ≡ brief a
+  pub output : now ≡ numbers.outAfter out a

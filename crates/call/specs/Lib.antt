@@ -1,3 +1,4 @@
--- The call's answers, and what its checks find.
+-- The call's answers, what its checks find, and what its stages leave.
 pub mod Answers
 pub mod Checks
+pub mod Stages

@@ -27,14 +27,15 @@ use Rattle.edge.specs.Edge.{Edge}
 use Rattle.lattice.specs.declared.Lattice.{Lattice}
 use Rattle.lattice.specs.Lattice.{add, addAll}
 use Rattle.lattice.specs.Kept.{Holds}
-use Rattle.items.specs.Sound.{Sounds}
+use Rattle.pass_edges.proofs.EveryLaws.{every-append}
+use Rattle.items.specs.Sound.{Sound, Sounds}
 use Rattle.numbers.specs.Listed.{listedEdge}
 use Rattle.five.specs.declared.Passes.{Passes}
 use Rattle.five.specs.declared.Passes.the-variants.{Added, Above}
 use Rattle.five.specs.Nth.{nth}
 use Rattle.five.specs.Five.{listedItems, behind, PassList, OneDone, OneIs, FiveDone, FiveIs}
 use Rattle.five.proofs.FrontLaws.{holds-front}
-use Rattle.five.proofs.RootLaws.{after-rooted, sounds-of, sounds-made, sounds-small, sounds-rooted}
+use Rattle.five.proofs.RootLaws.{after-rooted, every-of-kind, sounds-of, sounds-made, sounds-small, sounds-rooted}
 
 -- ---- the i-th pass
 nth-first : (i : ℕ) → i < 5 → drop i five ≡ nth i ∷ drop (i + 1) five
@@ -95,25 +96,26 @@ module _ {w t : List ℕ} {i : ℕ} {s : List ℕ} {n : ℕ} (scalars : Scalars 
 
       -- then the joined edges were added, from v to u
       pub one-added : (l : Lattice) (u : List ℕ) (m : Lattice) → take 39424 v ≡ take 39424 s → length v ≡ length s → drop 39424 u ≡ drop 39424 v
-          → ((es : List Edge) → Holds v l es → Holds u m (addAll es (listedItems w t (ofKind (suc i) (behind v k))))) → OneIs w t i s l n u (Added m k)
+          → ((es : List Edge) → Holds v l es → Holds u m (addAll es (listedItems w t (ofKind (i + 1) (behind v k))))) → OneIs w t i s l n u (Added m k)
       unfolding OneIs
       one-added l u m front long frame g =
           let same : behind u k ≡ behind v k = ap (λ (b : List ℕ). itemsAt b 0 k) frame in
-          let new : ofKind (suc i) (behind v k) ≡ added (nth i) (behind s n) = ap (ofKind (suc i)) after-is ∙ ap (λ (j : ℕ). ofKind j (after (nth i) (behind s n))) (sym (nth-kind i h)) ∙ sym (added-of-kind (nth i) (behind s n) earlier) in
+          let new : ofKind (i + 1) (behind v k) ≡ added (nth i) (behind s n) = ap (λ (j : ℕ). ofKind j (behind v k)) (add-one i) ∙ ap (ofKind (suc i)) after-is ∙ ap (λ (j : ℕ). ofKind j (after (nth i) (behind s n))) (sym (nth-kind i h)) ∙ sym (added-of-kind (nth i) (behind s n) earlier) in
           record {
             below = not-above .0;
             list = same ∙ after-is;
             next = record { sounds = rw same pass-sounds; kinds = rw (same, after-is) kinds-after; few = pass-few };
+            joined = rw (added-of-kind (nth i) (behind s n) earlier) (every-of-kind (kindOf (nth i)) (rw after-is at pass-sounds));
             holds = λ es x. rw (← new) (g es (holds-front s v front long x));
           }
 
 -- ---- all five in turn
-add-all-append : (es cs ds : List Edge) → addAll es (cs ++ ds) ≡ addAll (addAll es cs) ds
+pub add-all-append : (es cs ds : List Edge) → addAll es (cs ++ ds) ≡ addAll (addAll es cs) ds
 unfolding addAll
 add-all-append es [] ds = refl
 add-all-append es (c ∷ cs) ds = add-all-append (add es c) cs ds
 
-listed-append : (w t : List ℕ) (l m : List Item) → listedItems w t (l ++ m) ≡ listedItems w t l ++ listedItems w t m
+pub listed-append : (w t : List ℕ) (l m : List Item) → listedItems w t (l ++ m) ≡ listedItems w t l ++ listedItems w t m
 listed-append w t l m = ap (map listedEdge) (map-append (edgeOf w t) l m) ∙ map-append listedEdge (map (edgeOf w t) l) (map (edgeOf w t) m)
 
 -- i passes ran, from s to u
@@ -122,11 +124,12 @@ pub record Going (w t s : List ℕ) (l : Lattice) (n : ℕ) (u : List ℕ) (m : 
   pub list : PassList w t (suc i) u k
   pub above : firstAbove (addedBy five (behind s n)) ≡ firstAbove (addedBy (drop i five) (behind u k))
   pub after : through five (behind s n) ≡ through (drop i five) (behind u k)
+  pub joined : Sounds w t (addedBy (drop i five) (behind u k)) → Sounds w t (addedBy five (behind s n))
   pub holds : (es : List Edge) → Holds s l es
       → (ds : List Edge) × Holds u m ds × (addAll ds (listedItems w t (addedBy (drop i five) (behind u k))) ≡ addAll es (listedItems w t (addedBy five (behind s n))))
 
 pub going-start : {w t s : List ℕ} {l : Lattice} {n : ℕ} → PassList w t 1 s n → Going w t s l n s l n 0
-going-start q = record { long = refl; list = q; above = refl; after = refl; holds = λ es x. (es, x, refl) }
+going-start q = record { long = refl; list = q; above = refl; after = refl; joined = λ x. x; holds = λ es x. (es, x, refl) }
 
 module _ {w t s : List ℕ} {l : Lattice} {n : ℕ} {u : List ℕ} {m : Lattice} {k i : ℕ} (g : Going w t s l n u m k i) where
   pub going-above : i < 5 → (v : List ℕ) (a : Place) (x : List ℕ) → OneIs w t i u m k v (Above a) → FiveIs w t s l n x (Above a)
@@ -137,19 +140,23 @@ module _ {w t s : List ℕ} {l : Lattice} {n : ℕ} {u : List ℕ} {m : Lattice}
   unfolding OneIs addedBy through
   going-next h v b j y o =
       let more : listedItems w t (addedBy (drop i five) (behind u k)) ≡ listedItems w t (added (nth i) (behind u k)) ++ listedItems w t (addedBy (drop (i + 1) five) (behind v j)) =
-            ap (λ (ps : List Pass). listedItems w t (addedBy ps (behind u k))) (nth-first i h)
-            ∙ ap (λ (z : List Item). listedItems w t (added (nth i) (behind u k) ++ addedBy (drop (i + 1) five) z)) (sym (o .list))
-            ∙ listed-append w t (added (nth i) (behind u k)) (addedBy (drop (i + 1) five) (behind v j)) in
+      ap (λ (ps : List Pass). listedItems w t (addedBy ps (behind u k))) (nth-first i h)
+      ∙ ap (λ (z : List Item). listedItems w t (added (nth i) (behind u k) ++ addedBy (drop (i + 1) five) z)) (sym (o .list))
+      ∙ listed-append w t (added (nth i) (behind u k)) (addedBy (drop (i + 1) five) (behind v j)) in
       record {
         long = y ∙ g .long;
         list = rw (add-one i) (o .next);
         above = g .above ∙ ap (λ (ps : List Pass). firstAbove (addedBy ps (behind u k))) (nth-first i h)
             ∙ above-later (nth i) (drop (i + 1) five) (behind u k) (o .below) ∙ ap (λ (z : List Item). firstAbove (addedBy (drop (i + 1) five) z)) (sym (o .list));
         after = g .after ∙ ap (λ (ps : List Pass). through ps (behind u k)) (nth-first i h) ∙ ap (through (drop (i + 1) five)) (sym (o .list));
+        joined = λ x. g .joined (subst (λ (ps : List Pass). Sounds w t (addedBy ps (behind u k))) (sym (nth-first i h))
+            (every-append (Sound w t) (added (nth i) (behind u k)) (addedBy (drop (i + 1) five) (after (nth i) (behind u k))) (o .joined) (subst (λ (z : List Item). Sounds w t (addedBy (drop (i + 1) five) z)) (o .list) x)));
         holds = λ es x.
-            let d = g .holds es x in
-            (addAll (d .0) (listedItems w t (added (nth i) (behind u k))), o .holds (d .0) (d .1),
-            sym (add-all-append (d .0) (listedItems w t (added (nth i) (behind u k))) (listedItems w t (addedBy (drop (i + 1) five) (behind v j)))) ∙ ap (addAll (d .0)) (sym more) ∙ d .2);
+            let d = g .holds es x in (
+              addAll (d .0) (listedItems w t (added (nth i) (behind u k))),
+              o .holds (d .0) (d .1),
+              sym (add-all-append (d .0) (listedItems w t (added (nth i) (behind u k))) (listedItems w t (addedBy (drop (i + 1) five) (behind v j)))) ∙ ap (addAll (d .0)) (sym more) ∙ d .2,
+            );
       }
 
   pub going-end : 5 ≤ i → i ≤ 5 → FiveIs w t s l n u (Added m k)
@@ -161,6 +168,7 @@ module _ {w t s : List ℕ} {l : Lattice} {n : ℕ} {u : List ℕ} {m : Lattice}
         list = sym (rw z at (g .after));
         sounds = g .list .sounds;
         few = g .list .few;
+        joined = (rw z at (g .joined)) nil;
         holds = λ es x.
             let d = g .holds es x in
             let e : d .0 ≡ addAll es (listedItems w t (addedBy five (behind s n))) = rw z at (d .2) in

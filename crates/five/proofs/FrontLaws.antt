@@ -63,7 +63,7 @@ module _ (a : ℕ) (w : List ℕ) where
   pub lent-behind : take (length w - a) (drop a w) ≡ drop a w
   lent-behind = take-all (length w - a) (drop a w) (let l = length-drop a w in omega arith)
 
-  back-behind : (ys : List ℕ) → a ≤ length w → drop a (putMid a (length w - a) w ys) ≡ ys
+  pub back-behind : (ys : List ℕ) → a ≤ length w → drop a (putMid a (length w - a) w ys) ≡ ys
   back-behind ys h =
       let l = length-drop a w in
       let e : postOf a (length w - a) w ≡ [] = drop-of-length-le (drop a w) {i = length w - a} (omega arith) in

@@ -6,11 +6,13 @@ use mathlib.Core.List.{List, [], _∷_}
 use mathlib.Core.Option.{Option, none, some, Option·map, Option·some-injective, Option·some-ne-none}
 use Prim.Native.Nat.{ℕ}
 use native.Mathlib.Omega.{arith}
+use lib.Dec.{eqb}
 use Rattle.passes.specs.Passes.{Pass, D1, G1, G2, G3, G4}
 use Rattle.pass_list.specs.Item.{Item, Every, AllSmall, nil, cons}
 use Rattle.pass_list.specs.ItemPass.{ItemChain, kindOf, begin, joins, longer, over, counted, withNumbers, retags, retagged, joinedValue, next, chainsOf, edgesOf, after}
 use Rattle.pass_list.specs.Edges.{WellMade}
 use Rattle.pass_list.proofs.Simulation.{Agrees, chains-sound}
+use Rattle.pass_edges.specs.InTurn.{ofKind}
 use Rattle.items.specs.Sound.{ScriptAt, Rooted, Sounds}
 
 map-same : {A : Type 0} (o : Option A) → o ≡ Option·map (λ a. a) o
@@ -82,6 +84,15 @@ module _ (t : List ℕ) where
   after-rooted p l h = edges-rooted (chainsOf p l) (chains-sound begin (next p) begin (next p) (λ x. x) (λ c. c) (Rooted t) RootedChain (roots-agree p) l h)
 
 -- ---- sound items
+pub every-of-kind : {P : Item → Type 0} (k : ℕ) {l : List Item} → Every P l → Every P (ofKind k l)
+unfolding ofKind
+every-of-kind k {l = []} nil = nil
+every-of-kind {P} k {l = x ∷ l} (cons p h) = go (eqb (x .kind) k) (every-of-kind k h)
+  where
+    go : (b : Bool) → Every P (ofKind k l) → Every P (cond b (x ∷ ofKind k l) (ofKind k l))
+    go true r = cons p r
+    go false r = r
+
 module _ {w t : List ℕ} where
   pub sounds-of : {l : List Item} → Every (WellMade w t) l → AllSmall l → Every (Rooted t) l → Sounds w t l
   sounds-of {l = []} nil nil nil = nil

@@ -40,6 +40,7 @@ pub record OneDone (w t : List ℕ) (i : ℕ) (s : List ℕ) (l : Lattice) (n : 
   pub below : firstAbove (added (nth i) (behind s n)) ≡ none
   pub list : behind u k ≡ after (nth i) (behind s n)
   pub next : PassList w t (suc (suc i)) u k
+  pub joined : Sounds w t (added (nth i) (behind s n))
   pub holds : (es : List Edge) → Holds s l es → Holds u m (addAll es (listedItems w t (added (nth i) (behind s n))))
 
 unfoldable pub OneIs : List ℕ → List ℕ → ℕ → List ℕ → Lattice → ℕ → List ℕ → Passes → Type 0
@@ -51,6 +52,7 @@ pub record FiveDone (w t s : List ℕ) (l : Lattice) (n : ℕ) (u : List ℕ) (m
   pub list : behind u k ≡ through five (behind s n)
   pub sounds : Sounds w t (behind u k)
   pub few : k ≤ 256
+  pub joined : Sounds w t (addedBy five (behind s n))
   pub holds : (es : List Edge) → Holds s l es → Holds u m (addAll es (listedItems w t (addedBy five (behind s n))))
 
 unfoldable pub FiveIs : List ℕ → List ℕ → List ℕ → Lattice → ℕ → List ℕ → Passes → Type 0

@@ -1,0 +1,70 @@
+-- `call::add_numbers` meets its contract, by what the checks find. Assumes nothing.
+use borrow.Author.Needs.{needs}
+use mathlib.Core.Path.{_≡_, subst}
+use native.Mathlib.Omega.{arith}
+use lib.ListN.{length, length-replicate}
+use Prim.Native.Nat.{ℕ}
+use Rattle.call.specs.declared.Lent.{Lent}
+use Rattle.call.specs.Checks.{Sound, LentIs}
+use Rattle.call.proofs.AnswerLaws.{answer-short, answer-refused, answer-sound}
+use Rattle.call.proofs.add_numbers.Statement.{statement}
+use Rattle.call.proofs.add_numbers.Tie as tie
+
+abbrev start : tie.After-check → tie.Start
+start k = k .before .before .before .before .before .before .before
+
+-- what the checks found
+found : (k : tie.After-check) (r : Lent) → k .check .result ≡ r → LentIs (start k .args .line .now) (start k .args .table .now) (start k .args .edges .now) r
+found k r e = subst (LentIs (start k .args .line .now) (start k .args .table .now) (start k .args .edges .now)) e (k .check .ensures)
+
+sound : (n : tie.After-n) → let s = start (n .before .before) .args in
+    Sound (s .line .now) (s .table .now) (s .edges .now) (n .n .given .0 .0) (n .n .given .0 .1 .0) (n .n .given .0 .1 .1 .0)
+unfolding LentIs
+sound n = found (n .before .before) _ (n .n .given .1)
+
+returns : tie.Need-returns
+returns c = answer-short _ _ _ _ _ (c .if1 .taken)
+
+check-requires : tie.Need-check-requires
+check-requires c κs = search needs
+
+enum-known-r : tie.Need-enum-known-r
+enum-known-r c = search needs
+
+enum-known-n : tie.Need-enum-known-n
+enum-known-n c = search needs
+
+place-offsets-requires : tie.Need-place-offsets-requires
+place-offsets-requires c κs = let n = c .before .before in (omega (arith, sound n .ready .few, sound n .ready .count), length-replicate {A = ℕ} 257 0)
+
+checked-call-requires : tie.Need-checked-call-requires
+checked-call-requires c κs = let p = c .before .before .before in let n = p .before .before .before in (p .place-offsets .ensures, n .before .before .before .if1 .left, sound n)
+
+returns-2 : tie.Need-returns-2
+returns-2 c = let k = c .before .before .before in answer-refused _ _ _ _ _ (k .before .if1 .left) _ (found k _ (c .before .r .given .1))
+
+same-length : tie.Need-same-length
+same-length c = search needs
+
+same-length-2 : tie.Need-same-length-2
+same-length-2 c = search needs
+
+returns-3 : tie.Need-returns-3
+returns-3 c = let a = c .before .before .before .before in
+    let n = a .before .before .before .before .before .before .before in
+    answer-sound _ _ _ _ _ (n .before .before .before .if1 .left) (sound n) _ _ (a .checked-call .ensures)
+
+pub add-numbers-spec : {M : Type 1} → statement M
+add-numbers-spec =
+    tie.close
+    (tie.spec
+    returns
+    check-requires
+    enum-known-r
+    enum-known-n
+    place-offsets-requires
+    checked-call-requires
+    returns-2
+    same-length
+    same-length-2
+    returns-3)

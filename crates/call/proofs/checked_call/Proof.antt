@@ -1,0 +1,138 @@
+-- `call::checked_call` meets its contract, by what the passes and the end answer. Assumes nothing.
+use borrow.Author.Needs.{needs}
+use Prim.Native.Nat.{ℕ, _≤_}
+use mathlib.Core.Path.{_≡_, sym, ap, _∙_, subst}
+use mathlib.Core.List.{List}
+use native.Mathlib.Omega.{arith}
+use lib.ListN.{length}
+use Rattle.text.specs.Text.{chars}
+use Rattle.text.proofs.TextLaws.{chars-scalars}
+use Rattle.dicts.specs.Table.{Table}
+use Rattle.dicts.specs.Answers.{tableOf}
+use Rattle.passes.specs.NumEdge.{NumEdge}
+use Rattle.edge.specs.Edge.{Edge}
+use Rattle.edge.specs.Layout.{listed}
+use Rattle.lattice.specs.Kept.{Holds}
+use Rattle.stages.specs.CallEdge.{CallEdges}
+use Rattle.items_theorems.proofs.Theorems.{items-call}
+use Rattle.five.specs.Five.{listedItems, behind}
+use Rattle.five.specs.declared.Passes.{Passes}
+use Rattle.numbers.specs.Call.{afterPasses, latticeOf}
+use Rattle.rest.specs.Rest.{restOf}
+use Rattle.rest.proofs.RestLaws.{rest-is}
+use Rattle.call.specs.Stages.{CallDone, CallPassed}
+use Rattle.call.proofs.AnswerLaws.{answer-above, answer-listing, answer-too-long}
+use Rattle.call.proofs.checked_call.Statement.{statement}
+use Rattle.call.proofs.checked_call.Tie as tie
+
+abbrev start : tie.After-passed → tie.Start
+start p = p .before .before .before .before .before .before .before
+
+abbrev T : tie.Start → Table
+T s = tableOf (s .args .table .now) (s .args .h)
+
+abbrev of-call : tie.After-rest-of-call → tie.After-m
+of-call a = a .before .before .before
+
+-- what the passes answered
+answered : (p : tie.After-passed) (r : Passes) → p .passed .result ≡ r → CallPassed (start p .args .line .now) (start p .args .table .now) (start p .args .h) (start p .args .edges .now) (p .passed .last .0) r
+answered p r e = subst (CallPassed (start p .args .line .now) (start p .args .table .now) (start p .args .h) (start p .args .edges .now) (p .passed .last .0)) e (p .passed .ensures)
+
+done : (m : tie.After-m) → let p = m .before .before .before .before in
+    CallDone (start p .args .line .now) (start p .args .table .now) (start p .args .h) (start p .args .edges .now) (p .passed .last .0) (m .m .given .0 .0) (m .m .given .0 .1 .0)
+unfolding CallPassed
+done m = answered (m .before .before .before .before) _ (m .m .given .1)
+
+few : (m : tie.After-m) → length (chars (start (m .before .before .before .before) .args .line .now)) ≤ 256
+few m = let r = start (m .before .before .before .before) .pre .2 .ready in omega (arith, r .few, r .count)
+
+in-line : (m : tie.After-m) (es : List Edge) → CallEdges (length (chars (start (m .before .before .before .before) .args .line .now))) es → CallEdges (start (m .before .before .before .before) .args .n) es
+in-line m es q = subst (λ (n : ℕ). CallEdges n es) (start (m .before .before .before .before) .pre .2 .ready .count) q
+
+-- the finished lattice
+final : (a : tie.After-rest-of-call) → let s = start (of-call a .before .before .before .before) in
+    Holds (a .rest-of-call .last .0) (a .rest-of-call .result) (latticeOf (T s) (chars (s .args .line .now)) (listed (s .args .edges .now)))
+final a =
+    let m = of-call a in
+    let s = start (m .before .before .before .before) in
+    let d = done m in
+    let es = afterPasses (T s) (chars (s .args .line .now)) (listed (s .args .edges .now)) in
+    subst (Holds (a .rest-of-call .last .0) (a .rest-of-call .result))
+    (ap (λ (fs : List NumEdge). restOf (T s) (chars (s .args .line .now)) fs es) (d .fifth) ∙ rest-is (T s) (chars (s .args .line .now)) (listed (s .args .edges .now)))
+    (a .rest-of-call .ensures es (d .holds) (in-line m es (d .call)))
+
+passed-requires : tie.Need-passed-requires
+passed-requires c κs = search needs
+
+enum-known-p : tie.Need-enum-known-p
+enum-known-p c = search needs
+
+enum-known-m : tie.Need-enum-known-m
+enum-known-m c = search needs
+
+rest-of-call-requires : tie.Need-rest-of-call-requires
+rest-of-call-requires c κs = let m = c .before .before in
+    let s = start (m .before .before .before .before) in
+    let d = done m in
+    (s .pre .2 .ready, (_, d .holds, in-line m _ (d .call)), s .pre .0, d .sounds, in-line m _ (items-call _ _ (chars-scalars _) (few m) _ (d .sounds)), omega (arith, d .few, m .before .before .before .before .passed .kept .0, s .pre .1))
+
+finish-requires : tie.Need-finish-requires
+finish-requires c κs = (_, final (c .before .before .before .before))
+
+enum-known-len : tie.Need-enum-known-len
+enum-known-len c = search needs
+
+enum-told : tie.Need-enum-told
+enum-told c = search needs
+
+same-length : tie.Need-same-length
+same-length c = search needs
+
+returns : tie.Need-returns
+unfolding CallPassed
+returns c = let p = c .before .before .before .before .before in
+    answer-above _ _ _ _ _ (answered p _ (c .before .p .given .1))
+
+same-length-2 : tie.Need-same-length-2
+same-length-2 c = search needs
+
+same-length-3 : tie.Need-same-length-3
+same-length-3 c = search needs
+
+returns-2 : tie.Need-returns-2
+returns-2 c = let f = c .before .before .before .before .before in
+    let a = f .before .before .before .before .before in
+    let s = start (of-call a .before .before .before .before) in
+    answer-listing (T s) (chars (s .args .line .now)) (s .args .out .now) (listed (s .args .edges .now)) (done (of-call a) .above) (f .finish .last .1 .1 .0) (f .finish .result) (f .finish .ensures .0 _ (final a)) (f .finish .ensures .1 _ (final a)) _ (c .before .len .given .1)
+
+same-length-4 : tie.Need-same-length-4
+same-length-4 c = search needs
+
+same-length-5 : tie.Need-same-length-5
+same-length-5 c = search needs
+
+returns-3 : tie.Need-returns-3
+returns-3 c = let f = c .before .before .before .before in
+    let a = f .before .before .before .before .before in
+    let s = start (of-call a .before .before .before .before) in
+    answer-too-long (T s) (chars (s .args .line .now)) (s .args .out .now) (listed (s .args .edges .now)) (done (of-call a) .above) (f .finish .last .1 .1 .0) (f .finish .result) (f .finish .ensures .0 _ (final a)) (f .finish .ensures .1 _ (final a)) (c .enum-told .given .1)
+
+pub checked-call-spec : {M : Type 1} → statement M
+checked-call-spec =
+    tie.close
+    (tie.spec
+    passed-requires
+    enum-known-p
+    enum-known-m
+    rest-of-call-requires
+    finish-requires
+    enum-known-len
+    enum-told
+    same-length
+    returns
+    same-length-2
+    same-length-3
+    returns-2
+    same-length-4
+    same-length-5
+    returns-3)

@@ -1,0 +1,2 @@
+-- The proofs of `rest`.
+pub mod RestLaws

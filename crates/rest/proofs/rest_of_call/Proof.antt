@@ -1,0 +1,98 @@
+-- `rest::rest_of_call` meets its contract: each stage gives the next what it asks for. Assumes nothing.
+use borrow.Author.Needs.{needs}
+use mathlib.Core.Path.{_≡_, sym, ap, subst}
+use mathlib.Core.List.{List, map}
+use Prim.Native.Nat.{ℕ, _≤_}
+use native.Mathlib.Omega.{arith}
+use lib.ListN.{length}
+use Rattle.text.specs.Text.{chars}
+use Rattle.dicts.specs.Answers.{tableOf}
+use Rattle.dicts.specs.Table.{Table}
+use Rattle.edge.specs.Edge.{Edge}
+use Rattle.passes.specs.NumEdge.{NumEdge}
+use Rattle.pass_list.specs.Edges.{edgeOf}
+use Rattle.pass_list.specs.Stored.{itemsAt}
+use Rattle.lattice.specs.Kept.{Holds}
+use Rattle.stages.specs.CallEdge.{CallEdges, Legals}
+use Rattle.items.specs.Sound.{Sounds}
+use Rattle.five.specs.Five.{behind}
+use Rattle.fractions.proofs.NewLaws.{fractions-call}
+use Rattle.signs.proofs.CallLaws.{add-signs-call}
+use Rattle.separators.proofs.LegalLaws.{separate-legals}
+use Rattle.numbers.specs.Fractions.{fractions}
+use Rattle.numbers.specs.Separators.{separate}
+use Rattle.rest.specs.Rest.{withSigns, restOf}
+use Rattle.rest.proofs.RestLaws.{signs-moved}
+use Rattle.rest.proofs.rest_of_call.Statement.{statement}
+use Rattle.rest.proofs.rest_of_call.Tie as tie
+
+abbrev start : tie.After-fractions → tie.Start
+start f = f .before .before .before .before .before
+
+abbrev made : tie.After-add-signs → tie.After-fractions
+made a = a .before .before .before .before
+
+-- the table, the line's characters and the list after G4
+abbrev T : tie.After-add-signs → Table
+T a = tableOf (start (made a) .args .table .now) (start (made a) .args .h)
+
+abbrev W : tie.After-add-signs → List ℕ
+W a = chars (start (made a) .args .line .now)
+
+abbrev Fifth : tie.After-add-signs → List NumEdge
+Fifth a = map (edgeOf (W a) (start (made a) .args .table .now)) (behind (start (made a) .args .w .now) (start (made a) .args .k))
+
+-- the list stays where it is
+moved : (f : tie.After-fractions) → behind (f .fractions .last .0) (start f .args .k) ≡ behind (start f .args .w .now) (start f .args .k)
+moved f = ap (λ (b : List ℕ). itemsAt b 0 (start f .args .k)) (f .fractions .ensures .0)
+
+-- the lattice with signs
+signed : (a : tie.After-add-signs) (es : List Edge) → Holds (start (made a) .args .w .now) (start (made a) .args .l) es → CallEdges (start (made a) .args .n) es
+    → Holds (a .add-signs .last .0) (a .add-signs .result) (withSigns (T a) (W a) (Fifth a) es)
+signed a es q d = signs-moved (T a) (W a) (start (made a) .args .table .now) (made a .fractions .last .0) (start (made a) .args .w .now) (start (made a) .args .k) (made a .fractions .ensures .0) (fractions (T a) (W a) es) (a .add-signs .ensures .1 _ (made a .fractions .ensures .1 es q d))
+
+signed-call : (a : tie.After-add-signs) (es : List Edge) → CallEdges (start (made a) .args .n) es → CallEdges (start (made a) .args .n) (withSigns (T a) (W a) (Fifth a) es)
+signed-call a es d = let p = start (made a) .pre in add-signs-call (T a) (W a) (Fifth a) (fractions-call (T a) (W a) es (p .0 .few) d) (p .4)
+
+legals : (a : tie.After-add-signs) (es : List Edge) → CallEdges (start (made a) .args .n) es → Legals (length (W a)) (separate (withSigns (T a) (W a) (Fifth a) es))
+legals a es d = subst (λ (n : ℕ). Legals n (separate (withSigns (T a) (W a) (Fifth a) es))) (sym (start (made a) .pre .0 .count)) (separate-legals _ (signed-call a es d))
+
+fractions-requires : tie.Need-fractions-requires
+fractions-requires c κs = search needs
+
+add-signs-requires : tie.Need-add-signs-requires
+add-signs-requires c κs = let f = c .before .before .before in
+    let p = start f .pre in
+    ((_, f .fractions .ensures .1 (p .1 .0) (p .1 .1) (p .1 .2)), p .2, (_, p .0), subst (Sounds (chars (start f .args .line .now)) (start f .args .table .now)) (sym (moved f)) (p .3), omega (arith, p .5, f .fractions .kept .0))
+
+separate-requires : tie.Need-separate-requires
+separate-requires c κs = let a = c .before .before .before in
+    let p = start (made a) .pre in
+    (start (made a) .args .n, p .0 .few, (_, signed a (p .1 .0) (p .1 .1) (p .1 .2), signed-call a (p .1 .0) (p .1 .2)))
+
+fallback-requires : tie.Need-fallback-requires
+fallback-requires c κs = let b = c .before .before .before in
+    let a = b .before .before .before .before in
+    let p = start (made a) .pre in
+    (omega (arith, p .0 .few, p .0 .count), (_, b .separate .ensures .1 _ _ (p .0 .few) (signed a (p .1 .0) (p .1 .1) (p .1 .2)) (signed-call a (p .1 .0) (p .1 .2)), legals a (p .1 .0) (p .1 .2)))
+
+same-length : tie.Need-same-length
+same-length c = search needs
+
+returns : tie.Need-returns
+unfolding restOf
+returns c = let e = c .before .before in
+    let b = e .before .before .before .before in
+    let a = b .before .before .before .before in
+    λ es q d. e .fallback .ensures .1 _ (b .separate .ensures .1 _ _ (start (made a) .pre .0 .few) (signed a es q d) (signed-call a es d)) (legals a es d)
+
+pub rest-of-call-spec : {M : Type 1} → statement M
+rest-of-call-spec =
+    tie.close
+    (tie.spec
+    fractions-requires
+    add-signs-requires
+    separate-requires
+    fallback-requires
+    same-length
+    returns)

@@ -1,0 +1,2 @@
+-- The stages after the passes.
+pub mod Rest
