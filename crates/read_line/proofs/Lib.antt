@@ -1,0 +1,2 @@
+-- Laws of lines, for the crate's own proofs.
+pub mod LineLaws

@@ -1,0 +1,2 @@
+-- The definitions that the contracts of `read_line` cite.
+pub mod Line
