@@ -44,15 +44,23 @@ impl Buffers {
     }
 }
 
-/// The least of several rounds, as the time of one case.
-fn least(rounds: usize, cases: usize, mut round: impl FnMut()) -> f64 {
-    let mut best = Duration::MAX;
-    for _ in 0..rounds {
-        let start = Instant::now();
-        round();
-        best = best.min(start.elapsed());
+/// The least of five rounds of at least a fifth of a second each, as the time of one call.
+fn least(cases: usize, mut call: impl FnMut(usize)) -> f64 {
+    (0..5).map(|_| round(cases, &mut call)).fold(f64::INFINITY, f64::min)
+}
+
+fn round(cases: usize, call: &mut impl FnMut(usize)) -> f64 {
+    let (start, mut count) = (Instant::now(), 0);
+    loop {
+        for index in 0..cases {
+            call(index);
+        }
+        count += cases;
+        let elapsed = start.elapsed();
+        if elapsed > Duration::from_millis(200) {
+            return elapsed.as_nanos() as f64 / count as f64;
+        }
     }
-    best.as_nanos() as f64 / cases as f64
 }
 
 fn row(name: &str, cases: &[Case]) {
@@ -60,30 +68,20 @@ fn row(name: &str, cases: &[Case]) {
     for case in cases {
         assert_eq!(buffers.call(case).0, 0, "{name}: a case is refused");
     }
-    // Few repeats for slow rounds, and both sides in turn.
-    let repeats = (4000 / cases.len()).max(1);
-    let count = cases.len() * repeats;
-    let new = least(7, count, || {
-        for case in cases.iter().cycle().take(count) {
-            black_box(buffers.call(case));
-        }
+    let inputs: Vec<_> = cases.iter().map(|c| Decoder::default().inputs(c).ok().expect("accepted by the library")).collect();
+    let new = least(cases.len(), |k| {
+        black_box(buffers.call(&cases[k]));
     });
-    let slow = (400 / cases.len()).max(1) * cases.len();
-    let whole = least(3, slow, || {
-        for case in cases.iter().cycle().take(slow) {
-            let Ok(inputs) = Decoder::default().inputs(case) else { panic!("{name}: refused by the old reader") };
-            let mut lattice = inputs.lattice();
-            lattice.add_numbers();
-            black_box(lattice.edges().count());
-        }
+    let alone = least(cases.len(), |k| {
+        let mut lattice = inputs[k].lattice();
+        lattice.add_numbers();
+        black_box(lattice.edges().count());
     });
-    let inputs: Vec<_> = cases.iter().map(|c| Decoder::default().inputs(c).ok().expect("read before")).collect();
-    let alone = least(3, slow, || {
-        for inputs in inputs.iter().cycle().take(slow) {
-            let mut lattice = inputs.lattice();
-            lattice.add_numbers();
-            black_box(lattice.edges().count());
-        }
+    let whole = least(cases.len(), |k| {
+        let inputs = Decoder::default().inputs(&cases[k]).ok().expect("read before");
+        let mut lattice = inputs.lattice();
+        lattice.add_numbers();
+        black_box(lattice.edges().count());
     });
     println!("| {name} | {new:.0} | {alone:.0} | {:.1} | {whole:.0} | {:.1} |", alone / new, whole / new);
 }
