@@ -154,6 +154,29 @@ mod tests {
         assert_eq!(self::read(PLAIN).unwrap().refusal(), None);
     }
 
+    /// The byte string of `plain_table`, whose contract says that it is the plain table of the proof.
+    fn proved_bytes() -> Vec<u8> {
+        let source = include_str!("../../../crates/plain_table/src/lib.rt");
+        let literal = source.split("*b\"").nth(1).unwrap().split('"').next().unwrap();
+        let mut parts = literal.split('\\');
+        let mut out = parts.next().unwrap().as_bytes().to_vec();
+        for part in parts {
+            match part.strip_prefix('x') {
+                Some(hex) => {
+                    out.push(u8::from_str_radix(&hex[..2], 16).unwrap());
+                    out.extend(hex[2..].bytes());
+                }
+                None => out.extend(part.strip_prefix('\n').unwrap().bytes()),
+            }
+        }
+        out
+    }
+
+    #[test]
+    fn plain_table_is_that_of_the_proof() {
+        assert_eq!(bytes(PLAIN), proved_bytes());
+    }
+
     #[test]
     fn strings_of_every_kind() {
         let text = "percentage \"# %\"\nminus \"\\\\ \\\"\"\nrecord U+0023 type=\"\" rom=\"\" fraction=1/2 mult=0 large\n";
