@@ -18,7 +18,7 @@ use Rattle.pass_list.specs.ItemPass.{kindOf, after, added, firstAbove}
 use Rattle.pass_list.specs.Stored.{itemsAt}
 use Rattle.pass_list.specs.Answers.{passed, PassedIs}
 use Rattle.pass_list.specs.Edges.{edgeOf, WellMade}
-use Rattle.pass_list.proofs.Simulation.{after-made}
+use Rattle.pass_edges.proofs.Simulation.{after-made}
 use Rattle.pass_list.proofs.StoredLaws.{length-items}
 use Rattle.pass_edges.specs.InTurn.{through, addedBy, ofKind}
 use Rattle.pass_edges.proofs.InTurnLaws.{above-here, above-later}

@@ -11,7 +11,7 @@ use Rattle.passes.specs.Passes.{Pass, D1, G1, G2, G3, G4}
 use Rattle.pass_list.specs.Item.{Item, Every, AllSmall, nil, cons}
 use Rattle.pass_list.specs.ItemPass.{ItemChain, kindOf, begin, joins, longer, over, counted, withNumbers, retags, retagged, joinedValue, next, chainsOf, edgesOf, after}
 use Rattle.pass_list.specs.Edges.{WellMade}
-use Rattle.pass_list.proofs.Simulation.{Agrees, chains-sound}
+use Rattle.pass_edges.proofs.Simulation.{Agrees, chains-sound}
 use Rattle.pass_edges.specs.InTurn.{ofKind}
 use Rattle.items.specs.Sound.{ScriptAt, Rooted, Sounds}
 

@@ -22,18 +22,18 @@ fn apply(list: &mut [u8], n: usize, i: usize) -> Passed
     ensures { λ r. ⌜ PassedIs (nth i) (itemsAt (now (list .entry)) 0 n) (now (list .exit)) r ⌝ }
 {
     if i == 0 {
-        return pass_list::run::apply_d1_digits(list, n);
+        return pass_run::apply_d1_digits(list, n);
     }
     if i == 1 {
-        return pass_list::run::apply_g1_multiplication(list, n);
+        return pass_run::apply_g1_multiplication(list, n);
     }
     if i == 2 {
-        return pass_list::run::apply_g2_addition(list, n);
+        return pass_run::apply_g2_addition(list, n);
     }
     if i == 3 {
-        return pass_list::run::apply_g3_large_power_multiplication(list, n);
+        return pass_run::apply_g3_large_power_multiplication(list, n);
     }
-    pass_list::run::apply_g4_large_block_addition(list, n)
+    pass_run::apply_g4_large_block_addition(list, n)
 }
 
 // The i-th pass over the list behind the lattice, which stays as it is.

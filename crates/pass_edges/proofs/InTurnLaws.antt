@@ -14,7 +14,7 @@ use Rattle.passes.specs.Passes as passes
 use Rattle.pass_list.specs.Item.{Item, Every, nil, cons}
 use Rattle.pass_list.specs.ItemPass.{after, added, firstAbove}
 use Rattle.pass_list.specs.Edges.{edgeOf, WellMade}
-use Rattle.pass_list.proofs.Simulation.{after-agrees, after-made, added-agrees, added-made, above-map}
+use Rattle.pass_edges.proofs.Simulation.{after-agrees, after-made, added-agrees, added-made, above-map}
 use Rattle.pass_edges.specs.InTurn.{through, addedBy}
 use Rattle.pass_edges.proofs.EveryLaws.{every-append}
 

@@ -11,7 +11,7 @@ use borrow.Author.Tests.{eq-eqb, ne-eqb}
 use Rattle.passes.specs.Passes.{Pass}
 use Rattle.pass_list.specs.Item.{Item, Every, nil, cons}
 use Rattle.pass_list.specs.ItemPass.{ItemChain, kindOf, begin, joins, longer, over, next, chainsOf, edgesOf, joinedOf, after, added}
-use Rattle.pass_list.proofs.Simulation.{Agrees, chains-sound}
+use Rattle.pass_edges.proofs.Simulation.{Agrees, chains-sound}
 use Rattle.pass_edges.specs.InTurn.{ofKind}
 
 map-same : {A : Type 0} (o : Option A) → o ≡ Option·map (λ a. a) o

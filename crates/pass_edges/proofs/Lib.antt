@@ -1,4 +1,5 @@
--- The passes in turn on items are the passes in turn of the definitions.
+-- The passes on items are those of the definitions, one by one and in turn.
+pub mod Simulation
 pub mod EveryLaws
 pub mod KindLaws
 pub mod InTurnLaws

@@ -2,23 +2,22 @@
 -- In order: the fields of a record; a record written field by field; what was written is read; lists of records.
 -- Assumes nothing.
 use mathlib.Core.Path.{_≡_, refl, sym, ap, _∙_, subst}
-use mathlib.Core.Logic.{_⊎_, inl, inr}
+use mathlib.Core.Logic.{inr}
 use mathlib.Core.Bool.{Bool, true, false}
 use mathlib.Core.List.{List, [], _∷_, _++_}
 use Prim.Native.Nat.{ℕ, zero, suc, _+_, _*_, _-_, _/_, _%_, _^_, _≤_, _<_}
-use native.Mathlib.Nat.{add-zero, zero-add, suc-add, add-suc}
+use native.Mathlib.Nat.{add-zero, suc-add}
 use native.Mathlib.Numerals.{add-one}
 use native.Mathlib.Omega.{arith}
 use lib.ListN.{length, take, drop, getD}
-use lib.Seq.{sets, length-sets, drop-drop}
+use lib.Seq.{sets, drop-drop}
 use lib.Dec.{eqb}
 use Rattle.fields.specs.Fields.{le, leAt, bytesOf}
 use Rattle.fields.specs.Part.{part}
 use Rattle.fields.proofs.FieldsLaws.{le-bytesOf, length-bytesOf, leAt-of-part, leAt-lt}
 use Rattle.fields.proofs.PartLaws.{part-sets, part-sets-other, drop-sets}
-use Rattle.whole.specs.Whole.{TOP}
 use Rattle.whole.proofs.SetsLaws.{sets-then}
-use Rattle.pass_list.specs.Item.{Item, numData, Small, Every, nil, cons, AllSmall, Fits}
+use Rattle.pass_list.specs.Item.{Item, numData, Small, cons, AllSmall, Fits}
 use Rattle.pass_list.specs.Stored.{digitOf, bit, mapOf, numBytes, recordBytes, itemOf, itemAt, itemsAt}
 
 -- ---- the fields of a record, each at its own offset

@@ -1,5 +1,5 @@
--- The five passes on items: the definitions of `passes` (specs/Passes.antt) with each text test replaced by its mark. proofs/Simulation.antt shows
--- that they are the same passes. Definitions only.
+-- The five passes on items: the definitions of `passes` (specs/Passes.antt) with each text test replaced by its mark. `pass_edges` (proofs/Simulation.antt)
+-- shows that they are the same passes. Definitions only.
 --     ItemChain        a chain as far as it goes
 --     counted p l e    the next edge e after l as it counts in pass p
 --     rule p c e       pass p joins e, as it counts, to the chain c, where they touch

@@ -1,9 +1,8 @@
 // An edge of the pass list, and the 56 bytes that it has there. The definitions are in specs/Item.antt and specs/Stored.antt.
 ghost use mathlib.Core.Path.{_≡_};
-ghost use Prim.Native.Nat.{ℕ, _+_, _*_, _/_, _%_, _<_, _≤_};
+ghost use Prim.Native.Nat.{ℕ, _+_, _*_, _≤_};
 ghost use lib.ListN.{length};
 ghost use lib.Seq.{sets};
-ghost use lib.Dec.{eqb};
 ghost use Rattle.pass_list.specs.Item.{Item, numData, EdgeIs, NumIs, Small};
 ghost use Rattle.pass_list.specs.Stored.{digitOf, mapOf, numBytes, recordBytes, itemAt};
 use text::Offset;
@@ -43,14 +42,7 @@ pub struct PassEdge {
 // How many bytes an edge has in the list.
 pub const RECORD: usize = 56;
 
-// The bits of a stored record's map: the listing's for the fields, three more for the marks.
-fn bit(map: u16, of: u16) -> bool
-    requires { ⌜ 0 < of ⌝ }
-    ensures { λ r. ⌜ r ≡ eqb (map / of % 2) 1 ⌝ }
-{
-    map / of % 2 == 1
-}
-
+// The map's bits are the listing's for the fields, and three more for the marks.
 fn num_at(s: &[u8], at: usize) -> NumData
     requires { ⌜ (at + 56 ≤ length (now s)) × Small (itemAt (now s) at) ⌝ }
     ensures { λ r. ⌜ r ≡ numData (itemAt (now (s .entry)) at) ⌝ }
@@ -60,14 +52,14 @@ fn num_at(s: &[u8], at: usize) -> NumData
         value: whole::of_u64(fields::u64_at(s, at + 8)),
         base_multiplier: whole::of_u64(fields::u64_at(s, at + 24)),
         base: fields::u64_at(s, at + 16),
-        has_value: bit(map, 2),
-        has_base: bit(map, 8),
-        has_mult: bit(map, 16),
-        has_script: bit(map, 32),
-        large_power: bit(map, 64),
-        digit: bit(map, 256),
-        gap: bit(map, 512),
-        cjk: bit(map, 1024),
+        has_value: map / 2 % 2 == 1,
+        has_base: map / 8 % 2 == 1,
+        has_mult: map / 16 % 2 == 1,
+        has_script: map / 32 % 2 == 1,
+        large_power: map / 64 % 2 == 1,
+        digit: map / 256 % 2 == 1,
+        gap: map / 512 % 2 == 1,
+        cjk: map / 1024 % 2 == 1,
         script: Offset(fields::u64_at(s, at + 40) as usize),
         script_len: fields::u64_at(s, at + 48) as usize,
     }

@@ -1,5 +1,4 @@
 -- `get` meets its contract: it reads the fields one by one. Assumes nothing.
-use mathlib.Core.Path.{_∙_}
 use Rattle.pass_list.proofs.StoredLaws.{itemAt-fields, itemAt-fits}
 use borrow.Author.Needs.{needs}
 use Rattle.pass_list.proofs.record.get.Statement.{statement}

@@ -34,30 +34,6 @@ add-u64-at-3 c = search needs
 u64-at-requires-3 : tie.Need-u64-at-requires-3
 u64-at-requires-3 c κs = search needs
 
-bit-requires : tie.Need-bit-requires
-bit-requires c κs = search needs
-
-bit-requires-2 : tie.Need-bit-requires-2
-bit-requires-2 c κs = search needs
-
-bit-requires-3 : tie.Need-bit-requires-3
-bit-requires-3 c κs = search needs
-
-bit-requires-4 : tie.Need-bit-requires-4
-bit-requires-4 c κs = search needs
-
-bit-requires-5 : tie.Need-bit-requires-5
-bit-requires-5 c κs = search needs
-
-bit-requires-6 : tie.Need-bit-requires-6
-bit-requires-6 c κs = search needs
-
-bit-requires-7 : tie.Need-bit-requires-7
-bit-requires-7 c κs = search needs
-
-bit-requires-8 : tie.Need-bit-requires-8
-bit-requires-8 c κs = search needs
-
 add-u64-at-4 : tie.Need-add-u64-at-4
 add-u64-at-4 c = search needs
 
@@ -72,8 +48,7 @@ u64-at-requires-5 c κs = search needs
 
 returns : tie.Need-returns
 returns c =
-    rw
-    (itemAt-fields _ _, c .u64-at5 .ensures, c .before .u64-at4 .ensures, c .before .before .bit8 .ensures, c .before .before .before .bit7 .ensures, c .before .before .before .before .bit6 .ensures, c .before .before .before .before .before .bit5 .ensures, c .before .before .before .before .before .before .bit4 .ensures, c .before .before .before .before .before .before .before .bit3 .ensures, c .before .before .before .before .before .before .before .before .bit2 .ensures, c .before .before .before .before .before .before .before .before .before .bit .ensures, c .before .before .before .before .before .before .before .before .before .before .u64-at3 .ensures, c .before .before .before .before .before .before .before .before .before .before .before .of-u642 .ensures, c .before .before .before .before .before .before .before .before .before .before .before .before .u64-at2 .ensures, c .before .before .before .before .before .before .before .before .before .before .before .before .before .of-u64 .ensures, c .before .before .before .before .before .before .before .before .before .before .before .before .before .before .u64-at .ensures, c .before .before .before .before .before .before .before .before .before .before .before .before .before .before .before .u16-at .ensures)
+    rw (itemAt-fields _ _, c .u64-at5 .ensures, c .before .u64-at4 .ensures, c .before .before .u64-at3 .ensures, c .before .before .before .of-u642 .ensures, c .before .before .before .before .u64-at2 .ensures, c .before .before .before .before .before .of-u64 .ensures, c .before .before .before .before .before .before .u64-at .ensures, c .before .before .before .before .before .before .before .u16-at .ensures)
 
 pub num-at-spec : {M : Type 1} → statement M
 num-at-spec =
@@ -89,14 +64,6 @@ num-at-spec =
     of-u64-requires-2
     add-u64-at-3
     u64-at-requires-3
-    bit-requires
-    bit-requires-2
-    bit-requires-3
-    bit-requires-4
-    bit-requires-5
-    bit-requires-6
-    bit-requires-7
-    bit-requires-8
     add-u64-at-4
     u64-at-requires-4
     add-u64-at-5

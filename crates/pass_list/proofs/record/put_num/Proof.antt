@@ -1,7 +1,5 @@
 -- `put_num` meets its contract: six numbers of eight bytes, one behind the other. Assumes nothing.
-use mathlib.Core.Path.{_≡_, refl, ap, _∙_}
-use Prim.Native.Nat.{_+_}
-use native.Mathlib.Omega.{arith}
+use mathlib.Core.Path.{_≡_, ap}
 use Rattle.pass_list.specs.declared.record.NumData.{NumData}
 use Rattle.pass_list.proofs.StoredLaws.{put-numbers}
 use borrow.Author.Needs.{needs}

@@ -2,8 +2,6 @@
 use native.Mathlib.Omega.{arith}
 use Rattle.pass_list.proofs.record.worth.Statement.{statement}
 use Rattle.pass_list.proofs.record.worth.Tie as tie
-use Rattle.pass_list.proofs.record.worth.Reads as reads
-use Rattle.pass_list.proofs.record.worth.Lts as lts
 
 returns : tie.Need-returns
 returns c = (rw (c .if1 .taken) (omega arith), omega arith)

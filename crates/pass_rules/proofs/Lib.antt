@@ -1,0 +1,1 @@
+-- No laws of its own: the tests are those of the definitions.

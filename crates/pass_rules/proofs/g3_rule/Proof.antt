@@ -1,0 +1,11 @@
+-- `g3_rule` meets its contract: the tests are those of the definition. Assumes nothing.
+use Rattle.pass_list.specs.ItemPass.{g3Rule}
+use Rattle.pass_rules.proofs.g3_rule.Statement.{statement}
+use Rattle.pass_rules.proofs.g3_rule.Tie as tie
+
+returns : tie.Need-returns
+unfolding g3Rule
+returns c x y p q = rw (p, q)
+
+pub g3-rule-spec : {M : Type 1} → statement M
+g3-rule-spec = tie.close (tie.spec returns)

@@ -1,0 +1,11 @@
+-- `g4_rule` meets its contract: the tests are those of the definition. Assumes nothing.
+use Rattle.pass_list.specs.ItemPass.{g4Rule}
+use Rattle.pass_rules.proofs.g4_rule.Statement.{statement}
+use Rattle.pass_rules.proofs.g4_rule.Tie as tie
+
+returns : tie.Need-returns
+unfolding g4Rule
+returns c x y p q r = rw (p, q, r)
+
+pub g4-rule-spec : {M : Type 1} → statement M
+g4-rule-spec = tie.close (tie.spec returns)

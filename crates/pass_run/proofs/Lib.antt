@@ -1,0 +1,2 @@
+-- Laws of a pass's loop, for this crate's proofs.
+pub mod RunLaws
