@@ -1,6 +1,6 @@
--- `items::part_or` meets its contract. Assumes nothing.
-use Rattle.items.proofs.part_or.Statement.{statement}
-use Rattle.items.proofs.part_or.Tie as tie
+-- `item_fields::part_or` meets its contract. Assumes nothing.
+use Rattle.item_fields.proofs.part_or.Statement.{statement}
+use Rattle.item_fields.proofs.part_or.Tie as tie
 
 returns : tie.Need-returns
 returns c = rw (c .if1 .taken)

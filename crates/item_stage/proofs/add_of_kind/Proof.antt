@@ -1,12 +1,12 @@
--- `items::add_of_kind` meets its contract. The loop's invariant is `Adding`: what the lattice holds are the items of this kind among the first i, and the list
+-- `item_stage::add_of_kind` meets its contract. The loop's invariant is `Adding`: what the lattice holds are the items of this kind among the first i, and the list
 -- behind it is as it was. The measure is what is left of the items. Assumes nothing.
 use borrow.Author.Needs.{needs}
 use Prim.Native.Nat.{_-_}
 use native.Mathlib.Omega.{arith}
 use Rattle.text.specs.Text.{chars}
-use Rattle.items.proofs.AddingLaws.{Adding, adding-none, adding-more, adding-all, item-sound}
-use Rattle.items.proofs.add_of_kind.Statement.{statement}
-use Rattle.items.proofs.add_of_kind.Tie as tie
+use Rattle.item_stage.proofs.AddingLaws.{Adding, adding-none, adding-more, adding-all, item-sound}
+use Rattle.item_stage.proofs.add_of_kind.Statement.{statement}
+use Rattle.item_stage.proofs.add_of_kind.Tie as tie
 
 abbrev Inv-loop : tie.InvT-loop
 Inv-loop w₀ line offs table n kind done₀ i₀ w done i = Adding (chars line) table kind n w₀ done₀ w done i

@@ -1,4 +1,4 @@
--- `items::add_if` meets its contract: the item that is read is the one of the list behind the lattice. Assumes nothing.
+-- `item_stage::add_if` meets its contract: the item that is read is the one of the list behind the lattice. Assumes nothing.
 use borrow.Author.Needs.{needs}
 use mathlib.Core.Path.{_≡_, refl, sym, _∙_, subst}
 use mathlib.Core.List.{[]}
@@ -8,10 +8,10 @@ use Rattle.text.specs.Text.{chars}
 use Rattle.pass_list.specs.Item.{Small}
 use Rattle.pass_list.specs.Stored.{itemAt}
 use Rattle.lattice.specs.Kept.{Holds}
 use Rattle.items.proofs.TextLaws.{kind-is}
-use Rattle.items.proofs.AddingLaws.{item-behind-is, item-behind, adds, passes-over}
-use Rattle.items.proofs.add_if.Statement.{statement}
-use Rattle.items.proofs.add_if.Tie as tie
+use Rattle.item_stage.proofs.AddingLaws.{item-behind-is, item-behind, adds, passes-over}
+use Rattle.item_stage.proofs.add_if.Statement.{statement}
+use Rattle.item_stage.proofs.add_if.Tie as tie
 
 mul-get : tie.Need-mul-get
 mul-get c = search needs

@@ -1,10 +1,10 @@
--- `items::fields_of` meets its contract field by field. Assumes nothing.
+-- `item_fields::fields_of` meets its contract field by field. Assumes nothing.
 use borrow.Author.Needs.{needs}
 use mathlib.Core.Path.{_≡_, _∙_}
 use Rattle.edge.specs.Write.{fieldsOf}
 use Rattle.items.specs.Fields.{itemFields}
-use Rattle.items.proofs.fields_of.Statement.{statement}
-use Rattle.items.proofs.fields_of.Tie as tie
+use Rattle.item_fields.proofs.fields_of.Statement.{statement}
+use Rattle.item_fields.proofs.fields_of.Tie as tie
 
 mul-from : tie.Need-mul-from
 mul-from c = search needs

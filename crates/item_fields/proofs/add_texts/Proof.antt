@@ -1,11 +1,11 @@
--- `items::add_texts` meets its contract: what is written is the item's edge. Assumes nothing.
+-- `item_fields::add_texts` meets its contract: what is written is the item's edge. Assumes nothing.
 use borrow.Author.Needs.{needs}
 use mathlib.Core.Path.{_≡_, sym}
 use native.Mathlib.Omega.{arith}
 use Rattle.items.proofs.TextLaws.{places-of}
-use Rattle.items.proofs.FieldLaws.{legal-there, listable, writable, room, edge-is}
-use Rattle.items.proofs.add_texts.Statement.{statement}
-use Rattle.items.proofs.add_texts.Tie as tie
+use Rattle.item_fields.proofs.FieldLaws.{legal-there, listable, writable, room, edge-is}
+use Rattle.item_fields.proofs.add_texts.Statement.{statement}
+use Rattle.item_fields.proofs.add_texts.Tie as tie
 
 fraction-of-requires : tie.Need-fraction-of-requires
 fraction-of-requires c κs =

@@ -1,9 +1,9 @@
--- `items::add_item` meets its contract: both texts stand at the front of their buffers. Assumes nothing.
+-- `item_stage::add_item` meets its contract: both texts stand at the front of their buffers. Assumes nothing.
 use borrow.Author.Needs.{needs}
 use mathlib.Core.Path.{refl}
 use Rattle.items.proofs.TextLaws.{txt-fits, txt-long, txt-taken, type-fits, type-long, type-taken}
-use Rattle.items.proofs.add_item.Statement.{statement}
-use Rattle.items.proofs.add_item.Tie as tie
+use Rattle.item_stage.proofs.add_item.Statement.{statement}
+use Rattle.item_stage.proofs.add_item.Tie as tie
 
 slice-aggregate-txt-of : tie.Need-slice-aggregate-txt-of
 slice-aggregate-txt-of c = search needs

@@ -1,10 +1,10 @@
--- `items::fraction_of` meets its contract, case by case. Assumes nothing.
+-- `item_fields::fraction_of` meets its contract, case by case. Assumes nothing.
 use borrow.Author.Needs.{needs}
 use mathlib.Core.Path.{_≡_, ap, _∙_}
 use mathlib.Core.Option.{some}
-use Rattle.items.proofs.FieldLaws.{fraction-joined, fraction-fault, fraction-absent, fraction-there, ratio-legal}
-use Rattle.items.proofs.fraction_of.Statement.{statement}
-use Rattle.items.proofs.fraction_of.Tie as tie
+use Rattle.item_fields.proofs.FieldLaws.{fraction-joined, fraction-fault, fraction-absent, fraction-there, ratio-legal}
+use Rattle.item_fields.proofs.fraction_of.Statement.{statement}
+use Rattle.item_fields.proofs.fraction_of.Tie as tie
 
 no-fraction-requires : tie.Need-no-fraction-requires
 no-fraction-requires c κs = search needs

@@ -1,7 +1,7 @@
--- `items::worth` meets its contract. Assumes nothing.
+-- `item_fields::worth` meets its contract. Assumes nothing.
 use native.Mathlib.Omega.{arith}
-use Rattle.items.proofs.worth.Statement.{statement}
-use Rattle.items.proofs.worth.Tie as tie
+use Rattle.item_fields.proofs.worth.Statement.{statement}
+use Rattle.item_fields.proofs.worth.Tie as tie
 
 returns : tie.Need-returns
 returns c = (rw (c .if1 .taken) (omega arith), omega arith)
