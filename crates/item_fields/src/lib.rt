@@ -104,7 +104,7 @@ fn fields_of(offs: &[usize; 257], x: PassEdge, f: Fraction, len: usize) -> NumFi
     };
     let script = part_or(x.num.has_script, x.num.script.0, x.num.script_len);
     let value_s = part_or(x.kind == 1, 0, len);
-    edge::num_fields(NumData {
+    edge_data::num_fields(NumData {
         map: map_of(x, f.there),
         value: x.num.value,
         numerator: f.numerator,

@@ -1,9 +1,9 @@
--- `edge::num_fields` meets its contract field by field. Assumes nothing.
+-- `edge_data::num_fields` meets its contract field by field. Assumes nothing.
 use Rattle.edge.specs.Write.{fieldsOf}
 use mathlib.Core.Path.{refl}
 use borrow.Author.Needs.{needs}
-use Rattle.edge.proofs.num_fields.Statement.{statement}
-use Rattle.edge.proofs.num_fields.Tie as tie
+use Rattle.edge_data.proofs.num_fields.Statement.{statement}
+use Rattle.edge_data.proofs.num_fields.Tie as tie
 
 float-to-bits-t5 : tie.Need-float-to-bits-t5
 float-to-bits-t5 c = search needs

@@ -1,11 +1,11 @@
--- `dicts::lookup::seek` meets its contract. The loop's invariant: what is left to drop of the records here is what is left to drop of all; the measure is how many there are.
+-- `lookup::seek` meets its contract. The loop's invariant: what is left to drop of the records here is what is left to drop of all; the measure is how many there are.
 use mathlib.Core.Path.{_≡_, refl}
 use lib.ListN.{length}
 use Rattle.dicts.specs.Lookup.{recordsOf, dropBelow}
 use Rattle.dicts.proofs.LookupLaws.{seek-ends, seek-stops, seek-turn, seek-less}
 use borrow.Author.Needs.{needs}
-use Rattle.dicts.proofs.lookup.seek.Statement.{statement}
-use Rattle.dicts.proofs.lookup.seek.Tie as tie
+use Rattle.lookup.proofs.seek.Statement.{statement}
+use Rattle.lookup.proofs.seek.Tie as tie
 
 abbrev Inv-loop : tie.InvT-loop
 Inv-loop s c here₀ here = dropBelow c (recordsOf s here) ≡ dropBelow c (recordsOf s here₀)

@@ -1,10 +1,10 @@
--- `dicts::lookup::find_record` meets its contract: the first record that isn't below the character decides.
+-- `lookup::find_record` meets its contract: the first record that isn't below the character decides.
 use mathlib.Core.Path.{sym, _∙_}
 use Rattle.dicts.specs.Answers.{recordOf}
 use Rattle.dicts.proofs.LookupLaws.{sought, found-is, found-other, found-none}
 use borrow.Author.Needs.{needs}
-use Rattle.dicts.proofs.lookup.find_record.Statement.{statement}
-use Rattle.dicts.proofs.lookup.find_record.Tie as tie
+use Rattle.lookup.proofs.find_record.Statement.{statement}
+use Rattle.lookup.proofs.find_record.Tie as tie
 
 records-from-requires : tie.Need-records-from-requires
 records-from-requires c κs = search needs

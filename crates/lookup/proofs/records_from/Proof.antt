@@ -1,11 +1,11 @@
--- `dicts::lookup::records_from` meets its contract: the first record, and how many stand behind it.
+-- `lookup::records_from` meets its contract: the first record, and how many stand behind it.
 use mathlib.Core.Path.{sym, _∙_}
 use Rattle.dicts.specs.Layout.{readRecord}
 use Rattle.dicts.specs.Answers.{recordField}
 use Rattle.dicts.proofs.LayoutLaws.{told, many-nil, many-fault, many-cons}
 use borrow.Author.Needs.{needs}
-use Rattle.dicts.proofs.lookup.records_from.Statement.{statement}
-use Rattle.dicts.proofs.lookup.records_from.Tie as tie
+use Rattle.lookup.proofs.records_from.Statement.{statement}
+use Rattle.lookup.proofs.records_from.Tie as tie
 
 returns : tie.Need-returns
 returns c = many-nil readRecord _ _ _ (c .if1 .taken)

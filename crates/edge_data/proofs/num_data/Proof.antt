@@ -1,9 +1,9 @@
--- `edge::num_data` meets its contract field by field. Assumes nothing.
+-- `edge_data::num_data` meets its contract field by field. Assumes nothing.
 use Rattle.edge.specs.Write.{dataOf}
 use mathlib.Core.Path.{refl}
 use borrow.Author.Needs.{needs}
-use Rattle.edge.proofs.num_data.Statement.{statement}
-use Rattle.edge.proofs.num_data.Tie as tie
+use Rattle.edge_data.proofs.num_data.Statement.{statement}
+use Rattle.edge_data.proofs.num_data.Tie as tie
 
 float-from-bits-t5 : tie.Need-float-from-bits-t5
 float-from-bits-t5 c = search needs
