@@ -143,7 +143,7 @@ fn first_edges(
 {
     let count = first_items(w, line, table, h);
     First {
-        lattice: items::add_of_kind(w, l, line, offs, table, count, 0),
+        lattice: item_stage::add_of_kind(w, l, line, offs, table, count, 0),
         count,
     }
 }

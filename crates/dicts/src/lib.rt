@@ -1,6 +1,6 @@
-// The table of characters that a call is lent (01, "Table" and "Record"): reading its bytes and looking a character up. Crate `table_check` checks them.
-// The definitions of all three stand here.
+// The table of characters that a call is lent (01, "Table" and "Record"): reading its bytes. Crate `table_check` checks them, `lookup` looks a character up.
+// The definitions of all four, `table_content` too, stand here.
 // Every `at` and `next` here is an offset in the table's bytes.
 pub mod layout; // layout.rt: a field, a string and a record at an offset
 pub mod shape; // shape.rt: the answers of the check
-pub mod lookup; // lookup.rt: the records one by one, and the record of a character
+pub mod lookup; // lookup.rt: the answers of the lookup

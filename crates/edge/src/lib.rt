@@ -1,13 +1,11 @@
 // Edges in their listing (01, "Listing"), read: an edge at an offset, its fields, the next edge's offset. Whatever stands there is read: `edge_check` refuses, `edge_write` writes.
 ghost use mathlib.Core.Path.{_≡_};
-ghost use mathlib.Core.Bool.{true, not, cond};
+ghost use mathlib.Core.Bool.{true, cond};
 ghost use Prim.Native.Nat.{_+_, _/_, _%_, _≤_, _<_};
 ghost use lib.ListN.{length};
-ghost use lib.Dec.{T, eqb};
-ghost use lib.Ieee.{binary64, isNan, nanBits};
+ghost use lib.Dec.{eqb};
 ghost use Rattle.fields.specs.Fields.{leAt};
 ghost use Rattle.edge.specs.Layout.{stringEnd, scriptAt, fieldsEnd, nextAt, headEnd};
-ghost use Rattle.edge.specs.Write.{fieldsOf, dataOf};
 ghost use Rattle.edge.specs.View.{viewAt, partAt, noPart, fieldsAt};
 use text::Offset;
 use text::Place;
@@ -211,47 +209,5 @@ pub fn fields_at(map: u16, s: &[u8], at: usize) -> NumFields
         },
         script: text_if(map, 32, s, script),
         value_s: text_if(map, 256, s, value_s),
-    }
-}
-
-// The fields of numeric data.
-pub fn num_fields(d: NumData) -> NumFields
-    requires { ⌜ T (not (isNan (d .value))) × T (not (isNan (d .«base_multiplier»))) ⌝ }
-    ensures { λ r. ⌜ r ≡ fieldsOf d ⌝ }
-{
-    let orig = d.orig;
-    let script = d.script;
-    let value_s = d.value_s;
-    NumFields {
-        map: d.map,
-        value: f64::to_bits(d.value),
-        numerator: d.numerator,
-        denominator: d.denominator,
-        base: d.base,
-        base_multiplier: f64::to_bits(d.base_multiplier),
-        orig,
-        script,
-        value_s,
-    }
-}
-
-// The numeric data of fields whose floats are no NaN.
-pub fn num_data(d: NumFields) -> NumData
-    requires { ⌜ T (not (nanBits binary64 (d .value))) × T (not (nanBits binary64 (d .«base_multiplier»))) ⌝ }
-    ensures { λ r. ⌜ r ≡ dataOf d ⌝ }
-{
-    let orig = d.orig;
-    let script = d.script;
-    let value_s = d.value_s;
-    NumData {
-        map: d.map,
-        value: f64::from_bits(d.value),
-        numerator: d.numerator,
-        denominator: d.denominator,
-        base: d.base,
-        base_multiplier: f64::from_bits(d.base_multiplier),
-        orig,
-        script,
-        value_s,
     }
 }

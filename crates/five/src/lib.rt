@@ -67,7 +67,7 @@ fn one_pass(
     match pass_behind(w, n, i) {
         Passed::Above(p) => Passes::Above(p),
         Passed::Edges(k) => Passes::Added(
-            items::add_of_kind(w, l, line, offs, table, k, (i + 1) as u16),
+            item_stage::add_of_kind(w, l, line, offs, table, k, (i + 1) as u16),
             k,
         ),
     }

@@ -1,4 +1,2 @@
 -- Laws of the definitions of `items`, for its own proofs and its callers'.
 pub mod TextLaws
-pub mod FieldLaws
-pub mod AddingLaws

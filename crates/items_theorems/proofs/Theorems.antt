@@ -31,7 +31,7 @@ use Rattle.items.specs.Sound.{ScriptAt, Sound, Sounds}
 use Rattle.items.specs.Texts.{typeOf}
 use Rattle.items.specs.Fields.{itemFraction}
 use Rattle.items.proofs.TextLaws.{between-short, txt-short, type-short}
-use Rattle.items.proofs.FieldLaws.{numericIn, listed-is, only-told, map-told}
+use Rattle.item_fields.proofs.FieldLaws.{numericIn, listed-is, only-told, map-told}
 use Rattle.items_theorems.proofs.FormedLaws.{padded-formed, type-formed, between-formed, txt-formed, FractionFits, AllFits, fraction-fits, fits-sound}
 
 -- ---- fields that may be absent

@@ -1,0 +1,137 @@
+// An item of the pass list with its texts as an edge of the lattice (01, "From characters to edges"): the fields that it is listed with.
+ghost use mathlib.Core.Path.{_≡_};
+ghost use Prim.Native.Nat.{_*_, _≤_};
+ghost use mathlib.Core.List.{List};
+ghost use mathlib.Core.Option.{none};
+ghost use lib.ListN.{length, drop};
+ghost use Rattle.text.specs.Text.{chars};
+ghost use Rattle.pass_list.specs.Item.{Item};
+ghost use Rattle.pass_list.specs.Edges.{edgeOf};
+ghost use Rattle.stages.specs.Ready.{Offsets};
+ghost use Rattle.edge.specs.Edge.{Edge, flag};
+ghost use Rattle.lattice.specs.Lattice.{add};
+ghost use Rattle.lattice.specs.Kept.{Holds};
+ghost use Rattle.numbers.specs.Listed.{listedEdge};
+ghost use Rattle.items.specs.Sound.{LegalAt};
+ghost use Rattle.items.specs.Texts.{TextsAre};
+ghost use Rattle.items.specs.Fields.{itemFraction, FractionIs, itemMap, partOr, itemFields, Listable};
+use dicts::layout::RecordAt;
+use edge::NumData;
+use edge::NumFields;
+use edge::Part;
+use items::Fraction;
+use lattice::Lattice;
+use pass_list::record::PassEdge;
+
+fn no_fraction() -> Fraction
+    ensures { λ r. ⌜ FractionIs r none ⌝ }
+{
+    Fraction {
+        there: false,
+        numerator: 0,
+        denominator: 0,
+    }
+}
+
+// A character's fraction is its record's, in lowest terms.
+fn fraction_of(table: &[u8], kind: u16, at: usize) -> Fraction
+    requires { ⌜ (kind ≡ 0 → LegalAt (now table) at) ⌝ }
+    ensures { λ r. ⌜ FractionIs r (itemFraction (now (table .entry)) kind at) ⌝ }
+{
+    if kind != 0 {
+        return no_fraction();
+    }
+    match dicts::layout::record_at(table, at) {
+        RecordAt::Record(p) => {
+            if p.map / 4 % 2 != 1 {
+                return no_fraction();
+            }
+            let r = ratio::lowest(p.numbers.numerator, p.numbers.denominator);
+            Fraction {
+                there: true,
+                numerator: r.numerator,
+                denominator: r.denominator,
+            }
+        }
+        RecordAt::Fault => no_fraction(),
+    }
+}
+
+// What a field adds to the map.
+fn worth(b: bool, of: u16) -> u16
+    ensures { λ r. ⌜ (r ≡ of * flag b) × (r ≤ of) ⌝ }
+{
+    if b { of } else { 0 }
+}
+
+// The map of an item: which of its fields are there.
+fn map_of(x: PassEdge, fraction: bool) -> u16
+    ensures { λ r. ⌜ r ≡ itemMap x fraction ⌝ }
+{
+    129
+        + worth(x.num.has_value, 2)
+        + worth(fraction, 4)
+        + worth(x.num.has_base, 8)
+        + worth(x.num.has_mult, 16)
+        + worth(x.num.has_script, 32)
+        + worth(x.num.large_power, 64)
+        + worth(x.kind == 1, 256)
+}
+
+// A part that is there, or none.
+fn part_or(b: bool, at: usize, len: usize) -> Part
+    ensures { λ r. ⌜ r ≡ partOr b at len ⌝ }
+{
+    if b {
+        Part { at: at, len: len }
+    } else {
+        Part { at: 0, len: 0 }
+    }
+}
+
+// The fields of an item whose fraction is f and whose txt has so many bytes.
+fn fields_of(offs: &[usize; 257], x: PassEdge, f: Fraction, len: usize) -> NumFields
+    requires { ⌜ Listable (now offs) x ⌝ }
+    ensures { λ r. ⌜ r ≡ itemFields (now (offs .entry)) x f len ⌝ }
+{
+    let start = x.start.0;
+    let end = x.end.0;
+    let from = offs[start];
+    let to = offs[end];
+    let orig = Part {
+        at: from,
+        len: to - from,
+    };
+    let script = part_or(x.num.has_script, x.num.script.0, x.num.script_len);
+    let value_s = part_or(x.kind == 1, 0, len);
+    edge_data::num_fields(NumData {
+        map: map_of(x, f.there),
+        value: x.num.value,
+        numerator: f.numerator,
+        denominator: f.denominator,
+        base: x.num.base,
+        base_multiplier: x.num.base_multiplier,
+        orig: orig,
+        script: script,
+        value_s: value_s,
+    })
+}
+
+// An item with these texts is added to the lattice.
+pub fn add_texts(
+    w: &mut [u8],
+    l: Lattice,
+    line: &[u8],
+    offs: &[usize; 257],
+    table: &[u8],
+    x: PassEdge,
+    ty: &[u8],
+    txt: &[u8],
+) -> Lattice
+    requires { ⌜ ((es : List Edge) × Holds (now w) l es) × Offsets (now line) (now offs) × ((i : Item) × TextsAre (now line) (now table) x (now ty) (now txt) i) × (length (chars (now line)) ≤ 256) ⌝ }
+    ensures { λ r. ⌜ (drop 39424 (now (w .exit)) ≡ drop 39424 (now (w .entry))) × ((es : List Edge) (i : Item) → Holds (now (w .entry)) l es → TextsAre (now (line .entry)) (now (table .entry)) x (now (ty .entry)) (now (txt .entry)) i → Holds (now (w .exit)) r (add es (listedEdge (edgeOf (chars (now (line .entry))) (now (table .entry)) i)))) ⌝ }
+{
+    let f = fraction_of(table, x.kind, x.record_at.0);
+    let d = fields_of(offs, x, f, txt.len());
+    lattice::add_numeric(w, l, x.start, x.end, ty, txt, d, line, table, txt)
+}

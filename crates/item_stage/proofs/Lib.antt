@@ -1,0 +1,2 @@
+-- Laws of adding items in turn.
+pub mod AddingLaws
