@@ -4,8 +4,8 @@ use mathlib.Core.Path.{_≡_, subst}
 use native.Mathlib.Omega.{arith}
 use lib.ListN.{length, length-replicate}
 use Prim.Native.Nat.{ℕ}
-use Rattle.call.specs.declared.Lent.{Lent}
-use Rattle.call.specs.Checks.{Sound, LentIs}
+use Rattle.checks.specs.declared.Lent.{Lent}
+use Rattle.checks.specs.Checks.{Sound, LentIs}
 use Rattle.call.proofs.AnswerLaws.{answer-short, answer-refused, answer-sound}
 use Rattle.call.proofs.add_numbers.Statement.{statement}
 use Rattle.call.proofs.add_numbers.Tie as tie

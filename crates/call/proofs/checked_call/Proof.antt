@@ -20,8 +20,8 @@ use Rattle.five.specs.declared.Passes.{Passes}
 use Rattle.numbers.specs.Call.{afterPasses, latticeOf}
 use Rattle.rest.specs.Rest.{restOf}
 use Rattle.rest.proofs.RestLaws.{rest-is}
-use Rattle.call.specs.Stages.{CallDone, CallPassed}
-use Rattle.call.proofs.AnswerLaws.{answer-above, answer-listing, answer-too-long}
+use Rattle.first_stages.specs.Stages.{CallDone, CallPassed}
+use Rattle.call.proofs.AnswerLaws.{answer-above, answer-below}
 use Rattle.call.proofs.checked_call.Statement.{statement}
 use Rattle.call.proofs.checked_call.Tie as tie
 
@@ -62,7 +62,7 @@ final a =
     (a .rest-of-call .ensures es (d .holds) (in-line m es (d .call)))
 
 passed-requires : tie.Need-passed-requires
-passed-requires c κs = search needs
+passed-requires c κs = let s = c .before .before .before .before .before .before in (s .pre .0, s .pre .1, (s .args .n, s .pre .2 .ready, s .pre .2 .edges))
 
 enum-known-p : tie.Need-enum-known-p
 enum-known-p c = search needs
@@ -76,14 +76,8 @@ rest-of-call-requires c κs = let m = c .before .before in
     let d = done m in
     (s .pre .2 .ready, (_, d .holds, in-line m _ (d .call)), s .pre .0, d .sounds, in-line m _ (items-call _ _ (chars-scalars _) (few m) _ (d .sounds)), omega (arith, d .few, m .before .before .before .before .passed .kept .0, s .pre .1))
 
-finish-requires : tie.Need-finish-requires
-finish-requires c κs = (_, final (c .before .before .before .before))
-
-enum-known-len : tie.Need-enum-known-len
-enum-known-len c = search needs
-
-enum-told : tie.Need-enum-told
-enum-told c = search needs
+end-of-call-requires : tie.Need-end-of-call-requires
+end-of-call-requires c κs = (_, final (c .before .before .before .before))
 
 same-length : tie.Need-same-length
 same-length c = search needs
@@ -100,22 +94,10 @@ same-length-3 : tie.Need-same-length-3
 same-length-3 c = search needs
 
 returns-2 : tie.Need-returns-2
-returns-2 c = let f = c .before .before .before .before .before in
-    let a = f .before .before .before .before .before in
+returns-2 c = let e = c .before .before in
+    let a = e .before .before .before .before .before in
     let s = start (of-call a .before .before .before .before) in
-    answer-listing (T s) (chars (s .args .line .now)) (s .args .out .now) (listed (s .args .edges .now)) (done (of-call a) .above) (f .finish .last .1 .1 .0) (f .finish .result) (f .finish .ensures .0 _ (final a)) (f .finish .ensures .1 _ (final a)) _ (c .before .len .given .1)
-
-same-length-4 : tie.Need-same-length-4
-same-length-4 c = search needs
-
-same-length-5 : tie.Need-same-length-5
-same-length-5 c = search needs
-
-returns-3 : tie.Need-returns-3
-returns-3 c = let f = c .before .before .before .before in
-    let a = f .before .before .before .before .before in
-    let s = start (of-call a .before .before .before .before) in
-    answer-too-long (T s) (chars (s .args .line .now)) (s .args .out .now) (listed (s .args .edges .now)) (done (of-call a) .above) (f .finish .last .1 .1 .0) (f .finish .result) (f .finish .ensures .0 _ (final a)) (f .finish .ensures .1 _ (final a)) (c .enum-told .given .1)
+    answer-below (T s) (chars (s .args .line .now)) (s .args .out .now) (listed (s .args .edges .now)) (done (of-call a) .above) (e .end-of-call .last .1 .1 .0) (e .end-of-call .result) (e .end-of-call .ensures _ (final a))
 
 pub checked-call-spec : {M : Type 1} → statement M
 checked-call-spec =
@@ -125,14 +107,9 @@ checked-call-spec =
     enum-known-p
     enum-known-m
     rest-of-call-requires
-    finish-requires
-    enum-known-len
-    enum-told
+    end-of-call-requires
     same-length
     returns
     same-length-2
     same-length-3
-    returns-2
-    same-length-4
-    same-length-5
-    returns-3)
+    returns-2)

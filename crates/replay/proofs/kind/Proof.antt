@@ -1,9 +1,9 @@
 -- `replay::kind` meets its contract: the refusals are numbered from 1 to 8. Assumes nothing.
 use Prim.Native.Nat.{_<_}
 use native.Mathlib.Omega.{arith}
-use Rattle.call.specs.declared.Refusal.{Refusal}
-use Rattle.call.specs.declared.Refusal.the-variants.{ShortWork, NotUtf8, OverLong, BadTable, BadContent, BadEdges, AboveTop, TooLong}
-use Rattle.call.specs.Answers.{number}
+use Rattle.answers.specs.declared.Refusal.{Refusal}
+use Rattle.answers.specs.declared.Refusal.the-variants.{ShortWork, NotUtf8, OverLong, BadTable, BadContent, BadEdges, AboveTop, TooLong}
+use Rattle.answers.specs.Answers.{number}
 use borrow.Author.Needs.{needs}
 use Rattle.replay.proofs.kind.Statement.{statement}
 use Rattle.replay.proofs.kind.Tie as tie

@@ -1,28 +1,24 @@
 -- `rilvostam::rilvostam_best_edge` meets its contract: its answer, translated. Assumes nothing.
 use mathlib.Core.Path.{ap, _∙_}
-use Rattle.rilvostam.specs.Exported.{answerStatus, answerAt}
+use Rattle.statuses.specs.Statuses.{answerStatus, answerAt}
 use borrow.Author.Needs.{needs}
 use Rattle.rilvostam.proofs.rilvostam_best_edge.Statement.{statement}
 use Rattle.rilvostam.proofs.rilvostam_best_edge.Tie as tie
 use Rattle.rilvostam.proofs.rilvostam_best_edge.Reads as reads
 use Rattle.rilvostam.proofs.rilvostam_best_edge.Lts as lts
 use Rattle.paths.proofs.best_edge.Reads as best-edge-reads
-use Rattle.rilvostam.proofs.answer_at.Reads as answer-at-reads
-use Rattle.rilvostam.proofs.answer_status.Reads as answer-status-reads
+use Rattle.statuses.proofs.answer_at.Reads as answer-at-reads
+use Rattle.statuses.proofs.answer_status.Reads as answer-status-reads
 
--- src/lib.rt:57:9
 best-edge-requires : tie.Need-best-edge-requires
 best-edge-requires c κs = search needs
 
--- src/lib.rt:64:11
 answer-at-requires : tie.Need-answer-at-requires
 answer-at-requires c κs = search needs
 
--- src/lib.rt:65:5
 answer-status-requires : tie.Need-answer-status-requires
 answer-status-requires c κs = search needs
 
--- src/lib.rt:45:1
 returns : tie.Need-returns
 returns c = let a = c .before .before .best-edge .ensures in (c .answer-status .ensures ∙ ap answerStatus a, c .before .answer-at .ensures ∙ ap answerAt a)
 

@@ -1,32 +1,27 @@
 -- `rilvostam::rilvostam_path` meets its contract: its answer, translated. Assumes nothing.
 use mathlib.Core.Path.{ap, _∙_}
-use Rattle.rilvostam.specs.Exported.{writtenStatus, writtenAt}
+use Rattle.statuses.specs.Statuses.{writtenStatus, writtenAt}
 use borrow.Author.Needs.{needs}
 use Rattle.rilvostam.proofs.rilvostam_path.Statement.{statement}
 use Rattle.rilvostam.proofs.rilvostam_path.Tie as tie
 use Rattle.rilvostam.proofs.rilvostam_path.Reads as reads
 use Rattle.rilvostam.proofs.rilvostam_path.Lts as lts
 use Rattle.path_listing.proofs.path.Reads as path-reads
-use Rattle.rilvostam.proofs.written_at.Reads as written-at-reads
-use Rattle.rilvostam.proofs.written_status.Reads as written-status-reads
+use Rattle.statuses.proofs.written_at.Reads as written-at-reads
+use Rattle.statuses.proofs.written_status.Reads as written-status-reads
 
--- src/lib.rt:135:9
 path-requires : tie.Need-path-requires
 path-requires c κs = search needs
 
--- src/lib.rt:143:11
 written-at-requires : tie.Need-written-at-requires
 written-at-requires c κs = search needs
 
--- src/lib.rt:144:5
 written-status-requires : tie.Need-written-status-requires
 written-status-requires c κs = search needs
 
--- src/lib.rt:121:1
 same-length : tie.Need-same-length
 same-length c = search needs
 
--- src/lib.rt:121:1
 returns : tie.Need-returns
 returns c = let a = c .before .before .before .before .path .ensures in (c .written-status .ensures ∙ ap writtenStatus (a .0), (c .before .written-at .ensures ∙ ap writtenAt (a .0), a .1))
 

@@ -1,0 +1,2 @@
+-- The answers of the call.
+pub mod Answers

@@ -1,0 +1,2 @@
+-- The proofs of `checks`.
+pub mod CheckLaws

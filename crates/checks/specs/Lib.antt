@@ -1,0 +1,2 @@
+-- What the checks of the call find.
+pub mod Checks

@@ -1,0 +1,2 @@
+-- The proofs of `ending`.
+mod EndLaws

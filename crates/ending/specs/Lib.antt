@@ -1,0 +1,2 @@
+-- What the call answers.
+pub mod Answers

@@ -1,0 +1,2 @@
+-- What the stages leave up to the five passes.
+pub mod Stages
