@@ -1,2 +1,2 @@
--- Which bits and which f64 are a NaN, for this crate's proofs.
+-- Laws of the f64 fields.
 pub mod FloatLaws

@@ -1,10 +1,10 @@
-// The bits of an f64 in slices of bytes, little-endian as every number there.
+// The bits of an f64 in slices of bytes, little-endian as every number there. The words of the contracts are in specs/FloatFields.antt.
 ghost use mathlib.Core.Path.{_≡_};
 ghost use Prim.Native.Nat.{_+_, _≤_};
 ghost use lib.ListN.{length};
 ghost use lib.Seq.{sets};
 ghost use lib.Ieee.{binary64, ofBits, toBits};
-ghost use Rattle.fields.specs.Fields.{f64At, f64Bytes};
+ghost use Rattle.float_fields.specs.FloatFields.{f64At, f64Bytes};
 
 // The f64 of bits. Bits of a NaN are tested first: the kit defines no f64 for them but the result of an operation.
 fn float_of(bits: u64) -> f64
