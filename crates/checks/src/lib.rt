@@ -41,7 +41,7 @@ fn check_rest(chars: usize, table: &[u8], edges: &[u8]) -> Lent
 pub fn check(line: &[u8], table: &[u8], edges: &[u8]) -> Lent
     ensures { λ r. ⌜ LentIs (now (line .entry)) (now (table .entry)) (now (edges .entry)) r ⌝ }
 {
-    match text::check_line(line) {
+    match text_line::check_line(line) {
         LineCheck::IllFormed(at) => Lent::Refused(Refusal::NotUtf8(at)),
         LineCheck::TooLong(at) => Lent::Refused(Refusal::OverLong(at)),
         LineCheck::Chars(chars) => check_rest(chars, table, edges),

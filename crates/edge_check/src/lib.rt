@@ -36,7 +36,7 @@ fn text_sound(s: &[u8], t: Part) -> bool
 {
     let from = t.at;
     let to = from + t.len;
-    text::well_formed(&s[from..to])
+    text_line::well_formed(&s[from..to])
 }
 
 fn text_sound_if(map: u16, p: u16, s: &[u8], t: Part) -> bool

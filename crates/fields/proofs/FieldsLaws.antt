@@ -1,9 +1,8 @@
--- Laws of `le`, `leAt`, `bytesOf` and the f64 fields (`specs/Fields.antt`), for this crate's proofs and its callers'. No contract cites this file.
--- In order: what bytes say; the bytes of a number; what was written is read; a number in two halves; after a row of stores; bounds; f64.
+-- Laws of `le`, `leAt` and `bytesOf` (`specs/Fields.antt`), for this crate's proofs and its callers'. No contract cites this file.
+-- In order: what bytes say; the bytes of a number; what was written is read; a number in two halves; after a row of stores; bounds.
 -- Assumes nothing.
 use mathlib.Core.Path.{_≡_, refl, sym, ap, _∙_, subst}
 use mathlib.Core.Logic.{_⊎_}
-use mathlib.Core.Bool.{not}
 use mathlib.Core.List.{List, [], _∷_, _++_}
 use Prim.Native.Nat.{ℕ, zero, suc, _+_, _*_, _/_, _%_, _^_, _≤_, _<_}
 use native.Mathlib.Nat.{zero-add, suc-add, add-zero, mul-assoc, mul-add, one-mul, add-assoc}
@@ -13,14 +12,10 @@ use native.Mathlib.Decide.{decLt}
 use lib.ListN.{length, take, drop, getD, drop-of-length-le}
 use lib.Seq.{drop-cons, sets}
 use lib.Pow.{pow-add, pow-pos, field, mod-mod-pow, shr-shr, shr-lt}
-use lib.Dec.{T, lit<}
-use lib.Ieee.{Float, binary64, fits, toBits, isNan, nanBits}
-use lib.Ieee.Bits.{ofBits-toBits, toBits-lt, nanBits-is}
-use Rattle.whole.specs.Whole.{TOP, ofNat}
-use Rattle.whole.proofs.WholeLaws.{ofNat-fits, ofNat-not-nan}
+use lib.Dec.{lit<}
 use Rattle.whole.proofs.SetsLaws.{sets-then}
 use Rattle.fields.specs.Part.{part}
-use Rattle.fields.specs.Fields.{le, leAt, bytesOf, f64At, f64Bytes}
+use Rattle.fields.specs.Fields.{le, leAt, bytesOf}
 use Rattle.fields.proofs.PartLaws.{length-part, part-add, part-of-drop, part-of-part, part-append-left, part-append-right, part-append-first, part-sets, part-sets-in, part-sets-other}
 
 -- ---- what bytes say
@@ -125,18 +120,3 @@ leAt-lt s at (suc w) f = go (decLt at (length s)) (leAt-lt s (at + 1) w f)
     go : Dec (at < length s) → leAt s (at + 1) w < 2 ^ (8 * w) → leAt s at (suc w) < 2 ^ (8 * suc w)
     go (yes h) r = rw (drop-cons s at 0 h, p) (below (f at) (subst (λ (n : ℕ). le (take w (drop n s)) < 2 ^ (8 * w)) (add-one at) r))
     go (no h) r = rw (drop-of-length-le s {i = at} (omega arith)) (pow-pos (8 * suc w))
-
--- ---- f64
-pub f64At-sets : (s : List ℕ) (at : ℕ) (x : Float) → at + 8 ≤ length s → T (fits binary64 x) → f64At (sets s at (f64Bytes x)) at ≡ x
-f64At-sets s at x h f = rw (leAt-sets s at 8 (toBits binary64 x) h (toBits-lt binary64 x f)) (ofBits-toBits binary64 x f)
-
--- what was written is no NaN's bits
-pub f64-sets-not-nan : (s : List ℕ) (at : ℕ) (x : Float) → at + 8 ≤ length s → T (fits binary64 x) → T (not (isNan x)) → T (not (nanBits binary64 (leAt (sets s at (f64Bytes x)) at 8)))
-f64-sets-not-nan s at x h f n = rw (leAt-sets s at 8 (toBits binary64 x) h (toBits-lt binary64 x f), nanBits-is binary64 (toBits binary64 x), ofBits-toBits binary64 x f) n
-
--- the f64 of a whole number
-pub f64At-sets-whole : (s : List ℕ) (at n : ℕ) → at + 8 ≤ length s → f64At (sets s at (f64Bytes (ofNat n))) at ≡ ofNat n
-f64At-sets-whole s at n h = f64At-sets s at (ofNat n) h (ofNat-fits n)
-
-pub f64-sets-whole-not-nan : (s : List ℕ) (at n : ℕ) → at + 8 ≤ length s → n ≤ TOP → T (not (nanBits binary64 (leAt (sets s at (f64Bytes (ofNat n))) at 8)))
-f64-sets-whole-not-nan s at n h k = f64-sets-not-nan s at (ofNat n) h (ofNat-fits n) (ofNat-not-nan k)

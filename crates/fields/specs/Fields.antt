@@ -2,12 +2,9 @@
 --     le bs           the number that the bytes bs say
 --     leAt s at w     the number in w bytes of s from the offset at on
 --     bytesOf w n     the w bytes of n; what of n is above 2 ^ (8 * w) has no bytes
---     f64At s at      the f64 whose bits are the 8 bytes of s from the offset at on
---     f64Bytes x      the 8 bytes of the bits of x
 -- Assumes nothing.
 use mathlib.Core.List.{List, [], _∷_}
 use Prim.Native.Nat.{ℕ, zero, suc, _+_, _*_, _/_, _%_}
-use lib.Ieee.{Float, binary64, toBits, ofBits}
 use Rattle.fields.specs.Part.{part}
 
 unfoldable pub le : List ℕ → ℕ
@@ -20,9 +17,3 @@ leAt s at w = le (part s at w)
 unfoldable pub bytesOf : ℕ → ℕ → List ℕ
 bytesOf zero n = []
 bytesOf (suc w) n = n % 256 ∷ bytesOf w (n / 256)
-
-abbrev pub f64At : List ℕ → ℕ → Float
-f64At s at = ofBits binary64 (leAt s at 8)
-
-abbrev pub f64Bytes : Float → List ℕ
-f64Bytes x = bytesOf 8 (toBits binary64 x)

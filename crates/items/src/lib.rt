@@ -58,10 +58,10 @@ pub fn txt_of(buf: &mut [u8], line: &[u8], offs: &[usize; 257], table: &[u8], x:
     let value = whole::to_u64(x.num.value);
     if x.kind == 1 {
         let len = x.end.0 - x.start.0;
-        whole::put_padded(buf, 0, len, value);
+        decimal::put_padded(buf, 0, len, value);
         return len;
     }
-    whole::put_decimal(buf, 0, value)
+    decimal::put_decimal(buf, 0, value)
 }
 
 // Two letters go to the front of a buffer.

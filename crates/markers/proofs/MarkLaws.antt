@@ -14,7 +14,7 @@ use Rattle.fields.specs.Part.{part}
 use Rattle.text.specs.Bytes.{same}
 use Rattle.text.specs.Line.{walked}
 use Rattle.text.specs.declared.Walked.{Walked}
-use Rattle.text.proofs.LineLaws.{count-whole}
+use Rattle.text_line.proofs.LineLaws.{count-whole}
 use Rattle.text.specs.Text.{chars, left, wellFormed, encodes, offsetOf}
 use Rattle.text.proofs.BytesLaws.{same-refl, same-true, same-lengths}
 use Rattle.text.proofs.RowLaws.{and-true}

@@ -48,7 +48,7 @@ fn size_at(line: &[u8], at: usize, table: &[u8], m: Part) -> usize
     let end = m.at + m.len;
     let bytes = &table[from..end];
     if stands(line, at, bytes) {
-        let w = text::walk(bytes, bytes.len());
+        let w = text_line::walk(bytes, bytes.len());
         return w.count;
     }
     0
@@ -127,7 +127,7 @@ pub fn sign_before(line: &[u8], offs: &[usize; 257], p: Place, m: &[u8]) -> Sign
     ensures { λ r. ⌜ r ≡ signOf (chars (now (line .entry))) (p .0) (now (m .entry)) ⌝ }
 {
     let place = p.0;
-    let w = text::walk(m, m.len());
+    let w = text_line::walk(m, m.len());
     let size = w.count;
     if place < size {
         return Sign::NoSign;

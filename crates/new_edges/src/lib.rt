@@ -33,7 +33,7 @@ pub enum Script {
 fn put_percent(buf: &mut [u8; 300], v: u64) -> usize
     ensures { λ r. ⌜ TextIs (now (buf .exit)) r (decimal v ++ (37 ∷ [])) ⌝ }
 {
-    let n = whole::put_decimal(buf, 0, v);
+    let n = decimal::put_decimal(buf, 0, v);
     buf[n] = 37;
     n + 1
 }
@@ -42,9 +42,9 @@ fn put_percent(buf: &mut [u8; 300], v: u64) -> usize
 fn put_fraction(buf: &mut [u8; 300], right: u64, left: u64) -> usize
     ensures { λ r. ⌜ TextIs (now (buf .exit)) r (decimal right ++ (47 ∷ decimal left)) ⌝ }
 {
-    let n = whole::put_decimal(buf, 0, right);
+    let n = decimal::put_decimal(buf, 0, right);
     buf[n] = 47;
-    whole::put_decimal(buf, n + 1, left)
+    decimal::put_decimal(buf, n + 1, left)
 }
 
 // A text of the lattice and "%".

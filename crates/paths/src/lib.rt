@@ -202,7 +202,7 @@ pub fn best_of(s: &[u8], first: usize, count: usize, q: Query, skip: bool) -> Fo
 pub fn check(line: &[u8], listing: &[u8]) -> Checked
     ensures { λ r. ⌜ r ≡ readCheck (now (line .entry)) (now (listing .entry)) ⌝ }
 {
-    match text::check_line(line) {
+    match text_line::check_line(line) {
         LineCheck::IllFormed(at) => Checked::Refused(Refusal::NotUtf8(at)),
         LineCheck::TooLong(at) => Checked::Refused(Refusal::OverLong(at)),
         LineCheck::Chars(chars) => match edge_check::check_listing(listing, chars, false) {

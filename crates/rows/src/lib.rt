@@ -38,7 +38,7 @@ fn put_part(out: &mut [u8], at: usize, s: &[u8], t: Part, by: u8) -> usize
 fn number_len(n: u64) -> usize
     ensures { λ r. ⌜ (r ≡ length (decimal n) + 1) × (r ≤ 21) ⌝ }
 {
-    whole::decimal_len(n) + 1
+    decimal::decimal_len(n) + 1
 }
 
 // A number in decimal and the byte that ends it.
@@ -46,7 +46,7 @@ fn put_number(out: &mut [u8], at: usize, n: u64, by: u8) -> usize
     requires { ⌜ at + length (decimal n) + 1 ≤ length (now out) ⌝ }
     ensures { λ r. ⌜ Put (now (out .entry)) (now (out .exit)) at r (ended (decimal n) by) ⌝ }
 {
-    let end = whole::put_decimal(out, at, n);
+    let end = decimal::put_decimal(out, at, n);
     out[end] = by;
     end + 1
 }

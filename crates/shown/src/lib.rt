@@ -29,8 +29,8 @@ fn shown_at(line: &[u8], listing: &[u8], chars: usize, count: usize, place: Plac
             Shown::Listing(txt)
         }
         Found::Nothing => {
-            let from = text::offset_of(line, place);
-            let to = text::offset_of(line, Place(place.0 + 1));
+            let from = text_line::offset_of(line, place);
+            let to = text_line::offset_of(line, Place(place.0 + 1));
             Shown::Line(Part {
                 at: from.0,
                 len: to.0 - from.0,

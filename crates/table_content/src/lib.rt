@@ -36,7 +36,7 @@ pub fn well_formed(s: &[u8], p: Part) -> bool
     if rest == end {
         return true;
     }
-    text::well_formed(&s[rest..end])
+    text_line::well_formed(&s[rest..end])
 }
 
 // A string of a list: not empty, and UTF-8.

@@ -4,6 +4,5 @@ pub mod SequenceLaws
 pub mod EncodeLaws
 pub mod TextLaws
 pub mod PlaceLaws
-pub mod LineLaws
 pub mod BytesLaws
 pub mod Cases

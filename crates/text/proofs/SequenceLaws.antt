@@ -2,7 +2,7 @@
 use mathlib.Core.Path.{_≡_, refl, sym}
 use mathlib.Core.Bool.{Bool, true, false, cond, _&&_}
 use mathlib.Core.List.{List, [], _∷_}
-use Prim.Native.Nat.{ℕ, zero, suc, _+_, _%_, _≤_, _<_}
+use Prim.Native.Nat.{ℕ, zero, suc, _+_, _-_, _%_, _≤_, _<_}
 use native.Mathlib.Numerals.{add-one}
 use native.Mathlib.Omega.{arith}
 use lib.ListN.{length, getD, drop, length-drop, drop-of-length-le}
@@ -29,8 +29,8 @@ trailing-cut zero lo hi c l s h = absurd (omega arith)
 trailing-cut (suc n) lo hi c l [] h = refl
 trailing-cut (suc n) lo hi c l (x ∷ s) h = rw (trailing-cut n 0x80 0xBF (six c x) (l + 1) s (omega arith)) (cond-same (within lo hi x) Ill)
 
-pub cut-at : (n lo hi c l : ℕ) (s : List ℕ) (at : ℕ) → at ≤ length s → length s < at + n → Ill ≡ trailing n lo hi c l (drop at s)
-cut-at n lo hi c l s at k h = sym (trailing-cut n lo hi c l (drop at s) (rw length-drop (omega arith)))
+pub cut-at : (n lo hi c l : ℕ) (s : List ℕ) (at : ℕ) → at < length s → length s - at < n + 1 → Ill ≡ trailing n lo hi c l (drop (at + 1) s)
+cut-at n lo hi c l s at h k = sym (trailing-cut n lo hi c l (drop (at + 1) s) (rw length-drop (omega arith)))
 
 -- ---- bytes at an offset
 module _ (s : List ℕ) where
@@ -42,26 +42,23 @@ module _ (s : List ℕ) where
   unfolding trailing
   trailing-at n lo hi c l i j h e = rw (drop-at i h, e)
 
-  module _ (lo hi at b : ℕ) where
-    pub two-at : at + 1 < length s
-        → cond (within lo hi (getD s (at + 1) 0)) (Char (six b (getD s (at + 1) 0)) 2) Ill ≡ trailing 1 lo hi b 1 (drop (at + 1) s)
+  -- the tests and the bits of the bytes behind the lead byte, as the code has them
+  module _ (lo hi at lead : ℕ) {p : Bool} {x : ℕ} (second : p ≡ within lo hi (getD s (at + 1) 0)) (bits : x ≡ six lead (getD s (at + 1) 0)) where
+    pub two-at : 2 ≤ length s - at → cond p (Char x 2) Ill ≡ trailing 1 lo hi lead 1 (drop (at + 1) s)
     unfolding trailing
-    two-at h = rw (trailing-at 0 lo hi b 1 (at + 1) (at + 2) h (omega arith))
+    two-at h = rw (second, bits, trailing-at 0 lo hi lead 1 (at + 1) (at + 2) (omega arith) (omega arith))
 
-    pub three-at : at + 2 < length s
-        → cond (within lo hi (getD s (at + 1) 0) && trail (getD s (at + 2) 0)) (Char (six (six b (getD s (at + 1) 0)) (getD s (at + 2) 0)) 3) Ill
-        ≡ trailing 2 lo hi b 1 (drop (at + 1) s)
-    unfolding trailing
-    three-at h = rw (cond-and, trailing-at 1 lo hi b 1 (at + 1) (at + 2) (omega arith) (omega arith), trailing-at 0 0x80 0xBF _ _ (at + 2) (at + 3) h (omega arith))
+    module _ {q : Bool} {y : ℕ} (third : q ≡ trail (getD s (at + 2) 0)) (bits-y : y ≡ six x (getD s (at + 2) 0)) where
+      pub three-at : 3 ≤ length s - at → cond (p && q) (Char y 3) Ill ≡ trailing 2 lo hi lead 1 (drop (at + 1) s)
+      unfolding trailing
+      three-at h =
+          rw (second, third, bits-y, bits, cond-and, trailing-at 1 lo hi lead 1 (at + 1) (at + 2) (omega arith) (omega arith), trailing-at 0 0x80 0xBF _ _ (at + 2) (at + 3) (omega arith) (omega arith))
 
-    pub four-at : at + 3 < length s
-        → cond (within lo hi (getD s (at + 1) 0) && trail (getD s (at + 2) 0) && trail (getD s (at + 3) 0))
-        (Char (six (six (six b (getD s (at + 1) 0)) (getD s (at + 2) 0)) (getD s (at + 3) 0)) 4)
-        Ill
-        ≡ trailing 3 lo hi b 1 (drop (at + 1) s)
-    unfolding trailing
-    four-at h =
-        rw (cond-and, cond-and, trailing-at 2 lo hi b 1 (at + 1) (at + 2) (omega arith) (omega arith), trailing-at 1 0x80 0xBF _ _ (at + 2) (at + 3) (omega arith) (omega arith), trailing-at 0 0x80 0xBF _ _ (at + 3) (at + 4) h (omega arith))
+      pub four-at : {r : Bool} {z : ℕ} → r ≡ trail (getD s (at + 3) 0) → z ≡ six y (getD s (at + 3) 0) → 4 ≤ length s - at
+          → cond (p && q && r) (Char z 4) Ill ≡ trailing 3 lo hi lead 1 (drop (at + 1) s)
+      unfolding trailing
+      four-at fourth bits-z h =
+          rw (second, third, fourth, bits-z, bits-y, bits, cond-and, cond-and, trailing-at 2 lo hi lead 1 (at + 1) (at + 2) (omega arith) (omega arith), trailing-at 1 0x80 0xBF _ _ (at + 2) (at + 3) (omega arith) (omega arith), trailing-at 0 0x80 0xBF _ _ (at + 3) (at + 4) (omega arith) (omega arith))
 
   pub seq-end : (at : ℕ) → length s ≤ at → End ≡ seq (drop at s)
   unfolding seq
@@ -72,21 +69,22 @@ module _ (s : List ℕ) where
     unfolding seq
     seq-at = rw (drop-at at h, e)
 
-    pub seq-one : r .0 ≡ 1 → Char (getD s at 0) 1 ≡ seq (drop at s)
-    unfolding bySize
-    seq-one p = rw (seq-at, p)
+    module _ {b : ℕ} (w : b ≡ getD s at 0) where
+      pub seq-one : r .0 ≡ 1 → Char b 1 ≡ seq (drop at s)
+      unfolding bySize
+      seq-one p = rw (seq-at, p, w)
 
-    pub seq-two : r .0 ≡ 2 → trailing 1 (r .1) (r .2) (getD s at 0 % 32) 1 (drop (at + 1) s) ≡ seq (drop at s)
-    unfolding bySize
-    seq-two p = rw (seq-at, p)
+      pub seq-two : r .0 ≡ 2 → trailing 1 (r .1) (r .2) (b % 32) 1 (drop (at + 1) s) ≡ seq (drop at s)
+      unfolding bySize
+      seq-two p = rw (seq-at, p, w)
 
-    pub seq-three : r .0 ≡ 3 → trailing 2 (r .1) (r .2) (getD s at 0 % 16) 1 (drop (at + 1) s) ≡ seq (drop at s)
-    unfolding bySize
-    seq-three p = rw (seq-at, p)
+      pub seq-three : r .0 ≡ 3 → trailing 2 (r .1) (r .2) (b % 16) 1 (drop (at + 1) s) ≡ seq (drop at s)
+      unfolding bySize
+      seq-three p = rw (seq-at, p, w)
 
-    pub seq-four : r .0 ≡ 4 → trailing 3 (r .1) (r .2) (getD s at 0 % 8) 1 (drop (at + 1) s) ≡ seq (drop at s)
-    unfolding bySize
-    seq-four p = rw (seq-at, p)
+      pub seq-four : r .0 ≡ 4 → trailing 3 (r .1) (r .2) (b % 8) 1 (drop (at + 1) s) ≡ seq (drop at s)
+      unfolding bySize
+      seq-four p = rw (seq-at, p, w)
 
     pub seq-none : (r .0 ≡ 1 → ⊥) → (r .0 ≡ 2 → ⊥) → (r .0 ≡ 3 → ⊥) → (r .0 ≡ 4 → ⊥) → Ill ≡ seq (drop at s)
     unfolding bySize

@@ -1,12 +1,10 @@
-// Text as bytes: one UTF-8 sequence (Unicode Standard, table 3-7), a whole line, the offset of a place, equality of bytes.
+// Text as bytes: one UTF-8 sequence (Unicode Standard, table 3-7), equality of bytes, and the types that a line's functions answer (`text_line`).
 ghost use mathlib.Core.Path.{_≡_};
 ghost use mathlib.Core.Bool.{cond};
-ghost use Prim.Native.Nat.{_+_, _*_, _%_, _<_};
-ghost use lib.ListN.{length, getD, drop};
+ghost use Prim.Native.Nat.{_+_, _<_};
+ghost use lib.ListN.{length, drop};
 ghost use Rattle.text.specs.Table.{rowOf, within, six};
 ghost use Rattle.text.specs.Sequence.{seq, trailing};
-ghost use Rattle.text.specs.Text.{wellFormed, offsetOf};
-ghost use Rattle.text.specs.Line.{walked, lineCheck};
 ghost use Rattle.text.specs.Bytes.{same};
 
 // A count of characters of the line.
@@ -14,9 +12,6 @@ pub struct Place(pub usize);
 
 // A count of bytes.
 pub struct Offset(pub usize);
-
-// The most characters that a line may have.
-pub const MAX_CHARS: usize = 256;
 
 // A row of table 3-7: the sequence's length, and the limits of its second byte.
 pub struct Row(pub usize, pub u8, pub u8);
@@ -29,7 +24,7 @@ pub enum Seq {
 }
 
 // The row for a lead byte; of length 0 where no sequence begins with it.
-pub fn row_of(b: u8) -> Row
+fn row_of(b: u8) -> Row
     ensures { λ r. ⌜ r ≡ rowOf b ⌝ }
 {
     match b {
@@ -76,21 +71,21 @@ fn char_if(good: bool, c: u32, len: usize) -> Seq
     Seq::Ill
 }
 
-// The sequences of two, three and four bytes at an offset, the second byte from lo to hi.
-fn two(s: &[u8], at: usize, lo: u8, hi: u8) -> Seq
-    requires { ⌜ at < length (now s) ⌝ }
-    ensures { λ r. ⌜ r ≡ trailing 1 lo hi (getD (now (s .entry)) at 0 % 32) 1 (drop (at + 1) (now (s .entry))) ⌝ }
+// The sequences of two, three and four bytes at an offset: lead has the bits of the first byte, the second is from lo to hi.
+fn two(s: &[u8], at: usize, lead: u32, lo: u8, hi: u8) -> Seq
+    requires { ⌜ (at < length (now s)) × (lead < 32) ⌝ }
+    ensures { λ r. ⌜ r ≡ trailing 1 lo hi lead 1 (drop (at + 1) (now (s .entry))) ⌝ }
 {
     if s.len() - at < 2 {
         return Seq::Ill;
     }
     let c = s[at + 1];
-    char_if(between(lo, hi, c), six_more(wide(s[at]) % 32, c), 2)
+    char_if(between(lo, hi, c), six_more(lead, c), 2)
 }
 
-fn three(s: &[u8], at: usize, lo: u8, hi: u8) -> Seq
-    requires { ⌜ at < length (now s) ⌝ }
-    ensures { λ r. ⌜ r ≡ trailing 2 lo hi (getD (now (s .entry)) at 0 % 16) 1 (drop (at + 1) (now (s .entry))) ⌝ }
+fn three(s: &[u8], at: usize, lead: u32, lo: u8, hi: u8) -> Seq
+    requires { ⌜ (at < length (now s)) × (lead < 16) ⌝ }
+    ensures { λ r. ⌜ r ≡ trailing 2 lo hi lead 1 (drop (at + 1) (now (s .entry))) ⌝ }
 {
     if s.len() - at < 3 {
         return Seq::Ill;
@@ -98,12 +93,12 @@ fn three(s: &[u8], at: usize, lo: u8, hi: u8) -> Seq
     let c = s[at + 1];
     let d = s[at + 2];
     let good = between(lo, hi, c) & between(0x80, 0xBF, d);
-    char_if(good, six_more(six_more(wide(s[at]) % 16, c), d), 3)
+    char_if(good, six_more(six_more(lead, c), d), 3)
 }
 
-fn four(s: &[u8], at: usize, lo: u8, hi: u8) -> Seq
-    requires { ⌜ at < length (now s) ⌝ }
-    ensures { λ r. ⌜ r ≡ trailing 3 lo hi (getD (now (s .entry)) at 0 % 8) 1 (drop (at + 1) (now (s .entry))) ⌝ }
+fn four(s: &[u8], at: usize, lead: u32, lo: u8, hi: u8) -> Seq
+    requires { ⌜ (at < length (now s)) × (lead < 8) ⌝ }
+    ensures { λ r. ⌜ r ≡ trailing 3 lo hi lead 1 (drop (at + 1) (now (s .entry))) ⌝ }
 {
     if s.len() - at < 4 {
         return Seq::Ill;
@@ -112,11 +107,7 @@ fn four(s: &[u8], at: usize, lo: u8, hi: u8) -> Seq
     let d = s[at + 2];
     let e = s[at + 3];
     let good = between(lo, hi, c) & between(0x80, 0xBF, d) & between(0x80, 0xBF, e);
-    char_if(
-        good,
-        six_more(six_more(six_more(wide(s[at]) % 8, c), d), e),
-        4,
-    )
+    char_if(good, six_more(six_more(six_more(lead, c), d), e), 4)
 }
 
 // What stands at an offset.
@@ -130,11 +121,12 @@ pub fn seq_at(s: &[u8], at: Offset) -> Seq
     let b = s[at];
     let row = row_of(b);
     let len = row.0;
+    let lead = wide(b);
     match len {
-        1 => Seq::Char(wide(b), 1),
-        2 => two(s, at, row.1, row.2),
-        3 => three(s, at, row.1, row.2),
-        4 => four(s, at, row.1, row.2),
+        1 => Seq::Char(lead, 1),
+        2 => two(s, at, lead % 32, row.1, row.2),
+        3 => three(s, at, lead % 16, row.1, row.2),
+        4 => four(s, at, lead % 8, row.1, row.2),
         _ => Seq::Ill,
     }
 }
@@ -145,64 +137,11 @@ pub struct Walked {
     pub at: usize,
 }
 
-// Over the characters from the start, at most so many, up to the end or an ill-formed sequence.
-pub fn walk(s: &[u8], most: usize) -> Walked
-    ensures { λ r. ⌜ r ≡ walked (now (s .entry)) most ⌝ }
-{
-    let mut count = 0;
-    let mut at = 0;
-    while count < most {
-        match seq_at(s, Offset(at)) {
-            Seq::Char(_, len) => {
-                count += 1;
-                at += len;
-            }
-            Seq::Ill => {
-                return Walked { count, at };
-            }
-            Seq::End => {
-                return Walked { count, at };
-            }
-        }
-    }
-    Walked { count, at }
-}
-
-// Whether all of s is well-formed.
-pub fn well_formed(s: &[u8]) -> bool
-    ensures { λ r. ⌜ r ≡ wellFormed (now (s .entry)) ⌝ }
-{
-    let w = walk(s, s.len());
-    w.at == s.len()
-}
-
-// The offset of a place of the line; the line's length for a place behind its end.
-pub fn offset_of(line: &[u8], place: Place) -> Offset
-    ensures { λ r. ⌜ r .0 ≡ offsetOf (now (line .entry)) (place .0) ⌝ }
-{
-    let w = walk(line, place.0);
-    Offset(w.at)
-}
-
 // What a line is: so many characters; not UTF-8, with the offset of its first ill-formed sequence; over MAX_CHARS, with the offset of the next one.
 pub enum LineCheck {
     Chars(usize),
     IllFormed(Offset),
     TooLong(Offset),
-}
-
-// Refusals 2 and 3. The whole line is looked at for 2 before 3 is asked; an accepted line is walked once.
-pub fn check_line(line: &[u8]) -> LineCheck
-    ensures { λ r. ⌜ r ≡ lineCheck (now (line .entry)) ⌝ }
-{
-    let w = walk(line, line.len());
-    if w.at < line.len() {
-        return LineCheck::IllFormed(Offset(w.at));
-    }
-    if w.count <= MAX_CHARS {
-        return LineCheck::Chars(w.count);
-    }
-    LineCheck::TooLong(offset_of(line, Place(MAX_CHARS)))
 }
 
 // Whether two byte strings are equal.

@@ -47,7 +47,7 @@ fn show_first(bytes: &[u8], n: usize)
 }
 
 fn show(line: &[u8]) {
-    match text::check_line(line) {
+    match text_line::check_line(line) {
         LineCheck::Chars(n) => {
             io::write_all(1, b"chars ");
             io::print_decimal(1, n as u64);
@@ -73,7 +73,7 @@ fn refused(number: u64, at: Offset) {
 fn each(line: &[u8], n: usize) {
     let mut p = 0;
     while p < n {
-        let at = text::offset_of(line, Place(p));
+        let at = text_line::offset_of(line, Place(p));
         io::write_all(1, b" ");
         io::print_decimal(1, at.0 as u64);
         io::write_all(1, b":");

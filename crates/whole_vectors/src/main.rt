@@ -2,13 +2,13 @@
 // The decimal text of n, and the newline that the line is filled with.
 fn show(n: u64) {
     let mut line = [10u8; 21];
-    let end = whole::put_decimal(&mut line, 0, n);
+    let end = decimal::put_decimal(&mut line, 0, n);
     io::write_all(1, &line[..end + 1]);
 }
 
 // What a row of digits says.
 fn show_row(s: &[u8]) {
-    match whole::read_digits(s) {
+    match decimal::read_digits(s) {
         whole::Row::Fits(n) => {
             show(n);
         }
@@ -46,7 +46,7 @@ fn show_sum(m: u64, n: u64) {
 // The bits of x, as a listing has them, in hexadecimal.
 fn show_bits(x: f64) {
     let mut field = [0u8; 8];
-    fields::put_f64(&mut field, 0, x);
+    float_fields::put_f64(&mut field, 0, x);
     io::print_hex(1, fields::u64_at(&field, 0), 16);
     io::write_all(1, b"\n");
 }
@@ -55,7 +55,7 @@ fn show_bits(x: f64) {
 fn show_back(bits: u64) {
     let mut field = [0u8; 8];
     fields::put_u64(&mut field, 0, bits);
-    show_bits(fields::f64_at(&field, 0));
+    show_bits(float_fields::f64_at(&field, 0));
 }
 
 // Casts on both sides of what each type holds exactly.

@@ -1,6 +1,6 @@
 -- `text::seq_at` meets its contract: the end, or the sequence that the lead byte's row asks for.
+use mathlib.Core.Path.{_∙_}
 use borrow.Author.Needs.{needs}
-use native.Mathlib.Omega.{arith}
 use Rattle.text.proofs.SequenceLaws.{seq-end, seq-one, seq-two, seq-three, seq-four, seq-none}
 use Rattle.text.proofs.seq_at.Statement.{statement}
 use Rattle.text.proofs.seq_at.Tie as tie
@@ -27,19 +27,31 @@ four-requires : tie.Need-four-requires
 four-requires c κs = search needs
 
 returns-2 : tie.Need-returns-2
-returns-2 c = let r = c .before .before in let e = r .before .before .before in cc (seq-one _ _ (r .before .before .if1 .left) _ (r .row-of .ensures) (omega arith))
+returns-2 c = let r = c .before .before in seq-one _ _ (r .before .before .if1 .left) _ (r .row-of .ensures) (c .before .wide .ensures) (c .match .keys1)
 
 returns-3 : tie.Need-returns-3
-returns-3 c = let r = c .before .before in let e = r .before .before .before in cc (seq-two _ _ (r .before .before .if1 .left) _ (r .row-of .ensures) (omega arith))
+returns-3 c =
+    let w = c .before .before in
+    let r = w .before in
+    c .two .ensures ∙ seq-two _ _ (r .before .before .if1 .left) _ (r .row-of .ensures) (w .wide .ensures) (c .before .match .keys2)
 
 returns-4 : tie.Need-returns-4
-returns-4 c = let r = c .before .before in let e = r .before .before .before in cc (seq-three _ _ (r .before .before .if1 .left) _ (r .row-of .ensures) (omega arith))
+returns-4 c =
+    let w = c .before .before in
+    let r = w .before in
+    c .three .ensures ∙ seq-three _ _ (r .before .before .if1 .left) _ (r .row-of .ensures) (w .wide .ensures) (c .before .match .keys3)
 
 returns-5 : tie.Need-returns-5
-returns-5 c = let r = c .before .before in let e = r .before .before .before in cc (seq-four _ _ (r .before .before .if1 .left) _ (r .row-of .ensures) (omega arith))
+returns-5 c =
+    let w = c .before .before in
+    let r = w .before in
+    c .four .ensures ∙ seq-four _ _ (r .before .before .if1 .left) _ (r .row-of .ensures) (w .wide .ensures) (c .before .match .keys4)
 
 returns-6 : tie.Need-returns-6
-returns-6 c = let r = c .before in seq-none _ _ (r .before .before .if1 .left) _ (r .row-of .ensures) (omega arith) (omega arith) (omega arith) (omega arith)
+returns-6 c =
+    let n = c .match .rest in
+    let r = c .before .before in
+    seq-none _ _ (r .before .before .if1 .left) _ (r .row-of .ensures) (n .0 .0 .0 .1) (n .0 .0 .1) (n .0 .1) (n .1)
 
 pub seq-at-spec : {M : Type 1} → statement M
 seq-at-spec =

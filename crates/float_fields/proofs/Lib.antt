@@ -1,0 +1,2 @@
+-- Laws of the f64 fields.
+pub mod FloatLaws

@@ -1,0 +1,2 @@
+-- The definitions that the contracts of `float_fields` cite.
+pub mod FloatFields
