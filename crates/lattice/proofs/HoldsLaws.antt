@@ -1,24 +1,22 @@
--- Laws of `Holds`: stores that leave a lattice as it is, and an edge that is added or not. No contract cites this file.
--- In order: stores between the listing and the cells; a full lattice stays full; what is to be done with an edge, and what then holds. Assumes nothing.
+-- Laws of `Holds`: stores and edges that leave a lattice as it is. No contract cites this file.
+-- In order: stores beside the listing and the cells; a list that is over stays so; an edge that is not added. Assumes nothing.
 use mathlib.Core.Path.{_≡_, refl, sym, _∙_}
 use mathlib.Core.Logic.{_⊎_, inl, inr}
 use mathlib.Core.Bool.{Bool, true, false, cond, _||_, true≢false}
 use mathlib.Core.List.{List, [], _∷_, _++_}
-use Prim.Native.Nat.{ℕ, _+_, _*_, _-_, _≤_, _<_}
+use Prim.Native.Nat.{ℕ, _+_, _*_, _≤_, _<_}
 use native.Mathlib.Omega.{arith}
-use lib.ListN.{length}
+use lib.ListN.{length, length-append}
 use lib.Seq.{sets, length-sets}
 use lib.Dec.{ltb}
 use borrow.Author.Tests.{lt-ltb, ltb-true}
 use Rattle.fields.proofs.PartLaws.{part-sets-other}
-use Rattle.edge.specs.Edge.{Edge, edgeBytes, edgesBytes, listingBytes}
+use Rattle.edge.specs.Edge.{Edge, edgesBytes, listingBytes}
 use Rattle.lattice.specs.declared.Lattice.{Lattice}
-use Rattle.lattice.specs.declared.Adding.the-variants.{Nothing, TooMuch, Into}
+use Rattle.lattice.specs.declared.Adding.the-variants.{Nothing}
 use Rattle.lattice.specs.Lattice.{has, add, overfull}
-use Rattle.lattice.specs.Kept.{END, OFFSETS, NEXTS, HEADS, cell, linked, Kept, Stands, Holds, AddingIs, bucket}
-use Rattle.lattice.proofs.BucketLaws.{bucket-lt}
-use Rattle.lattice.proofs.KeptLaws.{length-edges-snoc, length-listing, kept-size, cell-other}
-use Rattle.lattice.proofs.GrowLaws.{length-snoc, grown}
+use Rattle.lattice.specs.Kept.{END, OFFSETS, NEXTS, HEADS, cell, Kept, Holds, AddingIs}
+use Rattle.lattice.proofs.KeptLaws.{length-edges-snoc, length-listing, cell-other}
 
 -- ---- a lattice that is not full is kept, one that is full is over
 module _ {w : List ℕ} {l : Lattice} {es : List Edge} (q : Holds w l es) where
@@ -71,6 +69,9 @@ holds-beside {w} {l} {es} q i bs a = record { room = let r = q .room in let x = 
     go (inr x) = inr (x .0, kept-beside (x .1) i bs a)
 
 -- ---- a list that is over stays so
+pub length-snoc : (es : List Edge) (e : Edge) → length (es ++ (e ∷ [])) ≡ length es + 1
+length-snoc es e = length-append es (e ∷ [])
+
 pub or-right : (t u : Bool) → u ≡ true → t || u ≡ true
 or-right true u p = refl
 or-right false u p = p
@@ -103,49 +104,9 @@ over-add es e h = go (has es e)
     go true = h
     go false = over-snoc es e h
 
--- ---- what is to be done with an edge
-module _ {w : List ℕ} {l : Lattice} {es : List Edge} (q : Holds w l es) (e : Edge) (f : l .full ≡ false) (h : has es e ≡ false) where
-  pub too-many : 1024 ≤ l .count → AddingIs l es e TooMuch
-  unfolding AddingIs
-  too-many x = let k = kept-of q f .count in let d = length-snoc es e in (f, h, over-many (es ++ (e ∷ [])) (omega arith))
-
-  pub too-long : 32768 - l .len < length (edgeBytes e) → AddingIs l es e TooMuch
-  unfolding AddingIs
-  too-long x = let k = kept-size (kept-of q f) in let d = length-edges-snoc es e in (f, h, over-long (es ++ (e ∷ [])) (omega arith))
-
-  pub into : (b : ℕ) → l .count < 1024 → length (edgeBytes e) ≤ 32768 - l .len → b ≡ bucket e → AddingIs l es e (Into b)
-  unfolding AddingIs
-  into b x y p = let s = q .short in (f, h, x, omega arith, p)
-
--- what `link` asks for
-pub link-room : {w : List ℕ} {l : Lattice} {es : List Edge} → Holds w l es → (e : Edge) (b : ℕ) → AddingIs l es e (Into b) → (END ≤ length w) × (l .count < 1024) × (l .len ≤ 32768) × (b < 256)
-unfolding AddingIs
-link-room q e b a = (q .room, a .2, q .short, bucket-lt e (a .4))
-
--- and room for a copy
-pub copy-room : {w s : List ℕ} {l : Lattice} {es : List Edge} → Holds w l es → (e : Edge) (b : ℕ) → AddingIs l es e (Into b) → {at n to : ℕ} → Stands s at n to e → l .len + (to - at) ≤ 32768
-unfolding AddingIs
-copy-room q e b a d = let z = d .ends in let y = a .3 in omega arith
-
--- ---- and what then holds
-abbrev lattice : ℕ → ℕ → Bool → Lattice
-lattice n len full = record { count = n; len = len; full = full }
-
+-- ---- an edge that is not added
 module _ {w : List ℕ} {l : Lattice} {es : List Edge} (q : Holds w l es) (e : Edge) where
   pub add-nothing : AddingIs l es e Nothing → Holds w l (add es e)
   unfolding AddingIs add
   add-nothing (inl f) = record { room = q .room; short = q .short; state = inl (f, over-add es e (over-of q f)) }
   add-nothing (inr h) = rw h q
-
-  pub add-too-much : AddingIs l es e TooMuch → Holds w (lattice (l .count) (l .len) true) (add es e)
-  unfolding AddingIs
-  add-too-much a = record { room = q .room; short = q .short; state = inl (refl, rw (add-new es e (a .1)) (a .2)) }
-
-  -- the edge was composed behind the listing
-  pub add-into : (b k to : ℕ) → AddingIs l es e (Into b) → Stands w (l .len) k to e → {t : List ℕ} → t ≡ linked w (l .count) (l .len) b → Holds t (lattice (l .count + 1) to false) (add es e)
-  unfolding AddingIs
-  add-into b k to a d p =
-      let z = d .ends in
-      let y = a .3 in
-      let g = grown w (l .count) (l .len) es (kept-of q (a .0)) k to e d (a .2) (omega arith) b (a .4) in
-      rw (p, add-new es e (a .1)) (record { room = g .room; short = omega arith; state = inr (refl, g) })

@@ -1,24 +1,20 @@
--- What stands where in work space that keeps a lattice (`Kept`), and what a comparison of keys says. No contract cites this file.
--- In order: the bytes of edges; cells; parts that are too short; a key in an edge; the listing; the i-th edge. Assumes nothing.
+-- What stands where in work space that keeps a lattice (`Kept`). No contract cites this file.
+-- In order: the bytes of edges; cells; the listing; the i-th edge. Assumes nothing.
 use mathlib.Core.Path.{_≡_, refl, sym, ap, _∙_}
 use mathlib.Core.Logic.{_⊎_}
 use mathlib.Core.Bool.{Bool, true, false}
 use mathlib.Core.List.{List, [], _∷_, _++_, append-assoc, append-nil}
 use mathlib.Core.Option.{Option, none, some}
-use Prim.Native.Nat.{ℕ, suc, _+_, _*_, _-_, _≤_, _<_}
+use Prim.Native.Nat.{ℕ, suc, _+_, _*_, _≤_, _<_}
 use native.Mathlib.Omega.{arith}
-use lib.ListN.{length, getD, take, drop, length-append, take-append-drop, length-take, length-drop}
+use lib.ListN.{length, getD, take, drop, length-append, take-append-drop}
 use lib.Seq.{sets, split-at, take-at, drop-at, drop-drop, drop-append-seam}
-use Rattle.text.specs.Bytes.{same}
-use Rattle.text.proofs.BytesLaws.{same-true, same-false, same-lengths}
 use Rattle.fields.specs.Fields.{le, leAt, bytesOf}
 use Rattle.fields.specs.Part.{part}
 use Rattle.fields.proofs.FieldsLaws.{length-bytesOf, le-bytesOf, leAt-sets, leAt-sets-other}
-use Rattle.fields.proofs.PartLaws.{length-part, part-add, part-take, drop-part}
+use Rattle.fields.proofs.PartLaws.{part-add, part-take, drop-part}
 use Rattle.edge.specs.Edge.{Edge, Numeric, there, flag, numericMap, mapOf, opt, str, numericBytes, headBytes, edgeBytes, edgesBytes, listingBytes}
-use Rattle.lattice.specs.Lattice.{sameKey}
-use Rattle.lattice.specs.Kept.{cell, key, noEdge, offset, Kept, Keyed, Stands}
-use Rattle.lattice.proofs.KeyLaws.{key-cut, same-key}
+use Rattle.lattice.specs.Kept.{cell, key, noEdge, offset, Kept}
 
 -- ---- the bytes of edges
 abbrev pub fieldsBytes : Edge → List ℕ
@@ -75,41 +71,12 @@ cell-same s base i v h k = leAt-sets s (base + 2 * i) 2 v h k
 pub cell-other : (s : List ℕ) (at : ℕ) (bs : List ℕ) (base i : ℕ) → (at + length bs ≤ base + 2 * i) ⊎ (base + 2 * i + 2 ≤ at) → cell (sets s at bs) base i ≡ cell s base i
 cell-other s at bs base i h = leAt-sets-other s at bs (base + 2 * i) 2 h
 
--- ---- a part that would run past the end is another
-pub parts-short : (w : List ℕ) (a : ℕ) (s : List ℕ) (b n : ℕ) → length w - a < n → b + n ≤ length s → false ≡ same (part w a n) (part s b n)
-unfolding part
-parts-short w a s b n h k =
-    let p = length-take n (drop a w) in
-    let q = length-drop a w in
-    let r = length-part s b n k in
-    same-lengths (take n (drop a w)) (take n (drop b s)) (λ e. omega arith)
-
--- ---- a key in an edge
+-- ---- the listing
 -- a list that begins with a part
-begins : (w : List ℕ) (at : ℕ) (bs : List ℕ) → part w at (length bs) ≡ bs → drop at w ≡ bs ++ drop (length bs) (drop at w)
+pub begins : (w : List ℕ) (at : ℕ) (bs : List ℕ) → part w at (length bs) ≡ bs → drop at w ≡ bs ++ drop (length bs) (drop at w)
 unfolding part
 begins w at bs e = sym (take-append-drop (length bs) (drop at w)) ∙ ap (λ (z : List ℕ). z ++ drop (length bs) (drop at w)) e
 
-behind-map : (e : Edge) (x : List ℕ) → drop 2 (edgeBytes e ++ x) ≡ key e ++ (fieldsBytes e ++ x)
-behind-map e x =
-    rw (edge-parts e, append-assoc (bytesOf 2 (mapOf (e .num))) (key e ++ fieldsBytes e) x, drop-at (bytesOf 2 (mapOf (e .num))) ((key e ++ fieldsBytes e) ++ x) 2 (length-bytesOf 2 (mapOf (e .num))))
-    (append-assoc (key e) (fieldsBytes e) x)
-
-pub stands-keyed : (s : List ℕ) (at n to : ℕ) (e : Edge) → Stands s at n to e → Keyed s (at + 2) n e
-unfolding part
-stands-keyed s at n to e q =
-    let x = drop (length (edgeBytes e)) (drop at s) in
-    let k = q .keyed in
-    let l = length-edge e in
-    let f = q .ends in
-    let i = q .inside in
-    record {
-      fits = q .fits;
-      there = ap (take n) (sym (drop-drop 2 at s) ∙ ap (drop 2) (begins s at (edgeBytes e) (q .there)) ∙ behind-map e x) ∙ take-at (key e) (fieldsBytes e ++ x) n (sym k);
-      inside = omega arith;
-    }
-
--- ---- the listing
 module _ {w : List ℕ} {n len : ℕ} {es : List Edge} (q : Kept w n len es) where
   pub kept-size : len ≡ 2 + length (edgesBytes es)
   kept-size = q .size ∙ length-listing es
@@ -135,7 +102,7 @@ listing-of w len es s c b = ap (part w 0) s ∙ part-add w 0 2 (length (edgesByt
 
 -- ---- the i-th edge
 module _ {w : List ℕ} {n len : ℕ} {es : List Edge} (q : Kept w n len es) (i : ℕ) (h : i < n) where
-  edge-begins : (x : List ℕ) × (drop (offset es i) w ≡ edgeBytes (getD es i noEdge) ++ x)
+  pub edge-begins : (x : List ℕ) × (drop (offset es i) w ≡ edgeBytes (getD es i noEdge) ++ x)
   unfolding offset
   edge-begins =
       let e = getD es i noEdge in
@@ -147,9 +114,6 @@ module _ {w : List ℕ} {n len : ℕ} {es : List Edge} (q : Kept w n len es) (i 
       begins w 2 (edgesBytes es) (kept-bytes q) ∙ ap (λ (z : List ℕ). z ++ t) (edges-split es i (omega arith))
       ∙ append-assoc a (edgeBytes e ++ r) t ∙ ap (λ (z : List ℕ). a ++ z) (append-assoc (edgeBytes e) r t) in
       (r ++ t, sym (drop-drop (length a) 2 w) ∙ ap (drop (length a)) p ∙ drop-append-seam a (edgeBytes e ++ (r ++ t)))
-
-  key-begins : (x : List ℕ) × (drop (offset es i + 2) w ≡ key (getD es i noEdge) ++ x)
-  key-begins = let x = edge-begins in (fieldsBytes (getD es i noEdge) ++ x .0, sym (drop-drop 2 (offset es i) w) ∙ ap (drop 2) (x .1) ∙ behind-map (getD es i noEdge) (x .0))
 
   -- its bytes
   pub edge-stands : part w (offset es i) (length (edgeBytes (getD es i noEdge))) ≡ edgeBytes (getD es i noEdge)
@@ -180,22 +144,3 @@ module _ {w : List ℕ} {n len : ℕ} {es : List Edge} (q : Kept w n len es) (i 
 
   pub map-in : offset es i + 2 ≤ len
   map-in = let a = offset-in in let b = length-edge (getD es i noEdge) in omega arith
-
-  -- what comparing its key with another says
-  pub key-told : (s : List ℕ) (at m : ℕ) (e : Edge) → Keyed s at m e → (off : ℕ) → off ≡ offset es i → (r : Bool) → r ≡ same (part w (off + 2) m) (part s at m) → r ≡ sameKey (getD es i noEdge) e
-  unfolding part
-  key-told s at m e d off o true r =
-      let c = getD es i noEdge in
-      let x = key-begins in
-      let p : take m (key c ++ x .0) ≡ key e = ap (take m) (sym (x .1) ∙ ap (λ (z : ℕ). drop (z + 2) w) (sym o)) ∙ same-true _ _ (sym r) ∙ d .there in
-      sym (key-cut c e (x .0) (drop m (key c ++ x .0)) (q .fits i h) (d .fits) (sym (take-append-drop m (key c ++ x .0)) ∙ ap (λ (z : List ℕ). z ++ drop m (key c ++ x .0)) p))
-  key-told s at m e d off o false r = go (sameKey (getD es i noEdge) e) refl
-    where
-      go : (b : Bool) → sameKey (getD es i noEdge) e ≡ b → false ≡ sameKey (getD es i noEdge) e
-      go false u = sym u
-      go true u =
-          let c = getD es i noEdge in
-          let x = key-begins in
-          let k : key c ≡ key e = same-key c e u in
-          let l : length (key c) ≡ m = ap length (k ∙ sym (d .there)) ∙ length-part s at m (d .inside) in
-          absurd (same-false _ _ (sym r) (ap (λ (z : ℕ). take m (drop (z + 2) w)) o ∙ ap (take m) (x .1) ∙ take-at (key c) (x .0) m l ∙ k ∙ sym (d .there)))

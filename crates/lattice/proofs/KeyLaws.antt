@@ -1,11 +1,11 @@
--- Laws of `sameKey`, `has` and `key`: equal edges are those of equal keys, and no key begins another. No contract cites this file.
--- In order: numbers and strings at the front of a list; keys; whether an equal edge is there, edge by edge. Assumes nothing.
-use mathlib.Core.Path.{_≡_, refl, sym, ap, _∙_}
-use mathlib.Core.Bool.{Bool, true, false, _&&_, or-true}
-use mathlib.Core.List.{List, [], _∷_, _++_, append-assoc}
-use Prim.Native.Nat.{ℕ, zero, suc, _+_, _<_}
+-- Laws of `sameKey` and `key`: equal edges are those of equal keys, and no key begins another. No contract cites this file.
+-- In order: numbers and strings at the front of a list; keys. Assumes nothing.
+use mathlib.Core.Path.{_≡_, sym, ap, _∙_}
+use mathlib.Core.Bool.{Bool, true, false, _&&_}
+use mathlib.Core.List.{List, _++_, append-assoc}
+use Prim.Native.Nat.{ℕ, _+_, _<_}
 use native.Mathlib.Omega.{arith}
-use lib.ListN.{length, getD, take, drop, length-append}
+use lib.ListN.{length, take, drop, length-append}
 use lib.Seq.{take-append-seam, drop-append-seam}
 use lib.Dec.{eqb}
 use borrow.Author.Tests.{eq-eqb, eqb-true}
@@ -16,8 +16,8 @@ use Rattle.fields.specs.Fields.{bytesOf}
 use Rattle.fields.proofs.FieldsLaws.{bytesOf-injective, length-bytesOf}
 use Rattle.edge.specs.Edge.{Edge, Text, str}
 use Rattle.edge.proofs.WriteLaws.{length-str}
-use Rattle.lattice.specs.Lattice.{sameKey, has}
-use Rattle.lattice.specs.Kept.{Fits, key, noEdge}
+use Rattle.lattice.specs.Lattice.{sameKey}
+use Rattle.lattice.specs.Kept.{Fits, key}
 
 -- ---- at the front of a list
 pub cut : (a b x y : List ℕ) → length a ≡ length b → a ++ x ≡ b ++ y → (a ≡ b) × (x ≡ y)
@@ -70,15 +70,3 @@ same-key e c h =
     let q = and-true (eqb (e .end) (c .end)) _ (p .1) in
     let r = and-true (same (e .txt) (c .txt)) _ (q .1) in
     rw (eqb-true (e .start) (c .start) (p .0), eqb-true (e .end) (c .end) (q .0), same-true (e .txt) (c .txt) (r .0), same-true (e .type) (c .type) (r .1))
-
--- ---- whether an equal edge is there, edge by edge
-pub has-none : (es : List Edge) (c : Edge) → ((i : ℕ) → i < length es → sameKey (getD es i noEdge) c ≡ false) → has es c ≡ false
-unfolding has
-has-none [] c f = refl
-has-none (e ∷ es) c f = rw (f 0 (omega arith)) (has-none es c (λ i h. f (suc i) (omega arith)))
-
-pub has-some : (es : List Edge) (c : Edge) (i : ℕ) → i < length es → sameKey (getD es i noEdge) c ≡ true → has es c ≡ true
-unfolding has
-has-some [] c i h p = absurd (omega arith)
-has-some (e ∷ es) c zero h p = rw p
-has-some (e ∷ es) c (suc i) h p = rw (has-some es c i (omega arith) p) (or-true (sameKey e c))

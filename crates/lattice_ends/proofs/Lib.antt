@@ -1,0 +1,2 @@
+-- Laws for the proofs of `lattice_ends`.
+pub mod EmptyLaws
