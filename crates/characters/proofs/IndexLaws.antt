@@ -4,9 +4,10 @@ use mathlib.Core.Path.{_≡_, refl, sym, ap, _∙_}
 use mathlib.Core.Bool.{Bool, true, false, cond}
 use mathlib.Core.List.{List, [], _∷_}
 use mathlib.Core.Option.{none, some}
-use Prim.Native.Nat.{ℕ, _+_, _-_, _≤_, _<_}
+use Prim.Native.Nat.{ℕ, _+_, _-_, _*_, _/_, _≤_, _<_}
 use native.Mathlib.Omega.{arith}
-use native.Mathlib.Nat.{eq-or-lt-of-le}
+use native.Mathlib.Nat.{eq-or-lt-of-le, mul-le-mul-right, add-mul}
+use native.Mathlib.Decide.{decLe}
 use mathlib.Core.Logic.{_⊎_, ⊎-elim}
 use lib.ListN.{length, getD, set, length-set}
 use lib.Seq.{getD-set-same, getD-set-other}
@@ -23,7 +24,8 @@ use Rattle.dicts.specs.declared.layout.RecordAt.{RecordAt}
 use Rattle.dicts.specs.declared.layout.RecordAt.the-variants as RecordAt
 use Rattle.dicts.proofs.LayoutLaws.{many-nil, many-fault, many-cons}
 use Rattle.dicts.proofs.LookupLaws.{rising-lower, drop-stops, found-other}
-use Rattle.characters.specs.Index.{FoundAt, FoundIs, Tail, Ahead, Entry, Indexed}
+use Rattle.characters.specs.Index.{FoundAt, FoundIs, Tail, Ahead, Entry, strideOf, Indexed, Growing}
+use Rattle.characters.specs.declared.lookup.Index.{Index}
 use Rattle.characters.specs.declared.lookup.CharRecord.{CharRecord}
 use Rattle.characters.specs.declared.lookup.CharRecord.the-variants.{At, Nothing}
 
@@ -160,33 +162,58 @@ pub tail-all : (t : List ℕ) (at left : ℕ) → rising 0 (recordsAt left t at)
 tail-all t at left h = record { rises = h; finds = λ c k. refl }
 
 -- ---- the index
-pub index-none : (t : List ℕ) (rs : List Record) (os ls : List ℕ) → length os ≡ 256 → length ls ≡ 256 → Indexed t rs os ls 0
-index-none t rs os ls o l = record { few = omega arith; os-long = o; ls-long = l; entries = λ i h. absurd (omega arith) }
+pub index-none : (t : List ℕ) (rs : List Record) (os : List ℕ) (all : ℕ) → length os ≡ 256 → Growing t rs os all (record { n = 0; due = all })
+index-none t rs os all l = record {
+  made = record { few = omega arith; long = l; inner = λ i h. absurd (omega arith); entries = λ i h. absurd (omega arith) };
+  next = omega arith;
+}
 
-module _ (t : List ℕ) (rs : List Record) (os ls : List ℕ) (n : ℕ) (x : Indexed t rs os ls n) where
-  pub index-more : (at left : ℕ) → n < 256 → Entry t rs at left → Indexed t rs (set os n at) (set ls n left) (n + 1)
-  index-more at left h e = record {
-    few = omega arith;
-    os-long = length-set os n at ∙ x .os-long;
-    ls-long = length-set ls n left ∙ x .ls-long;
-    entries = λ i k. ⊎-elim (here i) (λ q. other i q (λ z. omega arith)) (eq-or-lt-of-le {n = i} {m = n} (omega arith));
+-- 256 strides are more than all
+index-short : (all n : ℕ) → n * strideOf all < all → n < 256
+unfolding strideOf
+index-short all n h = go (decLe 256 n)
+  where
+    go : Dec (256 ≤ n) → n < 256
+    go (yes k) = let m : 256 * (1 + all / 256) ≤ n * (1 + all / 256) = mul-le-mul-right (1 + all / 256) k in omega arith
+    go (no k) = omega arith
+
+-- an entry is due: there is room for it, and it is the next one
+module _ (t : List ℕ) (rs : List Record) (os : List ℕ) (all : ℕ) (x : Index) (g : Growing t rs os all x) (left : ℕ) (here : left ≡ x .due) (some-left : 0 < left) where
+  abbrev n : ℕ
+  n = x .n
+
+  due-inner : n * strideOf all < all
+  due-inner = omega (arith, g .next)
+
+  pub due-room : n < 256
+  due-room = index-short all n due-inner
+
+  pub index-more : (at : ℕ) → Entry t rs at left → Growing t rs (set os n at) all (record { n = n + 1; due = left - strideOf all })
+  index-more at e = record {
+    made = record {
+      few = omega (arith, due-room);
+      long = length-set os n at ∙ g .made .long;
+      inner = λ i k. ⊎-elim (λ q. rw q due-inner) (g .made .inner i) (eq-or-lt-of-le {n = i} {m = n} (omega arith));
+      entries = λ i k. ⊎-elim (new i) (λ q. other i q (λ z. omega arith)) (eq-or-lt-of-le {n = i} {m = n} (omega arith));
+    };
+    next = omega (arith, g .next, add-mul n 1 (strideOf all));
   }
     where
-      here : (i : ℕ) → i ≡ n → Entry t rs (getD (set os n at) i 0) (getD (set ls n left) i 0)
-      here i q =
-          let o : getD (set os n at) i 0 ≡ at = ap (λ (j : ℕ). getD (set os n at) j 0) q ∙ getD-set-same os n at 0 (omega (arith, x .os-long)) in
-          let l : getD (set ls n left) i 0 ≡ left = ap (λ (j : ℕ). getD (set ls n left) j 0) q ∙ getD-set-same ls n left 0 (omega (arith, x .ls-long)) in
-          rw (o, l) e
+      new : (i : ℕ) → i ≡ n → Entry t rs (getD (set os n at) i 0) (all - i * strideOf all)
+      new i q =
+          let l : all - n * strideOf all ≡ left = omega (arith, g .next) in
+          rw (q, getD-set-same os n at 0 (omega (arith, g .made .long, due-room)), l) e
 
-      other : (i : ℕ) → i < n → (i ≡ n → ⊥) → Entry t rs (getD (set os n at) i 0) (getD (set ls n left) i 0)
-      other i q d = rw (getD-set-other os n i at 0 d, getD-set-other ls n i left 0 d) (x .entries i q)
+      other : (i : ℕ) → i < n → (i ≡ n → ⊥) → Entry t rs (getD (set os n at) i 0) (all - i * strideOf all)
+      other i q d = rw (getD-set-other os n i at 0 d) (g .made .entries i q)
 
-  -- from an entry that is not above c one may look for c
-  pub index-ahead : (i c : ℕ) → i < n → leAt t (getD os i 0) 4 ≤ c → Ahead t rs c (getD os i 0) (getD ls i 0)
-  index-ahead i c h k =
-      let e = x .entries i h in
-      let low = e .low in
-      record { rises = rising-lower 0 (e .least) _ (omega arith) (e .tail .rises); finds = e .tail .finds c (omega arith) }
+-- from an entry that is not above c one may look for c
+pub index-ahead : (t : List ℕ) (rs : List Record) (os : List ℕ) (all n : ℕ) → Indexed t rs os all n → (i c at : ℕ) → i < n → at ≡ getD os i 0 → leAt t at 4 ≤ c
+    → Ahead t rs c at (all - i * strideOf all)
+index-ahead t rs os all n x i c at h a k =
+    let e : Entry t rs at (all - i * strideOf all) = rw a (x .entries i h) in
+    let low = e .low in
+    record { rises = rising-lower 0 (e .least) _ (omega arith) (e .tail .rises); finds = e .tail .finds c (omega arith) }
 
 pub ahead-all : (t : List ℕ) (c at left : ℕ) → rising 0 (recordsAt left t at) ≡ true → Ahead t (recordsAt left t at) c at left
 ahead-all t c at left h = record { rises = h; finds = refl }
