@@ -102,60 +102,69 @@ module _ (t : List ℕ) (left at : ℕ) where
   pub rest-fault : readRecord t at ≡ Fault → recordsAt left t at ≡ []
   rest-fault e = sym (many-fault readRecord t at left e)
 
-  rest-cons : (p : NumProp) → Is (recordOf t p) (p .next) ≡ readRecord t at → 0 < left → recordsAt left t at ≡ recordOf t p ∷ recordsAt (left - 1) t (p .next)
-  rest-cons p reads h = sym (many-cons readRecord t at left (λ e. omega arith) (sym reads))
+  rest-cons : {r : Record} {next : ℕ} → readRecord t at ≡ Is r next → 0 < left → recordsAt left t at ≡ r ∷ recordsAt (left - 1) t next
+  rest-cons reads h = sym (many-cons readRecord t at left (λ e. omega arith) reads)
 
 -- ---- a turn of `find_from`
 module _ (t : List ℕ) (rs : List Record) (c at left : ℕ) (a : Ahead t rs c at left) where
   pub turn-none : recordsAt left t at ≡ [] → find rs c ≡ none
   turn-none e = sym (a .finds) ∙ rw e (find-nil c)
 
-  module _ (p : NumProp) (reads : Is (recordOf t p) (p .next) ≡ readRecord t at) (some-left : 0 < left) where
-    abbrev here : Record
-    here = recordOf t p
+  pub turn-fault : readRecord t at ≡ Fault → find rs c ≡ none
+  turn-fault e = turn-none (rest-fault t left at e)
 
-    abbrev behind : List Record
-    behind = recordsAt (left - 1) t (p .next)
+  module _ (some-left : 0 < left) where
+    module _ (r : Record) (next : ℕ) (reads : readRecord t at ≡ Is r next) where
+      abbrev behind : List Record
+      behind = recordsAt (left - 1) t next
 
-    rises-here : rising 0 (here ∷ behind) ≡ true
-    rises-here = rw (← rest-cons t left at p reads some-left) (a .rises)
+      rises-here : rising 0 (r ∷ behind) ≡ true
+      rises-here = rw (← rest-cons t left at reads some-left) (a .rises)
 
-    finds-here : find (here ∷ behind) c ≡ find rs c
-    finds-here = rw (← rest-cons t left at p reads some-left) (a .finds)
+      finds-here : find (r ∷ behind) c ≡ find rs c
+      finds-here = rw (← rest-cons t left at reads some-left) (a .finds)
 
-    pub turn-found : Inside t p → p .«code_point» ≡ c → FoundAt t rs c p at
-    unfolding recordOf
-    turn-found inside e = record { found = sym finds-here ∙ find-here c here behind e; reads = reads; inside = inside }
+      found-here : leAt t at 4 ≡ c → find rs c ≡ some r
+      found-here e = sym finds-here ∙ find-here c r behind (record-begins t at reads .1 ∙ e)
 
-    pub turn-above : c < p .«code_point» → find rs c ≡ none
-    unfolding recordOf
-    turn-above h = sym finds-here ∙ sym (found-other c (here ∷ behind) rises-here (sym (drop-stops c here behind (omega arith))) (λ e. omega arith))
+      none-here : c < leAt t at 4 → find rs c ≡ none
+      none-here h = let begins = record-begins t at reads .1 in sym finds-here ∙ sym (found-other c (r ∷ behind) rises-here (sym (drop-stops c r behind (omega arith))) (λ e. omega arith))
 
-    pub turn-next : (p .«code_point» ≡ c → ⊥) → Ahead t rs c (p .next) (left - 1)
-    unfolding recordOf
-    turn-next n = record {
-      rises = rising-lower 0 (p .«code_point» + 1) behind (omega arith) (rising-parts 0 here behind rises-here .1);
-      finds = sym (find-behind c here behind n) ∙ finds-here;
-    }
+      pub turn-next : (leAt t at 4 ≡ c → ⊥) → Ahead t rs c next (left - 1)
+      turn-next n = record {
+        rises = rising-lower 0 (r .code-point + 1) behind (omega arith) (rising-parts 0 r behind rises-here .1);
+        finds = sym (find-behind c r behind (λ e. n (sym (record-begins t at reads .1) ∙ e))) ∙ finds-here;
+      }
+
+    pub turn-found : (p : NumProp) → Is (recordOf t p) (p .next) ≡ readRecord t at → Inside t p → leAt t at 4 ≡ c → FoundAt t rs c p at
+    turn-found p reads inside e = record { found = found-here (recordOf t p) (p .next) (sym reads) e; reads = reads; inside = inside }
+
+    -- a record above c stands here, or none
+    pub turn-above : c < leAt t at 4 → find rs c ≡ none
+    turn-above h = go (readRecord t at) refl
+      where
+        go : (f : Field Record) → readRecord t at ≡ f → find rs c ≡ none
+        go (Is r next) e = none-here r next e h
+        go Fault e = turn-fault e
 
 -- ---- a turn of `index_records`
-module _ (t : List ℕ) (rs : List Record) (at left least : ℕ) (a : Tail t rs at left least) (p : NumProp) (reads : Is (recordOf t p) (p .next) ≡ readRecord t at) (some-left : 0 < left) where
-  rises-from : (least ≤ recordOf t p .code-point) × (rising (recordOf t p .code-point + 1) (recordsAt (left - 1) t (p .next)) ≡ true)
-  rises-from = rising-parts least (recordOf t p) (recordsAt (left - 1) t (p .next)) (rw (← rest-cons t left at p reads some-left) (a .rises))
+module _ (t : List ℕ) (rs : List Record) (at left least : ℕ) (a : Tail t rs at left least) (r : Record) (next : ℕ) (reads : readRecord t at ≡ Is r next) (some-left : 0 < left) where
+  rises-from : (least ≤ r .code-point) × (rising (r .code-point + 1) (recordsAt (left - 1) t next) ≡ true)
+  rises-from = rising-parts least r (recordsAt (left - 1) t next) (rw (← rest-cons t left at reads some-left) (a .rises))
 
-  pub tail-next : Tail t rs (p .next) (left - 1) (recordOf t p .code-point + 1)
+  pub tail-next : Tail t rs next (left - 1) (r .code-point + 1)
   tail-next = record {
     rises = rises-from .1;
     finds = λ c h.
         let low = rises-from .0 in
-        sym (find-behind c (recordOf t p) (recordsAt (left - 1) t (p .next)) (λ e. omega arith))
-        ∙ ap (λ (l : List Record). find l c) (sym (rest-cons t left at p reads some-left))
+        sym (find-behind c r (recordsAt (left - 1) t next) (λ e. omega arith))
+        ∙ ap (λ (l : List Record). find l c) (sym (rest-cons t left at reads some-left))
         ∙ a .finds c (omega arith);
   }
 
   pub tail-entry : Entry t rs at left
   tail-entry =
-      let begins = record-begins t at (sym reads) in
+      let begins = record-begins t at reads in
       record { least = least; tail = a; there = begins .0; low = rw (← begins .1) (rises-from .0) }
 
 pub tail-all : (t : List ℕ) (at left : ℕ) → rising 0 (recordsAt left t at) ≡ true → Tail t (recordsAt left t at) at left 0

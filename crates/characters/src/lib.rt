@@ -2,6 +2,7 @@
 // character of the line that has a record, in line order.
 mod character; // character.rt: the edge of one character, from its record
 mod lookup; // lookup.rt: the record of a character, by an index over the records
+mod walk; // walk.rt: the offset behind a record
 
 ghost use mathlib.Core.Path.{_≡_};
 ghost use mathlib.Core.List.{List};

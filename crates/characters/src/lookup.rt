@@ -10,6 +10,8 @@ ghost use Rattle.dicts.specs.Table.{Record};
 ghost use Rattle.dicts.specs.Layout.{recordsAt};
 ghost use Rattle.dicts.specs.Check.{rising};
 ghost use Rattle.characters.specs.Index.{FoundIs, Entry, strideOf, Indexed, Growing, Ahead};
+use crate::walk::Next;
+use crate::walk::record_end;
 use dicts::layout::NumProp;
 use dicts::layout::RecordAt;
 use dicts::layout::record_at;
@@ -32,7 +34,7 @@ pub enum CharRecord {
     Nothing,
 }
 
-// The record of a character, by a walk that ends at the first code point above it.
+// The record of a character, by a walk that ends at the first code point above it. Only the character's own record is read whole.
 fn find_from(table: &[u8], from: Rest, c: u32) -> CharRecord
     requires { ⌜ rising 0 (recordsAt (from .left) (now table) (from .at)) ≡ true ⌝ }
     ensures { λ r. ⌜ FoundIs (now (table .entry)) (recordsAt (from .left) (now (table .entry)) (from .at)) c r ⌝ }
@@ -40,16 +42,26 @@ fn find_from(table: &[u8], from: Rest, c: u32) -> CharRecord
     let mut at = from.at;
     let mut left = from.left;
     while 0 < left {
-        let RecordAt::Record(p) = record_at(table, at) else {
+        if table.len() <= at {
             return CharRecord::Nothing;
-        };
-        if p.code_point == c {
+        }
+        if table.len() - at < 4 {
+            return CharRecord::Nothing;
+        }
+        let code = fields::u32_at(table, at);
+        if code == c {
+            let RecordAt::Record(p) = record_at(table, at) else {
+                return CharRecord::Nothing;
+            };
             return CharRecord::At(p, at);
         }
-        if c < p.code_point {
+        if c < code {
             return CharRecord::Nothing;
         }
-        at = p.next;
+        let Next::At(next) = record_end(table, at) else {
+            return CharRecord::Nothing;
+        };
+        at = next;
         left -= 1;
     }
     CharRecord::Nothing
@@ -103,14 +115,14 @@ pub fn index_records(table: &[u8], all: Rest, offs: &mut [u32; 256]) -> usize
         due: all.left,
     };
     while 0 < left {
-        let RecordAt::Record(p) = record_at(table, at) else {
+        let Next::At(next) = record_end(table, at) else {
             return index.n;
         };
         if 0xFFFF_FFFF < at {
             return index.n;
         }
         index = enter(offs, index, stride, Rest { at: at, left: left });
-        at = p.next;
+        at = next;
         left -= 1;
     }
     index.n

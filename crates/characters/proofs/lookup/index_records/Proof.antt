@@ -1,11 +1,12 @@
 -- `index_records` meets its contract. The loop's invariant: the index is being made, and the records that are left are a tail of all. The measure is how
 -- many are left.
-use mathlib.Core.Path.{sym}
+use mathlib.Core.Path.{sym, _∙_}
 use native.Mathlib.Omega.{arith}
 use Prim.Native.Nat.{ℕ}
-use Rattle.dicts.specs.Layout.{recordsAt}
+use Rattle.dicts.specs.Layout.{readRecord, recordsAt}
 use Rattle.characters.specs.Index.{Growing, Tail}
-use Rattle.characters.proofs.IndexLaws.{record-read, index-none, due-room, tail-all, tail-next, tail-entry}
+use Rattle.characters.proofs.WalkLaws.{read-next}
+use Rattle.characters.proofs.IndexLaws.{index-none, due-room, tail-all, tail-next, tail-entry}
 use borrow.Author.Needs.{needs}
 use Rattle.characters.proofs.lookup.index_records.Statement.{statement}
 use Rattle.characters.proofs.lookup.index_records.Tie as tie
@@ -23,11 +24,11 @@ stride-of-requires c κs = search needs
 loop-holds : tie.Need-loop-holds Inv-loop μ-loop
 loop-holds c = let pre = c .before .before .pre in (index-none _ _ _ _ (pre .1), (0, tail-all _ _ _ (pre .0)))
 
-record-at-requires : tie.Need-record-at-requires Inv-loop μ-loop
-record-at-requires c κs = search needs
+record-end-requires : tie.Need-record-end-requires Inv-loop μ-loop
+record-end-requires c κs = search needs
 
-enum-known-p : tie.Need-enum-known-p Inv-loop μ-loop
-enum-known-p c = search needs
+enum-known-next : tie.Need-enum-known-next Inv-loop μ-loop
+enum-known-next c = search needs
 
 enum-told : tie.Need-enum-told Inv-loop μ-loop
 enum-told c = search needs
@@ -53,11 +54,11 @@ loop-again : tie.Need-loop-again Inv-loop μ-loop
 loop-again c =
     let k = c .before .before .before in
     let a = k .before .before .before in
-    let inv = a .before .before .loop .inv in
-    let reads = record-read _ _ (a .record-at .ensures .0) (k .before .p .given .1) in
+    let l = a .before .before in
+    let reads = read-next (readRecord (l .before .before .before .args .table .now) (l .loop .at)) (sym (k .before .next .given .1) ∙ a .record-end .ensures) in
     let some-left = a .before .loop-test .taken in
-    let stride = sym (a .before .before .before .stride-of .ensures) in
-    (c .enter .ensures _ _ _ stride some-left (tail-entry _ _ _ _ _ (inv .1 .1) _ reads some-left) (inv .0), (_, tail-next _ _ _ _ _ (inv .1 .1) _ reads some-left))
+    let entry = tail-entry _ _ _ _ _ (l .loop .inv .1 .1) _ _ (reads .1) some-left in
+    (c .enter .ensures _ _ _ (sym (l .before .stride-of .ensures)) some-left entry (l .loop .inv .0), (_, tail-next _ _ _ _ _ (l .loop .inv .1 .1) _ _ (reads .1) some-left))
 
 returns-3 : tie.Need-returns-3 Inv-loop μ-loop
 returns-3 c = c .before .loop .inv .0 .made
@@ -70,8 +71,8 @@ index-records-spec =
     μ-loop
     stride-of-requires
     loop-holds
-    record-at-requires
-    enum-known-p
+    record-end-requires
+    enum-known-next
     enum-told
     returns
     returns-2
