@@ -4,9 +4,10 @@ use mathlib.Core.Path.{_≡_, refl, sym, ap, _∙_}
 use mathlib.Core.Bool.{Bool, true, false, cond}
 use mathlib.Core.List.{List, [], _∷_}
 use mathlib.Core.Option.{none, some}
-use Prim.Native.Nat.{ℕ, _+_, _-_, _≤_, _<_}
+use Prim.Native.Nat.{ℕ, _+_, _-_, _*_, _/_, _≤_, _<_}
 use native.Mathlib.Omega.{arith}
-use native.Mathlib.Nat.{eq-or-lt-of-le}
+use native.Mathlib.Nat.{eq-or-lt-of-le, mul-le-mul-right, add-mul}
+use native.Mathlib.Decide.{decLe}
 use mathlib.Core.Logic.{_⊎_, ⊎-elim}
 use lib.ListN.{length, getD, set, length-set}
 use lib.Seq.{getD-set-same, getD-set-other}
@@ -23,7 +24,8 @@ use Rattle.dicts.specs.declared.layout.RecordAt.{RecordAt}
 use Rattle.dicts.specs.declared.layout.RecordAt.the-variants as RecordAt
 use Rattle.dicts.proofs.LayoutLaws.{many-nil, many-fault, many-cons}
 use Rattle.dicts.proofs.LookupLaws.{rising-lower, drop-stops, found-other}
-use Rattle.characters.specs.Index.{FoundAt, FoundIs, Tail, Ahead, Entry, Indexed}
+use Rattle.characters.specs.Index.{FoundAt, FoundIs, Tail, Ahead, Entry, strideOf, Indexed, Growing}
+use Rattle.characters.specs.declared.lookup.Index.{Index}
 use Rattle.characters.specs.declared.lookup.CharRecord.{CharRecord}
 use Rattle.characters.specs.declared.lookup.CharRecord.the-variants.{At, Nothing}
 
@@ -100,93 +102,127 @@ module _ (t : List ℕ) (left at : ℕ) where
   pub rest-fault : readRecord t at ≡ Fault → recordsAt left t at ≡ []
   rest-fault e = sym (many-fault readRecord t at left e)
 
-  rest-cons : (p : NumProp) → Is (recordOf t p) (p .next) ≡ readRecord t at → 0 < left → recordsAt left t at ≡ recordOf t p ∷ recordsAt (left - 1) t (p .next)
-  rest-cons p reads h = sym (many-cons readRecord t at left (λ e. omega arith) (sym reads))
+  rest-cons : {r : Record} {next : ℕ} → readRecord t at ≡ Is r next → 0 < left → recordsAt left t at ≡ r ∷ recordsAt (left - 1) t next
+  rest-cons reads h = sym (many-cons readRecord t at left (λ e. omega arith) reads)
 
 -- ---- a turn of `find_from`
 module _ (t : List ℕ) (rs : List Record) (c at left : ℕ) (a : Ahead t rs c at left) where
   pub turn-none : recordsAt left t at ≡ [] → find rs c ≡ none
   turn-none e = sym (a .finds) ∙ rw e (find-nil c)
 
-  module _ (p : NumProp) (reads : Is (recordOf t p) (p .next) ≡ readRecord t at) (some-left : 0 < left) where
-    abbrev here : Record
-    here = recordOf t p
+  pub turn-fault : readRecord t at ≡ Fault → find rs c ≡ none
+  turn-fault e = turn-none (rest-fault t left at e)
 
-    abbrev behind : List Record
-    behind = recordsAt (left - 1) t (p .next)
+  module _ (some-left : 0 < left) where
+    module _ (r : Record) (next : ℕ) (reads : readRecord t at ≡ Is r next) where
+      abbrev behind : List Record
+      behind = recordsAt (left - 1) t next
 
-    rises-here : rising 0 (here ∷ behind) ≡ true
-    rises-here = rw (← rest-cons t left at p reads some-left) (a .rises)
+      rises-here : rising 0 (r ∷ behind) ≡ true
+      rises-here = rw (← rest-cons t left at reads some-left) (a .rises)
 
-    finds-here : find (here ∷ behind) c ≡ find rs c
-    finds-here = rw (← rest-cons t left at p reads some-left) (a .finds)
+      finds-here : find (r ∷ behind) c ≡ find rs c
+      finds-here = rw (← rest-cons t left at reads some-left) (a .finds)
 
-    pub turn-found : Inside t p → p .«code_point» ≡ c → FoundAt t rs c p at
-    unfolding recordOf
-    turn-found inside e = record { found = sym finds-here ∙ find-here c here behind e; reads = reads; inside = inside }
+      found-here : leAt t at 4 ≡ c → find rs c ≡ some r
+      found-here e = sym finds-here ∙ find-here c r behind (record-begins t at reads .1 ∙ e)
 
-    pub turn-above : c < p .«code_point» → find rs c ≡ none
-    unfolding recordOf
-    turn-above h = sym finds-here ∙ sym (found-other c (here ∷ behind) rises-here (sym (drop-stops c here behind (omega arith))) (λ e. omega arith))
+      none-here : c < leAt t at 4 → find rs c ≡ none
+      none-here h = let begins = record-begins t at reads .1 in sym finds-here ∙ sym (found-other c (r ∷ behind) rises-here (sym (drop-stops c r behind (omega arith))) (λ e. omega arith))
 
-    pub turn-next : (p .«code_point» ≡ c → ⊥) → Ahead t rs c (p .next) (left - 1)
-    unfolding recordOf
-    turn-next n = record {
-      rises = rising-lower 0 (p .«code_point» + 1) behind (omega arith) (rising-parts 0 here behind rises-here .1);
-      finds = sym (find-behind c here behind n) ∙ finds-here;
-    }
+      pub turn-next : (leAt t at 4 ≡ c → ⊥) → Ahead t rs c next (left - 1)
+      turn-next n = record {
+        rises = rising-lower 0 (r .code-point + 1) behind (omega arith) (rising-parts 0 r behind rises-here .1);
+        finds = sym (find-behind c r behind (λ e. n (sym (record-begins t at reads .1) ∙ e))) ∙ finds-here;
+      }
+
+    pub turn-found : (p : NumProp) → Is (recordOf t p) (p .next) ≡ readRecord t at → Inside t p → leAt t at 4 ≡ c → FoundAt t rs c p at
+    turn-found p reads inside e = record { found = found-here (recordOf t p) (p .next) (sym reads) e; reads = reads; inside = inside }
+
+    -- a record above c stands here, or none
+    pub turn-above : c < leAt t at 4 → find rs c ≡ none
+    turn-above h = go (readRecord t at) refl
+      where
+        go : (f : Field Record) → readRecord t at ≡ f → find rs c ≡ none
+        go (Is r next) e = none-here r next e h
+        go Fault e = turn-fault e
 
 -- ---- a turn of `index_records`
-module _ (t : List ℕ) (rs : List Record) (at left least : ℕ) (a : Tail t rs at left least) (p : NumProp) (reads : Is (recordOf t p) (p .next) ≡ readRecord t at) (some-left : 0 < left) where
-  rises-from : (least ≤ recordOf t p .code-point) × (rising (recordOf t p .code-point + 1) (recordsAt (left - 1) t (p .next)) ≡ true)
-  rises-from = rising-parts least (recordOf t p) (recordsAt (left - 1) t (p .next)) (rw (← rest-cons t left at p reads some-left) (a .rises))
+module _ (t : List ℕ) (rs : List Record) (at left least : ℕ) (a : Tail t rs at left least) (r : Record) (next : ℕ) (reads : readRecord t at ≡ Is r next) (some-left : 0 < left) where
+  rises-from : (least ≤ r .code-point) × (rising (r .code-point + 1) (recordsAt (left - 1) t next) ≡ true)
+  rises-from = rising-parts least r (recordsAt (left - 1) t next) (rw (← rest-cons t left at reads some-left) (a .rises))
 
-  pub tail-next : Tail t rs (p .next) (left - 1) (recordOf t p .code-point + 1)
+  pub tail-next : Tail t rs next (left - 1) (r .code-point + 1)
   tail-next = record {
     rises = rises-from .1;
     finds = λ c h.
         let low = rises-from .0 in
-        sym (find-behind c (recordOf t p) (recordsAt (left - 1) t (p .next)) (λ e. omega arith))
-        ∙ ap (λ (l : List Record). find l c) (sym (rest-cons t left at p reads some-left))
+        sym (find-behind c r (recordsAt (left - 1) t next) (λ e. omega arith))
+        ∙ ap (λ (l : List Record). find l c) (sym (rest-cons t left at reads some-left))
         ∙ a .finds c (omega arith);
   }
 
   pub tail-entry : Entry t rs at left
   tail-entry =
-      let begins = record-begins t at (sym reads) in
+      let begins = record-begins t at reads in
       record { least = least; tail = a; there = begins .0; low = rw (← begins .1) (rises-from .0) }
 
 pub tail-all : (t : List ℕ) (at left : ℕ) → rising 0 (recordsAt left t at) ≡ true → Tail t (recordsAt left t at) at left 0
 tail-all t at left h = record { rises = h; finds = λ c k. refl }
 
 -- ---- the index
-pub index-none : (t : List ℕ) (rs : List Record) (os ls : List ℕ) → length os ≡ 256 → length ls ≡ 256 → Indexed t rs os ls 0
-index-none t rs os ls o l = record { few = omega arith; os-long = o; ls-long = l; entries = λ i h. absurd (omega arith) }
+pub index-none : (t : List ℕ) (rs : List Record) (os : List ℕ) (all : ℕ) → length os ≡ 256 → Growing t rs os all (record { n = 0; due = all })
+index-none t rs os all l = record {
+  made = record { few = omega arith; long = l; inner = λ i h. absurd (omega arith); entries = λ i h. absurd (omega arith) };
+  next = omega arith;
+}
 
-module _ (t : List ℕ) (rs : List Record) (os ls : List ℕ) (n : ℕ) (x : Indexed t rs os ls n) where
-  pub index-more : (at left : ℕ) → n < 256 → Entry t rs at left → Indexed t rs (set os n at) (set ls n left) (n + 1)
-  index-more at left h e = record {
-    few = omega arith;
-    os-long = length-set os n at ∙ x .os-long;
-    ls-long = length-set ls n left ∙ x .ls-long;
-    entries = λ i k. ⊎-elim (here i) (λ q. other i q (λ z. omega arith)) (eq-or-lt-of-le {n = i} {m = n} (omega arith));
+-- 256 strides are more than all
+index-short : (all n : ℕ) → n * strideOf all < all → n < 256
+unfolding strideOf
+index-short all n h = go (decLe 256 n)
+  where
+    go : Dec (256 ≤ n) → n < 256
+    go (yes k) = let m : 256 * (1 + all / 256) ≤ n * (1 + all / 256) = mul-le-mul-right (1 + all / 256) k in omega arith
+    go (no k) = omega arith
+
+-- an entry is due: there is room for it, and it is the next one
+module _ (t : List ℕ) (rs : List Record) (os : List ℕ) (all : ℕ) (x : Index) (g : Growing t rs os all x) (left : ℕ) (here : left ≡ x .due) (some-left : 0 < left) where
+  abbrev n : ℕ
+  n = x .n
+
+  due-inner : n * strideOf all < all
+  due-inner = omega (arith, g .next)
+
+  pub due-room : n < 256
+  due-room = index-short all n due-inner
+
+  pub index-more : (at : ℕ) → Entry t rs at left → Growing t rs (set os n at) all (record { n = n + 1; due = left - strideOf all })
+  index-more at e = record {
+    made = record {
+      few = omega (arith, due-room);
+      long = length-set os n at ∙ g .made .long;
+      inner = λ i k. ⊎-elim (λ q. rw q due-inner) (g .made .inner i) (eq-or-lt-of-le {n = i} {m = n} (omega arith));
+      entries = λ i k. ⊎-elim (new i) (λ q. other i q (λ z. omega arith)) (eq-or-lt-of-le {n = i} {m = n} (omega arith));
+    };
+    next = omega (arith, g .next, add-mul n 1 (strideOf all));
   }
     where
-      here : (i : ℕ) → i ≡ n → Entry t rs (getD (set os n at) i 0) (getD (set ls n left) i 0)
-      here i q =
-          let o : getD (set os n at) i 0 ≡ at = ap (λ (j : ℕ). getD (set os n at) j 0) q ∙ getD-set-same os n at 0 (omega (arith, x .os-long)) in
-          let l : getD (set ls n left) i 0 ≡ left = ap (λ (j : ℕ). getD (set ls n left) j 0) q ∙ getD-set-same ls n left 0 (omega (arith, x .ls-long)) in
-          rw (o, l) e
+      new : (i : ℕ) → i ≡ n → Entry t rs (getD (set os n at) i 0) (all - i * strideOf all)
+      new i q =
+          let l : all - n * strideOf all ≡ left = omega (arith, g .next) in
+          rw (q, getD-set-same os n at 0 (omega (arith, g .made .long, due-room)), l) e
 
-      other : (i : ℕ) → i < n → (i ≡ n → ⊥) → Entry t rs (getD (set os n at) i 0) (getD (set ls n left) i 0)
-      other i q d = rw (getD-set-other os n i at 0 d, getD-set-other ls n i left 0 d) (x .entries i q)
+      other : (i : ℕ) → i < n → (i ≡ n → ⊥) → Entry t rs (getD (set os n at) i 0) (all - i * strideOf all)
+      other i q d = rw (getD-set-other os n i at 0 d) (g .made .entries i q)
 
-  -- from an entry that is not above c one may look for c
-  pub index-ahead : (i c : ℕ) → i < n → leAt t (getD os i 0) 4 ≤ c → Ahead t rs c (getD os i 0) (getD ls i 0)
-  index-ahead i c h k =
-      let e = x .entries i h in
-      let low = e .low in
-      record { rises = rising-lower 0 (e .least) _ (omega arith) (e .tail .rises); finds = e .tail .finds c (omega arith) }
+-- from an entry that is not above c one may look for c
+pub index-ahead : (t : List ℕ) (rs : List Record) (os : List ℕ) (all n : ℕ) → Indexed t rs os all n → (i c at : ℕ) → i < n → at ≡ getD os i 0 → leAt t at 4 ≤ c
+    → Ahead t rs c at (all - i * strideOf all)
+index-ahead t rs os all n x i c at h a k =
+    let e : Entry t rs at (all - i * strideOf all) = rw a (x .entries i h) in
+    let low = e .low in
+    record { rises = rising-lower 0 (e .least) _ (omega arith) (e .tail .rises); finds = e .tail .finds c (omega arith) }
 
 pub ahead-all : (t : List ℕ) (c at left : ℕ) → rising 0 (recordsAt left t at) ≡ true → Ahead t (recordsAt left t at) c at left
 ahead-all t c at left h = record { rises = h; finds = refl }

@@ -4,13 +4,15 @@
 --     Tail t rs at left least  the records from the offset at on, left of them, rise from least on, and have the records of rs for code points from least on
 --     Ahead t rs c at left     c has among the records from at on the record that it has in rs
 --     Entry t rs at left       an entry of the index: a record stands at the offset at, and a Tail begins there, for code points from this record's on
---     Indexed t rs os ls n     the index over rs has n entries: their offsets os, and ls, how many records there are from each on
+--     strideOf all             from one entry of the index to the next there are so many of all records
+--     Indexed t rs os all n    the index over rs, which are all records, has n entries: their offsets os; the i-th is record number i * strideOf all
+--     Growing t rs os all x    the same of an index x that is being made, whose next entry is due
 -- Assumes nothing.
 use mathlib.Core.Path.{_≡_}
 use mathlib.Core.Bool.{true}
 use mathlib.Core.List.{List}
 use mathlib.Core.Option.{none, some}
-use Prim.Native.Nat.{ℕ, _+_, _≤_, _<_}
+use Prim.Native.Nat.{ℕ, _+_, _-_, _*_, _/_, _≤_, _<_}
 use lib.ListN.{length, getD}
 use Rattle.fields.specs.Fields.{leAt}
 use Rattle.dicts.specs.Table.{Record, find}
@@ -18,6 +20,7 @@ use Rattle.dicts.specs.Layout.{Is, readRecord, recordsAt}
 use Rattle.dicts.specs.Check.{rising}
 use Rattle.dicts.specs.Answers.{recordOf, Inside}
 use Rattle.dicts.specs.declared.layout.NumProp.{NumProp}
+use Rattle.characters.specs.declared.lookup.Index.{Index}
 use Rattle.characters.specs.declared.lookup.CharRecord.{CharRecord}
 use Rattle.characters.specs.declared.lookup.CharRecord.the-variants.{At, Nothing}
 
@@ -44,8 +47,15 @@ pub record Entry (t : List ℕ) (rs : List Record) (at left : ℕ) : Type 0 wher
   pub there : at + 4 ≤ length t
   pub low : least ≤ leAt t at 4
 
-pub record Indexed (t : List ℕ) (rs : List Record) (os ls : List ℕ) (n : ℕ) : Type 0 where
+unfoldable pub strideOf : ℕ → ℕ
+strideOf all = 1 + all / 256
+
+pub record Indexed (t : List ℕ) (rs : List Record) (os : List ℕ) (all n : ℕ) : Type 0 where
   pub few : n ≤ 256
-  pub os-long : length os ≡ 256
-  pub ls-long : length ls ≡ 256
-  pub entries : (i : ℕ) → i < n → Entry t rs (getD os i 0) (getD ls i 0)
+  pub long : length os ≡ 256
+  pub inner : (i : ℕ) → i < n → i * strideOf all < all
+  pub entries : (i : ℕ) → i < n → Entry t rs (getD os i 0) (all - i * strideOf all)
+
+pub record Growing (t : List ℕ) (rs : List Record) (os : List ℕ) (all : ℕ) (x : Index) : Type 0 where
+  pub made : Indexed t rs os all (x .n)
+  pub next : x .due ≡ all - x .n * strideOf all

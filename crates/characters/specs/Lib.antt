@@ -1,4 +1,5 @@
 -- The definitions that the contracts of `characters` cite.
 pub mod CharItem
+pub mod Walk
 pub mod Index
 pub mod Initial

@@ -2,6 +2,7 @@
 // character of the line that has a record, in line order.
 mod character; // character.rt: the edge of one character, from its record
 mod lookup; // lookup.rt: the record of a character, by an index over the records
+mod walk; // walk.rt: the offset behind a record
 
 ghost use mathlib.Core.Path.{_≡_};
 ghost use mathlib.Core.List.{List};
@@ -50,20 +51,19 @@ fn add_char(
     n: usize,
     table: &[u8],
     h: Shape,
-    offs: &[usize; 256],
-    lefts: &[usize; 256],
+    offs: &[u32; 256],
     entries: usize,
     place: usize,
     c: u32,
 ) -> usize
-    requires { ⌜ (n ≤ place) × (14336 ≤ length (now list)) × (place < 256) × Checked (now table) h × Indexed (now table) (tableOf (now table) h .records) (now offs) (now lefts) entries ⌝ }
+    requires { ⌜ (n ≤ place) × (14336 ≤ length (now list)) × (place < 256) × Checked (now table) h × Indexed (now table) (tableOf (now table) h .records) (now offs) (h .count) entries ⌝ }
     ensures { λ r. ⌜ ((w : List ℕ) → Scalars w → place < length w → getD w place 0 ≡ c → SoFar w (now (table .entry)) h place (now (list .entry)) n → SoFar w (now (table .entry)) h (place + 1) (now (list .exit)) r) ⌝ }
 {
     let all = Rest {
         at: h.records,
         left: h.count,
     };
-    match find_char(table, all, offs, lefts, entries, c) {
+    match find_char(table, all, offs, entries, c) {
         CharRecord::At(p, at) => {
             put_char(list, n, table, p, at, place, c);
             n + 1
@@ -78,11 +78,10 @@ fn add_chars(
     line: &[u8],
     table: &[u8],
     h: Shape,
-    offs: &[usize; 256],
-    lefts: &[usize; 256],
+    offs: &[u32; 256],
     entries: usize,
 ) -> usize
-    requires { ⌜ (14336 ≤ length (now list)) × (length (chars (now line)) ≤ 256) × Checked (now table) h × Indexed (now table) (tableOf (now table) h .records) (now offs) (now lefts) entries ⌝ }
+    requires { ⌜ (14336 ≤ length (now list)) × (length (chars (now line)) ≤ 256) × Checked (now table) h × Indexed (now table) (tableOf (now table) h .records) (now offs) (h .count) entries ⌝ }
     ensures { λ r. ⌜ Initial (now (line .entry)) (now (table .entry)) h (now (list .exit)) r ⌝ }
 {
     let mut n: usize = 0;
@@ -91,7 +90,7 @@ fn add_chars(
     loop {
         match text::seq_at(line, Offset(at)) {
             Seq::Char(c, len) => {
-                n = add_char(list, n, table, h, offs, lefts, entries, place, c);
+                n = add_char(list, n, table, h, offs, entries, place, c);
                 place += 1;
                 at += len;
             }
@@ -110,12 +109,11 @@ pub fn initialize_num_edges(list: &mut [u8], line: &[u8], table: &[u8], h: Shape
     requires { ⌜ (14336 ≤ length (now list)) × ((n : ℕ) × Ready (now line) (now table) h n) ⌝ }
     ensures { λ r. ⌜ Initial (now (line .entry)) (now (table .entry)) h (now (list .exit)) r ⌝ }
 {
-    let mut offs: [usize; 256] = [0; 256];
-    let mut lefts: [usize; 256] = [0; 256];
+    let mut offs: [u32; 256] = [0; 256];
     let all = Rest {
         at: h.records,
         left: h.count,
     };
-    let entries = index_records(table, all, &mut offs, &mut lefts);
-    add_chars(list, line, table, h, &offs, &lefts, entries)
+    let entries = index_records(table, all, &mut offs);
+    add_chars(list, line, table, h, &offs, entries)
 }

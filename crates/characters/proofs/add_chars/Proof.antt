@@ -16,10 +16,10 @@ use Rattle.characters.proofs.add_chars.Statement.{statement}
 use Rattle.characters.proofs.add_chars.Tie as tie
 
 abbrev Inv-loop : tie.InvT-loop
-Inv-loop list₀ line table h offs lefts entries n₀ place₀ at₀ list n place at = SoFar (chars line) table h place list n × Reached line place at × (length list ≡ length list₀)
+Inv-loop list₀ line table h offs entries n₀ place₀ at₀ list n place at = SoFar (chars line) table h place list n × Reached line place at × (length list ≡ length list₀)
 
 abbrev μ-loop : tie.MeasureT-loop
-μ-loop list₀ line table h offs lefts entries n₀ place₀ at₀ list n place at = length (chars line) - place
+μ-loop list₀ line table h offs entries n₀ place₀ at₀ list n place at = length (chars line) - place
 
 -- a character stands at the offset
 told : (c : tie.After-known-told Inv-loop μ-loop) → let l = c .before .before .before .before in

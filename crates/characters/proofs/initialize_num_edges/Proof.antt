@@ -10,14 +10,14 @@ use Rattle.characters.proofs.initialize_num_edges.Tie as tie
 
 index-records-requires : tie.Need-index-records-requires
 index-records-requires c κs =
-    let ready = c .before .before .before .before .before .pre .1 .1 in
-    (records-rise _ _ (ready .checked), length-replicate {A = ℕ} 256 0, length-replicate {A = ℕ} 256 0)
+    let ready = c .before .before .before .before .pre .1 .1 in
+    (records-rise _ _ (ready .checked), length-replicate {A = ℕ} 256 0)
 
 add-chars-requires : tie.Need-add-chars-requires
 unfolding tableOf
 add-chars-requires c κs =
-    let i = c .before .before .before in
-    let pre = i .before .before .before .before .before .before .pre in
+    let i = c .before .before in
+    let pre = i .before .before .before .before .before .pre in
     let ready = pre .1 .1 in
     (pre .0, omega (arith, ready .count, ready .few), ready .checked, i .index-records .ensures)
 

@@ -8,36 +8,27 @@ use Rattle.characters.proofs.lookup.enter.Tie as tie
 returns : tie.Need-returns
 returns c = search needs
 
-returns-2 : tie.Need-returns-2
-returns-2 c = search needs
+cast-offs : tie.Need-cast-offs
+cast-offs c = search needs
 
 mul-offs : tie.Need-mul-offs
-mul-offs c = search needs
+mul-offs c = omega (arith, c .before .before .before .before .pre .1 (c .before .if1 .left))
 
 element-write-offs : tie.Need-element-write-offs
-element-write-offs c = search needs
+element-write-offs c = omega (arith, c .before .before .before .before .pre .1 (c .before .if1 .left))
 
-mul-lefts : tie.Need-mul-lefts
-mul-lefts c = search needs
+add-t8 : tie.Need-add-t8
+add-t8 c = omega (arith, c .before .before .before .before .pre .1 (c .before .if1 .left))
 
-element-write-lefts : tie.Need-element-write-lefts
-element-write-lefts c = search needs
+less-requires : tie.Need-less-requires
+less-requires c κs = search needs
 
-add-result : tie.Need-add-result
-add-result c = search needs
-
-returns-3 : tie.Need-returns-3
-returns-3 c = λ t rs e x. index-more t rs _ _ _ x _ _ (omega (arith, c .before .before .pre, c .if2 .left)) e
+returns-2 : tie.Need-returns-2
+returns-2 c = λ t rs all stride some-left e g.
+    let here = c .before .before .if1 .left in
+    rw (c .less .ensures, ← stride) (index-more t rs _ all _ g _ here some-left _ e)
 
 pub enter-spec : {M : Type 1} → statement M
 enter-spec =
     tie.close
-    (tie.spec
-    returns
-    returns-2
-    mul-offs
-    element-write-offs
-    mul-lefts
-    element-write-lefts
-    add-result
-    returns-3)
+    (tie.spec returns cast-offs mul-offs element-write-offs add-t8 less-requires returns-2)
