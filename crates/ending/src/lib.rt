@@ -15,7 +15,7 @@ pub fn end_of_call(w: &[u8], l: Lattice, out: &mut [u8]) -> Answer
     requires { ⌜ ((es : List Edge) × Holds (now w) l es) ⌝ }
     ensures { λ r. ⌜ ((es : List Edge) → Holds (now (w .entry)) l es → AnswerIs (now (out .entry)) (now (out .exit)) r (finished (length (now (out .entry))) es)) ⌝ }
 {
-    match lattice::finish(w, l, out) {
+    match lattice_ends::finish(w, l, out) {
         Finished::Listing(len) => Answer::Listing(len),
         Finished::TooLong => Answer::Refused(Refusal::TooLong),
     }

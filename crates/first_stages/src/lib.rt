@@ -62,7 +62,7 @@ pub fn passed(
     requires { ⌜ Offsets (now line) (now offs) × (65536 ≤ length (now w)) × ((n : ℕ) × Ready (now line) (now table) h n × (checkListing true n (now edges) ≡ Edges count)) ⌝ }
     ensures { λ r. ⌜ CallPassed (now (line .entry)) (now (table .entry)) h (now (edges .entry)) (now (w .exit)) r ⌝ }
 {
-    let none = lattice::empty(w);
+    let none = lattice_ends::empty(w);
     let given = given::add_all_given(w, none, edges, count);
     let first = first_edges(w, given, line, offs, table, h);
     let l = first.lattice;

@@ -102,6 +102,7 @@ module _ (s o : List ℕ) {t : List ℕ} (left from at : ℕ) (more : 0 < left) 
   pub walk-stops : {u : List ℕ} {r : Written} → RowAt s from t u at r → r ≡ NoRoom → length t ≡ length o → RowsAre s o u NoRoom
   walk-stops h e l = record {
     wrote = λ n f. to-no-room n f;
+    room = λ n f. to-no-room n f;
     fits = λ x f.
         let a = h .none e (whole-here x .0) in
         let b = all-after in
@@ -119,4 +120,8 @@ walk-ends s o left from at h w =
     let a : w .done ++ [] ≡ rowsBytes (listed s) = rw z at (w .all) in
     let d : w .done ≡ rowsBytes (listed s) = sym (append-nil (w .done)) ∙ a in
     let p = rw d at (w .put) in
-    record { wrote = λ n f. let m : at ≡ n = ap offsetOf f in rw m at p; fits = λ x y. let q = p .next in ap To (omega arith) }
+    record {
+      wrote = λ n f. let m : at ≡ n = ap offsetOf f in rw m at p;
+      room = λ n f. let m : at ≡ n = ap offsetOf f in let k = w .room in omega arith;
+      fits = λ x y. let q = p .next in ap To (omega arith);
+    }

@@ -27,4 +27,5 @@ pub record RowAt (s : List ℕ) (from : ℕ) (out t : List ℕ) (at : ℕ) (r : 
 
 pub record RowsAre (s out t : List ℕ) (r : Written) : Type 0 where
   pub wrote : (n : ℕ) → r ≡ To n → Put out t 0 n (rowsBytes (listed s))
+  pub room : (n : ℕ) → r ≡ To n → n ≤ length out
   pub fits : Whole (leAt s 0 2) s 2 → length (rowsBytes (listed s)) ≤ length out → r ≡ To (length (rowsBytes (listed s)))

@@ -1,0 +1,2 @@
+-- Laws of what the program prints, for the crate's own proofs.
+pub mod LineRowsLaws

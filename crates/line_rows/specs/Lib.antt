@@ -1,0 +1,2 @@
+-- The definitions that the contracts of `line_rows` cite.
+pub mod LineRows

@@ -1,0 +1,26 @@
+// The rows of every line of standard input, each headed by its number: what the program prints for it. tools/line_vectors.py writes the input, and the output as the old
+// program answers.
+fn head(k: u64) {
+    io::write_all(1, b"line ");
+    io::print_decimal(1, k);
+    io::write_all(1, b"\n");
+}
+
+// Every line of the text.
+fn print_all(s: &[u8]) {
+    let mut from = 0;
+    let mut k = 1;
+    while from < s.len() {
+        let end = read_line::line_end(s, from);
+        head(k);
+        print_line::print_rows(&s[from..end]);
+        from = end + 1;
+        k += 1;
+    }
+}
+
+fn main() {
+    let mut text = io::large_buffer();
+    let n = io::read_full(libc::STDIN_FILENO, &mut text);
+    print_all(&text[..n]);
+}
