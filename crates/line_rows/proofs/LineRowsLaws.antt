@@ -33,10 +33,11 @@ use Rattle.rows.specs.Rows.{refusedBytes}
 use Rattle.listing_rows.specs.ListingRows.{rowsBytes, RowsAre}
 use Rattle.listing_rows.proofs.ListingRowsLaws.{to-no-room}
 use Rattle.numbers.specs.Call.{Answer, listing, refused, finished, latticeOf, unlessAbove, withAll, withGiven, withTable, withLine, addNumbers}
-use Rattle.call.specs.declared.Answer.{Answer as Code}
-use Rattle.call.specs.declared.Answer.the-variants as Code
-use Rattle.call.specs.declared.Refusal.{Refusal}
-use Rattle.call.specs.Answers.{number, place, answerOf, AnswerIs}
+use Rattle.answers.specs.declared.Answer.{Answer as Code}
+use Rattle.answers.specs.declared.Answer.the-variants as Code
+use Rattle.answers.specs.declared.Refusal.{Refusal}
+use Rattle.answers.specs.Answers.{number, place, answerOf}
+use Rattle.ending.specs.Answers.{AnswerIs}
 use Rattle.line_rows.specs.LineRows.{TextIs}
 
 -- ---- the text of a refusal

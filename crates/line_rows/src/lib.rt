@@ -2,7 +2,7 @@
 // contracts are in specs/LineRows.antt.
 ghost use lib.ListN.{length};
 ghost use Rattle.numbers.specs.Call.{refused, addNumbers};
-ghost use Rattle.call.specs.Answers.{number, place};
+ghost use Rattle.answers.specs.Answers.{number, place};
 ghost use Rattle.line_rows.specs.LineRows.{noEdges, plainAnswer, TextIs};
 use call::Answer;
 use call::Refusal;
