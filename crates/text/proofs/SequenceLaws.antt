@@ -42,23 +42,40 @@ module _ (s : List ℕ) where
   unfolding trailing
   trailing-at n lo hi c l i j h e = rw (drop-at i h, e)
 
-  -- the tests and the bits of the bytes behind the lead byte, as the code has them
-  module _ (lo hi at lead : ℕ) {p : Bool} {x : ℕ} (second : p ≡ within lo hi (getD s (at + 1) 0)) (bits : x ≡ six lead (getD s (at + 1) 0)) where
-    pub two-at : 2 ≤ length s - at → cond p (Char x 2) Ill ≡ trailing 1 lo hi lead 1 (drop (at + 1) s)
+  module _ (lo hi at lead : ℕ) where
+    two-behind : 2 ≤ length s - at
+        → cond (within lo hi (getD s (at + 1) 0)) (Char (six lead (getD s (at + 1) 0)) 2) Ill ≡ trailing 1 lo hi lead 1 (drop (at + 1) s)
     unfolding trailing
-    two-at h = rw (second, bits, trailing-at 0 lo hi lead 1 (at + 1) (at + 2) (omega arith) (omega arith))
+    two-behind h = rw (trailing-at 0 lo hi lead 1 (at + 1) (at + 2) (omega arith) (omega arith))
 
-    module _ {q : Bool} {y : ℕ} (third : q ≡ trail (getD s (at + 2) 0)) (bits-y : y ≡ six x (getD s (at + 2) 0)) where
-      pub three-at : 3 ≤ length s - at → cond (p && q) (Char y 3) Ill ≡ trailing 2 lo hi lead 1 (drop (at + 1) s)
-      unfolding trailing
-      three-at h =
-          rw (second, third, bits-y, bits, cond-and, trailing-at 1 lo hi lead 1 (at + 1) (at + 2) (omega arith) (omega arith), trailing-at 0 0x80 0xBF _ _ (at + 2) (at + 3) (omega arith) (omega arith))
+    three-behind : 3 ≤ length s - at
+        → cond (within lo hi (getD s (at + 1) 0) && trail (getD s (at + 2) 0)) (Char (six (six lead (getD s (at + 1) 0)) (getD s (at + 2) 0)) 3) Ill
+        ≡ trailing 2 lo hi lead 1 (drop (at + 1) s)
+    unfolding trailing
+    three-behind h =
+        rw (cond-and, trailing-at 1 lo hi lead 1 (at + 1) (at + 2) (omega arith) (omega arith), trailing-at 0 0x80 0xBF _ _ (at + 2) (at + 3) (omega arith) (omega arith))
 
-      pub four-at : {r : Bool} {z : ℕ} → r ≡ trail (getD s (at + 3) 0) → z ≡ six y (getD s (at + 3) 0) → 4 ≤ length s - at
-          → cond (p && q && r) (Char z 4) Ill ≡ trailing 3 lo hi lead 1 (drop (at + 1) s)
-      unfolding trailing
-      four-at fourth bits-z h =
-          rw (second, third, fourth, bits-z, bits-y, bits, cond-and, cond-and, trailing-at 2 lo hi lead 1 (at + 1) (at + 2) (omega arith) (omega arith), trailing-at 1 0x80 0xBF _ _ (at + 2) (at + 3) (omega arith) (omega arith), trailing-at 0 0x80 0xBF _ _ (at + 3) (at + 4) (omega arith) (omega arith))
+    four-behind : 4 ≤ length s - at
+        → cond (within lo hi (getD s (at + 1) 0) && trail (getD s (at + 2) 0) && trail (getD s (at + 3) 0))
+        (Char (six (six (six lead (getD s (at + 1) 0)) (getD s (at + 2) 0)) (getD s (at + 3) 0)) 4)
+        Ill
+        ≡ trailing 3 lo hi lead 1 (drop (at + 1) s)
+    unfolding trailing
+    four-behind h =
+        rw (cond-and, cond-and, trailing-at 2 lo hi lead 1 (at + 1) (at + 2) (omega arith) (omega arith), trailing-at 1 0x80 0xBF _ _ (at + 2) (at + 3) (omega arith) (omega arith), trailing-at 0 0x80 0xBF _ _ (at + 3) (at + 4) (omega arith) (omega arith))
+
+    -- the same of the tests and the bits as the code has them; apart, since omega would read the remainders of these equations
+    module _ {p : Bool} {x : ℕ} (second : p ≡ within lo hi (getD s (at + 1) 0)) (bits : x ≡ six lead (getD s (at + 1) 0)) where
+      pub two-at : 2 ≤ length s - at → cond p (Char x 2) Ill ≡ trailing 1 lo hi lead 1 (drop (at + 1) s)
+      two-at h = rw (second, bits) (two-behind h)
+
+      module _ {q : Bool} {y : ℕ} (third : q ≡ trail (getD s (at + 2) 0)) (bits-y : y ≡ six x (getD s (at + 2) 0)) where
+        pub three-at : 3 ≤ length s - at → cond (p && q) (Char y 3) Ill ≡ trailing 2 lo hi lead 1 (drop (at + 1) s)
+        three-at h = rw (second, third, bits-y, bits) (three-behind h)
+
+        pub four-at : {r : Bool} {z : ℕ} → r ≡ trail (getD s (at + 3) 0) → z ≡ six y (getD s (at + 3) 0) → 4 ≤ length s - at
+            → cond (p && q && r) (Char z 4) Ill ≡ trailing 3 lo hi lead 1 (drop (at + 1) s)
+        four-at fourth bits-z h = rw (second, third, fourth, bits-z, bits-y, bits) (four-behind h)
 
   pub seq-end : (at : ℕ) → length s ≤ at → End ≡ seq (drop at s)
   unfolding seq
