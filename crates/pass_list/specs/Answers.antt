@@ -1,8 +1,8 @@
--- What the functions of `pass_list` answer, by the passes on items (specs/ItemPass.antt). Definitions only.
+-- What the functions of `pass_chain` and `pass_run` answer, by the passes on items (specs/ItemPass.antt). Definitions only.
 --     passOf p          the pass that the code's name p stands for
 --     passChain x       the chain x as the code has it
 --     ChainIs c x       the code's chain c is x, and the edge over it fits
---     answer p x y      what `Chain::next` answers: the longer chain, that it ends, or that the value is above TOP
+--     answer p x y      what `next` answers: the longer chain, that it ends, or that the value is above TOP
 --     passed o k        what a pass answers: the place in o, or the count k
 --     PassedIs p l s r  a pass p over the items l answered r and left the bytes s of the list
 -- Assumes nothing.

@@ -1,4 +1,4 @@
--- The definitions that the contracts of `pass_list` cite.
+-- The definitions that the contracts of `pass_list` and of the crates over it cite.
 pub mod Item
 pub mod Stored
 pub mod ItemPass

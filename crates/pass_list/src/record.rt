@@ -1,6 +1,6 @@
 // An edge of the pass list, and the 56 bytes that it has there. The definitions are in specs/Item.antt and specs/Stored.antt.
 ghost use mathlib.Core.Path.{_≡_};
-ghost use Prim.Native.Nat.{ℕ, _+_, _*_, _≤_};
+ghost use Prim.Native.Nat.{_+_, _*_, _≤_};
 ghost use lib.ListN.{length};
 ghost use lib.Seq.{sets};
 ghost use Rattle.pass_list.specs.Item.{Item, numData, EdgeIs, NumIs, Small};
