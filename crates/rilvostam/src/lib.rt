@@ -56,7 +56,7 @@ pub extern "C" fn rilvostam_best_edge(
     ensures status { λ r. ⌜ r ≡ answerStatus (answer (now (line .entry)) (now (listing .entry)) (Span (placeOf start) (placeOf end)) (isSet skip)) ⌝ }
     ensures place { λ _. ⌜ now (at .exit) ≡ answerAt (answer (now (line .entry)) (now (listing .entry)) (Span (placeOf start) (placeOf end)) (isSet skip)) ⌝ }
 {
-    let a = paths::best_edge(
+    let a = queries::best_edge(
         line,
         listing,
         Place(start as usize),
@@ -79,7 +79,7 @@ pub extern "C" fn rilvostam_right_neighbor(
     ensures status { λ r. ⌜ r ≡ answerStatus (answer (now (line .entry)) (now (listing .entry)) (Right (placeOf place)) (isSet skip)) ⌝ }
     ensures place { λ _. ⌜ now (at .exit) ≡ answerAt (answer (now (line .entry)) (now (listing .entry)) (Right (placeOf place)) (isSet skip)) ⌝ }
 {
-    let a = paths::right_neighbor(line, listing, Place(place as usize), skip != 0);
+    let a = queries::right_neighbor(line, listing, Place(place as usize), skip != 0);
     *at = answer_at(a);
     answer_status(a)
 }
@@ -96,7 +96,7 @@ pub extern "C" fn rilvostam_left_neighbor(
     ensures status { λ r. ⌜ r ≡ answerStatus (answer (now (line .entry)) (now (listing .entry)) (Left (placeOf place)) (isSet skip)) ⌝ }
     ensures place { λ _. ⌜ now (at .exit) ≡ answerAt (answer (now (line .entry)) (now (listing .entry)) (Left (placeOf place)) (isSet skip)) ⌝ }
 {
-    let a = paths::left_neighbor(line, listing, Place(place as usize), skip != 0);
+    let a = queries::left_neighbor(line, listing, Place(place as usize), skip != 0);
     *at = answer_at(a);
     answer_status(a)
 }

@@ -1,7 +1,7 @@
--- `paths::best_edge` meets its contract: the query is the span. Assumes nothing.
+-- `queries::best_edge` meets its contract: the query is the span. Assumes nothing.
 use borrow.Author.Needs.{needs}
-use Rattle.paths.proofs.best_edge.Statement.{statement}
-use Rattle.paths.proofs.best_edge.Tie as tie
+use Rattle.queries.proofs.best_edge.Statement.{statement}
+use Rattle.queries.proofs.best_edge.Tie as tie
 
 ask-requires : tie.Need-ask-requires
 ask-requires c κs = search needs

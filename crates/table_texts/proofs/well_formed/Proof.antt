@@ -1,10 +1,10 @@
--- `table_content::well_formed` meets its contract: what stands before the first byte that isn't ASCII is well-formed.
+-- `table_texts::well_formed` meets its contract: what stands before the first byte that isn't ASCII is well-formed.
 use mathlib.Core.Path.{sym, _∙_}
 use Rattle.dicts.proofs.ContentLaws.{behind-ascii, all-ascii}
 use Rattle.fields.specs.Part.{part}
 use borrow.Author.Needs.{needs}
-use Rattle.table_content.proofs.well_formed.Statement.{statement}
-use Rattle.table_content.proofs.well_formed.Tie as tie
+use Rattle.table_texts.proofs.well_formed.Statement.{statement}
+use Rattle.table_texts.proofs.well_formed.Tie as tie
 
 add-end : tie.Need-add-end
 add-end c = search needs

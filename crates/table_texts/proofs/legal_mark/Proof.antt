@@ -1,9 +1,9 @@
--- `table_content::legal_mark` meets its contract.
+-- `table_texts::legal_mark` meets its contract.
 use mathlib.Core.Path.{_∙_}
 use Rattle.dicts.proofs.ContentLaws.{mark-empty, mark-is}
 use borrow.Author.Needs.{needs}
-use Rattle.table_content.proofs.legal_mark.Statement.{statement}
-use Rattle.table_content.proofs.legal_mark.Tie as tie
+use Rattle.table_texts.proofs.legal_mark.Statement.{statement}
+use Rattle.table_texts.proofs.legal_mark.Tie as tie
 
 returns : tie.Need-returns
 returns c = mark-empty _ _ _ (c .before .before .before .pre) (c .if1 .taken)

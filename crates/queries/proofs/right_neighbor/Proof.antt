@@ -1,7 +1,7 @@
--- `paths::right_neighbor` meets its contract: the query is the place, asked on its right. Assumes nothing.
+-- `queries::right_neighbor` meets its contract: the query is the place, asked on its right. Assumes nothing.
 use borrow.Author.Needs.{needs}
-use Rattle.paths.proofs.right_neighbor.Statement.{statement}
-use Rattle.paths.proofs.right_neighbor.Tie as tie
+use Rattle.queries.proofs.right_neighbor.Statement.{statement}
+use Rattle.queries.proofs.right_neighbor.Tie as tie
 
 ask-requires : tie.Need-ask-requires
 ask-requires c κs = search needs

@@ -1,7 +1,7 @@
--- `paths::left_neighbor` meets its contract: the query is the place, asked on its left. Assumes nothing.
+-- `queries::left_neighbor` meets its contract: the query is the place, asked on its left. Assumes nothing.
 use borrow.Author.Needs.{needs}
-use Rattle.paths.proofs.left_neighbor.Statement.{statement}
-use Rattle.paths.proofs.left_neighbor.Tie as tie
+use Rattle.queries.proofs.left_neighbor.Statement.{statement}
+use Rattle.queries.proofs.left_neighbor.Tie as tie
 
 ask-requires : tie.Need-ask-requires
 ask-requires c κs = search needs

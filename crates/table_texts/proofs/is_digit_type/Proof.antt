@@ -1,4 +1,4 @@
--- `table_content::is_digit_type` meets its contract: the part is held against the five bytes.
+-- `table_texts::is_digit_type` meets its contract: the part is held against the five bytes.
 use mathlib.Core.Path.{_≡_, sym, ap, _∙_}
 use Prim.Native.Nat.{ℕ, _+_, _-_}
 use native.Mathlib.Omega.{arith}
@@ -7,8 +7,8 @@ use Rattle.fields.specs.Part.{part}
 use Rattle.text.specs.Bytes.{same}
 use Rattle.dicts.specs.Check.{digit}
 use borrow.Author.Needs.{needs}
-use Rattle.table_content.proofs.is_digit_type.Statement.{statement}
-use Rattle.table_content.proofs.is_digit_type.Tie as tie
+use Rattle.table_texts.proofs.is_digit_type.Statement.{statement}
+use Rattle.table_texts.proofs.is_digit_type.Tie as tie
 
 add-end : tie.Need-add-end
 add-end c = search needs

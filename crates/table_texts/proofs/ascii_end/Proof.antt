@@ -1,12 +1,12 @@
--- `table_content::ascii_end` meets its contract. The loop's invariant is what the contract says of the offset reached; the measure is what is left.
+-- `table_texts::ascii_end` meets its contract. The loop's invariant is what the contract says of the offset reached; the measure is what is left.
 use Prim.Native.Nat.{ℕ, _+_, _≤_, _<_, _-_}
 use lib.ListN.{length, getD}
 use native.Mathlib.Omega.{arith}
 use borrow.Author.Count.{below-more}
 use Rattle.dicts.specs.Answers.{Ascii}
 use borrow.Author.Needs.{needs}
-use Rattle.table_content.proofs.ascii_end.Statement.{statement}
-use Rattle.table_content.proofs.ascii_end.Tie as tie
+use Rattle.table_texts.proofs.ascii_end.Statement.{statement}
+use Rattle.table_texts.proofs.ascii_end.Tie as tie
 
 abbrev Inv-loop : tie.InvT-loop
 Inv-loop s from end at₀ at = Ascii s from end at

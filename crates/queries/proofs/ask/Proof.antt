@@ -1,12 +1,12 @@
--- `paths::ask` meets its contract, by what the checks answer. Assumes nothing.
+-- `queries::ask` meets its contract, by what the checks answer. Assumes nothing.
 use mathlib.Core.Path.{_≡_, sym, _∙_}
 use borrow.Author.Needs.{needs}
 use borrow.Author.Tests.{not-true, not-false}
 use Rattle.paths.specs.declared.Checked.the-variants as Checked
 use Rattle.paths.specs.Reading.{readCheck}
 use Rattle.paths.proofs.ReadingLaws.{reads, spans-whole, answer-refused, answer-outside, answer-best}
-use Rattle.paths.proofs.ask.Statement.{statement}
-use Rattle.paths.proofs.ask.Tie as tie
+use Rattle.queries.proofs.ask.Statement.{statement}
+use Rattle.queries.proofs.ask.Tie as tie
 
 check-requires : tie.Need-check-requires
 check-requires c κs = search needs
