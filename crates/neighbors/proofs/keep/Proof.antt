@@ -1,9 +1,9 @@
--- `made::keep` meets its contract, by whether the edge scores higher. Assumes nothing.
+-- `neighbors::keep` meets its contract, by whether the edge scores higher. Assumes nothing.
 use mathlib.Core.Path.{_≡_}
 use borrow.Author.Tests.{lt-ltb, le-ltb}
 use borrow.Author.Needs.{needs}
-use Rattle.made.proofs.keep.Statement.{statement}
-use Rattle.made.proofs.keep.Tie as tie
+use Rattle.neighbors.proofs.keep.Statement.{statement}
+use Rattle.neighbors.proofs.keep.Tie as tie
 
 mul-if1 : tie.Need-mul-if1
 mul-if1 c = search needs

@@ -1,8 +1,8 @@
--- `made::place_at` meets its contract, by the side. Assumes nothing.
+-- `neighbors::place_at` meets its contract, by the side. Assumes nothing.
 use Rattle.edge.specs.Layout.{edgeAt}
 use borrow.Author.Needs.{needs}
-use Rattle.made.proofs.place_at.Statement.{statement}
-use Rattle.made.proofs.place_at.Tie as tie
+use Rattle.neighbors.proofs.place_at.Statement.{statement}
+use Rattle.neighbors.proofs.place_at.Tie as tie
 
 add-u16-at : tie.Need-add-u16-at
 add-u16-at c = search needs

@@ -1,6 +1,6 @@
--- `made::side` meets its contract, by the side. Assumes nothing.
-use Rattle.made.proofs.side.Statement.{statement}
-use Rattle.made.proofs.side.Tie as tie
+-- `neighbors::side` meets its contract, by the side. Assumes nothing.
+use Rattle.neighbors.proofs.side.Statement.{statement}
+use Rattle.neighbors.proofs.side.Tie as tie
 
 returns : tie.Need-returns
 returns c = rw (c .if1 .taken)

@@ -1,4 +1,4 @@
--- `made::scored_neighbors` meets its contract. The loop's invariant: for each place what is kept and the edges from the i-th on have its neighbour
+-- `neighbors::scored_neighbors` meets its contract. The loop's invariant: for each place what is kept and the edges from the i-th on have its neighbour
 -- (`Table`). The measure is how many are left. Assumes nothing.
 use mathlib.Core.Path.{_≡_, ap, ap₂, _∙_}
 use mathlib.Core.Bool.{false}
@@ -7,11 +7,11 @@ use Prim.Native.Nat.{_-_}
 use native.Mathlib.Omega.{arith}
 use Rattle.edge.specs.Edge.{Edge}
 use Rattle.paths.specs.Best.{score}
 use Rattle.made.specs.Around.{Keeps, placeOf}
 use Rattle.made.proofs.NeighborLaws.{Table, table-start, table-turn, table-ends, keeps-count, keeps-few, keeps-edge, keeps-next, keeps-head, keeps-ten, keeps-place}
 use borrow.Author.Needs.{needs}
-use Rattle.made.proofs.scored_neighbors.Statement.{statement}
-use Rattle.made.proofs.scored_neighbors.Tie as tie
+use Rattle.neighbors.proofs.scored_neighbors.Statement.{statement}
+use Rattle.neighbors.proofs.scored_neighbors.Tie as tie
 
 abbrev Inv-loop : tie.InvT-loop
 Inv-loop w l right tops₀ table₀ at₀ i₀ tops table at i = (es : List Edge) → Keeps w l es → Table right es at i tops table
