@@ -86,8 +86,8 @@ fn choose(
 {
     let mut before = [0usize; 257];
     let mut behind = [0usize; 257];
-    made::neighbors(w, l, false, &mut before);
-    made::neighbors(w, l, true, &mut behind);
+    neighbors::neighbors(w, l, false, &mut before);
+    neighbors::neighbors(w, l, true, &mut behind);
     choose_all(
         w,
         l,

@@ -1,10 +1,8 @@
 // What the marker at a place leads to (01, "The rest of the call"): from the neighbours of the place in the lattice.
 ghost use mathlib.Core.Path.{_≡_};
-ghost use mathlib.Core.Bool.{cond};
 ghost use mathlib.Core.List.{List};
-ghost use Prim.Native.Nat.{ℕ, _+_, _≤_, _<_};
-ghost use lib.ListN.{length, getD, set, replicate};
-ghost use lib.Dec.{ltb};
+ghost use Prim.Native.Nat.{_+_, _≤_, _<_};
+ghost use lib.ListN.{length, getD};
 ghost use Rattle.edge.specs.Edge.{Edge};
 ghost use Rattle.edge.specs.Layout.{nextAt, edgeAt};
 ghost use Rattle.lattice.specs.Kept.{noEdge};
@@ -12,11 +10,10 @@ ghost use Rattle.numbers.specs.Listed.{wholeValue};
 ghost use Rattle.numbers.specs.Fractions.{isNumeric, marked, byMarker};
 ghost use Rattle.markers.specs.Marks.{markerOf};
 ghost use Rattle.made.specs.Choice.{madeOf, Valid};
-ghost use Rattle.made.specs.Around.{Keeps, sideOf, placeOf, Neighbors, Around};
+ghost use Rattle.made.specs.Around.{Keeps, Around};
 ghost use Rattle.made.specs.Decision.{sizeOf, optionOf, WholeValued, otherwiseOf, bothOf, withValuesOf, betweenOf};
 use lattice::Lattice;
 use markers::Marker;
-use paths::Query;
 use text::Place;
 
 // The decision at one place. form 0: nothing; 1: "right%" from the values; 2: "right/left"; 3: the right neighbour's txt and "%", from the marker on.
@@ -31,72 +28,6 @@ pub struct Choice {
 pub enum Value {
     Whole(u64),
     Nothing,
-}
-
-// What is asked for at a place: its right or its left neighbour.
-fn side(right: bool, p: usize) -> Query
-    ensures { λ r. ⌜ r ≡ sideOf right p ⌝ }
-{
-    if right {
-        Query::Right(Place(p))
-    } else {
-        Query::Left(Place(p))
-    }
-}
-
-// The place whose right or left neighbour the edge at an offset may be.
-fn place_at(w: &[u8], at: usize, right: bool) -> usize
-    requires { ⌜ at + 10 ≤ length (now w) ⌝ }
-    ensures { λ r. ⌜ r ≡ placeOf right (edgeAt (now (w .entry)) at) ⌝ }
-{
-    if right {
-        fields::u16_at(w, at + 2) as usize
-    } else {
-        fields::u16_at(w, at + 4) as usize
-    }
-}
-
-// Keeps the edge with index i as the neighbour of a place, where it scores higher than the one kept there.
-fn keep(tops: &mut [usize; 257], table: &mut [usize; 257], place: usize, score: usize, i: usize)
-    requires { ⌜ (place < 257) × (i < 1024) ⌝ }
-    ensures scores { λ _. ⌜ now (tops .exit) ≡ cond (ltb (getD (now (tops .entry)) place 0) score) (set (now (tops .entry)) place score) (now (tops .entry)) ⌝ }
-    ensures indices { λ _. ⌜ now (table .exit) ≡ cond (ltb (getD (now (tops .entry)) place 0) score) (set (now (table .entry)) place (i + 1)) (now (table .entry)) ⌝ }
-{
-    if tops[place] < score {
-        tops[place] = score;
-        table[place] = i + 1;
-    }
-}
-
-// The right or the left neighbours of all places, and their scores. One walk over the lattice.
-fn scored_neighbors(
-    w: &[u8],
-    l: Lattice,
-    right: bool,
-    tops: &mut [usize; 257],
-    table: &mut [usize; 257],
-)
-    requires { ⌜ ((es : List Edge) × Keeps (now w) l es) × (now tops ≡ replicate 257 0) × (now table ≡ replicate 257 0) ⌝ }
-    ensures { λ _. ⌜ ((es : List Edge) → Keeps (now (w .entry)) l es → Neighbors right es (now (table .exit))) ⌝ }
-{
-    let mut at = 2;
-    let mut i = 0;
-    while i < l.count {
-        let place = place_at(w, at, right);
-        let score = paths::score_at(w, at, side(right, place), false);
-        keep(tops, table, place, score, i);
-        at = edge::next_at(w, at);
-        i += 1;
-    }
-}
-
-// The right or the left neighbours of all places: one more than their indices, 0 for none.
-pub fn neighbors(w: &[u8], l: Lattice, right: bool, table: &mut [usize; 257])
-    requires { ⌜ ((es : List Edge) × Keeps (now w) l es) × (now table ≡ replicate 257 0) ⌝ }
-    ensures { λ _. ⌜ ((es : List Edge) → Keeps (now (w .entry)) l es → Neighbors right es (now (table .exit))) ⌝ }
-{
-    let mut tops = [0usize; 257];
-    scored_neighbors(w, l, right, &mut tops, table);
 }
 
 // The value of the edge at an offset.

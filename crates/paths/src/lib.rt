@@ -1,4 +1,5 @@
-// Reading a finished listing (01, "The rest of the call"): the best edge of a span and the neighbours of a place; the answers of the path (crate `path_listing`) and of the text shown (`shown`).
+// Reading a finished listing (01, "The rest of the call"): its checks, the score of an edge and the best of many; the answers of the best edge and the
+// neighbours (crate `queries`), of the path (`path_listing`) and of the text shown (`shown`).
 ghost use mathlib.Core.Path.{_≡_};
 ghost use mathlib.Core.Bool.{false};
 ghost use Prim.Native.Nat.{_+_, _*_, _-_, _≤_, _<_};
@@ -6,7 +7,7 @@ ghost use lib.ListN.{length};
 ghost use Rattle.edge.specs.Layout.{edgeAt, headEnd};
 ghost use Rattle.edge.specs.View.{textOf};
 ghost use Rattle.paths.specs.Best.{startsWith, regularClass, class, asked, score, best, withOffsets, Whole, found};
-ghost use Rattle.paths.specs.Reading.{number, place, readCheck, inside, answer};
+ghost use Rattle.paths.specs.Reading.{number, place, readCheck, inside};
 use edge::ListingCheck;
 use edge::Part;
 use text::LineCheck;
@@ -221,39 +222,4 @@ pub fn is_inside(chars: usize, q: Query) -> bool
         Query::Right(p) => p.0 <= chars,
         Query::Left(p) => p.0 <= chars,
     }
-}
-
-fn ask(line: &[u8], listing: &[u8], q: Query, skip: bool) -> Answer
-    ensures { λ r. ⌜ r ≡ answer (now (line .entry)) (now (listing .entry)) q skip ⌝ }
-{
-    match check(line, listing) {
-        Checked::Refused(r) => Answer::Refused(r),
-        Checked::Readable(chars, count) => {
-            if !is_inside(chars, q) {
-                return Answer::Refused(Refusal::BadPlace);
-            }
-            Answer::Best(best_of(listing, 2, count, q, skip))
-        }
-    }
-}
-
-// The best edge of a span; skip: no numeric one.
-pub fn best_edge(line: &[u8], listing: &[u8], start: Place, end: Place, skip: bool) -> Answer
-    ensures { λ r. ⌜ r ≡ answer (now (line .entry)) (now (listing .entry)) (Query.Span start end) skip ⌝ }
-{
-    ask(line, listing, Query::Span(start, end), skip)
-}
-
-// The right neighbour of a place.
-pub fn right_neighbor(line: &[u8], listing: &[u8], place: Place, skip: bool) -> Answer
-    ensures { λ r. ⌜ r ≡ answer (now (line .entry)) (now (listing .entry)) (Query.Right place) skip ⌝ }
-{
-    ask(line, listing, Query::Right(place), skip)
-}
-
-// The left neighbour of a place.
-pub fn left_neighbor(line: &[u8], listing: &[u8], place: Place, skip: bool) -> Answer
-    ensures { λ r. ⌜ r ≡ answer (now (line .entry)) (now (listing .entry)) (Query.Left place) skip ⌝ }
-{
-    ask(line, listing, Query::Left(place), skip)
 }

@@ -1,2 +1,3 @@
 -- What is promised of paths beyond the contracts.
+pub mod Theorems
 pub mod PathRead

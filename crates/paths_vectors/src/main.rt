@@ -41,17 +41,17 @@ fn show_answer(a: Answer) {
 
 fn best(line: &[u8], start: usize, end: usize, skip: bool) {
     let l = listing();
-    show_answer(paths::best_edge(line, &l, Place(start), Place(end), skip));
+    show_answer(queries::best_edge(line, &l, Place(start), Place(end), skip));
 }
 
 fn right(place: usize, skip: bool) {
     let l = listing();
-    show_answer(paths::right_neighbor(b"ab\xe4\xba\x94", &l, Place(place), skip));
+    show_answer(queries::right_neighbor(b"ab\xe4\xba\x94", &l, Place(place), skip));
 }
 
 fn left(place: usize, skip: bool) {
     let l = listing();
-    show_answer(paths::left_neighbor(b"ab\xe4\xba\x94", &l, Place(place), skip));
+    show_answer(queries::left_neighbor(b"ab\xe4\xba\x94", &l, Place(place), skip));
 }
 
 // The bytes shown at a place.
@@ -107,7 +107,7 @@ fn exact() {
     let l = listing();
     let mut out = [7u8; 16];
     show_written(path_listing::path(b"ab\xe4\xba\x94", &l, Place(0), Place(3), true, &mut out));
-    show_answer(paths::best_edge(b"ab\xe4\xba\x94", &out, Place(0), Place(2), false));
+    show_answer(queries::best_edge(b"ab\xe4\xba\x94", &out, Place(0), Place(2), false));
 }
 
 // An output that is a byte too short stays as it was.
@@ -125,7 +125,7 @@ fn no_place() {
     let l = listing();
     let mut out = [7u8; 2];
     show_written(path_listing::path(b"ab\xe4\xba\x94", &l, Place(2), Place(2), false, &mut out));
-    show_answer(paths::right_neighbor(b"ab\xe4\xba\x94", &out, Place(0), false));
+    show_answer(queries::right_neighbor(b"ab\xe4\xba\x94", &out, Place(0), false));
 }
 
 fn no_room() {
@@ -139,7 +139,7 @@ fn refusals() {
     let long = [97u8; 257];
     best(b"a\xff", 9, 0, false);
     best(&long, 9, 0, false);
-    show_answer(paths::best_edge(b"ab", b"\x01\x00", Place(9), Place(0), false));
+    show_answer(queries::best_edge(b"ab", b"\x01\x00", Place(9), Place(0), false));
     best(b"ab", 0, 2, false);
     best(b"ab\xe4\xba\x94", 2, 1, false);
     best(b"ab\xe4\xba\x94", 0, 4, false);

@@ -45,7 +45,7 @@ pub extern "C" fn rilvostam_best_edge(
 {
     let from = Place(start as usize);
     let to = Place(end as usize);
-    let a = paths::best_edge(line, listing, from, to, skip != 0);
+    let a = queries::best_edge(line, listing, from, to, skip != 0);
     *at = statuses::answer_at(a);
     statuses::answer_status(a)
 }
@@ -62,7 +62,7 @@ pub extern "C" fn rilvostam_right_neighbor(
     ensures status { λ r. ⌜ r ≡ answerStatus (answer (now (line .entry)) (now (listing .entry)) (Right (placeOf place)) (isSet skip)) ⌝ }
     ensures place { λ _. ⌜ now (at .exit) ≡ answerAt (answer (now (line .entry)) (now (listing .entry)) (Right (placeOf place)) (isSet skip)) ⌝ }
 {
-    let a = paths::right_neighbor(line, listing, Place(place as usize), skip != 0);
+    let a = queries::right_neighbor(line, listing, Place(place as usize), skip != 0);
     *at = statuses::answer_at(a);
     statuses::answer_status(a)
 }
@@ -79,7 +79,7 @@ pub extern "C" fn rilvostam_left_neighbor(
     ensures status { λ r. ⌜ r ≡ answerStatus (answer (now (line .entry)) (now (listing .entry)) (Left (placeOf place)) (isSet skip)) ⌝ }
     ensures place { λ _. ⌜ now (at .exit) ≡ answerAt (answer (now (line .entry)) (now (listing .entry)) (Left (placeOf place)) (isSet skip)) ⌝ }
 {
-    let a = paths::left_neighbor(line, listing, Place(place as usize), skip != 0);
+    let a = queries::left_neighbor(line, listing, Place(place as usize), skip != 0);
     *at = statuses::answer_at(a);
     statuses::answer_status(a)
 }

@@ -11,8 +11,8 @@ use dicts::shape::Items;
 use dicts::shape::RecordItem;
 use dicts::shape::Shape;
 use dicts::shape::TableCheck;
-use table_content::legal_mark;
 use table_content::legal_record;
+use table_texts::legal_mark;
 
 fn mark_item(s: &[u8], at: usize) -> Items
     ensures { λ r. ⌜ r ≡ endOf (item at legalMark (text (now (s .entry)) at)) ⌝ }

@@ -1,54 +1,13 @@
-// What a string of a list and a record may hold (01, cause 5).
+// What a record may hold (01, cause 5); its strings are looked at in `table_texts`.
 ghost use mathlib.Core.Path.{_≡_};
-ghost use Prim.Native.Nat.{_+_, _≤_};
-ghost use lib.ListN.{length};
 ghost use Rattle.text.specs.Text.{wellFormed};
-ghost use Rattle.dicts.specs.Check.{allOf, small, positive, legalRatio, isDigitType, legalCodePoint, legalMark, legalTexts, legalNumbers, digitRule, legalRecord};
-ghost use Rattle.dicts.specs.Answers.{Ascii, partOf, optionally, numbersOf, recordOf, Within, Inside};
+ghost use Rattle.dicts.specs.Check.{allOf, small, positive, legalRatio, legalCodePoint, legalTexts, legalNumbers, digitRule, legalRecord};
+ghost use Rattle.dicts.specs.Answers.{partOf, optionally, numbersOf, recordOf, Within, Inside};
 use dicts::layout::NumProp;
 use dicts::layout::Numbers;
 use dicts::layout::Part;
 
 const TOP: u64 = 9007199254740991;
-
-// The offset of the first byte of a part that is not ASCII, or of the part's end.
-fn ascii_end(s: &[u8], from: usize, end: usize) -> usize
-    requires { ⌜ (from ≤ end) × (end ≤ length (now s)) ⌝ }
-    ensures { λ r. ⌜ Ascii (now (s .entry)) from end r ⌝ }
-{
-    let mut at = from;
-    while at < end {
-        if 0x80 <= s[at] {
-            return at;
-        }
-        at += 1;
-    }
-    at
-}
-
-// Whether the bytes of a part are UTF-8. Most are ASCII, and only the rest is taken apart into characters.
-pub fn well_formed(s: &[u8], p: Part) -> bool
-    requires { ⌜ Within (now s) p ⌝ }
-    ensures { λ r. ⌜ r ≡ wellFormed (partOf (now (s .entry)) p) ⌝ }
-{
-    let end = p.at + p.len;
-    let rest = ascii_end(s, p.at, end);
-    if rest == end {
-        return true;
-    }
-    text_line::well_formed(&s[rest..end])
-}
-
-// A string of a list: not empty, and UTF-8.
-pub fn legal_mark(s: &[u8], p: Part) -> bool
-    requires { ⌜ Within (now s) p ⌝ }
-    ensures { λ r. ⌜ r ≡ legalMark (partOf (now (s .entry)) p) ⌝ }
-{
-    if p.len == 0 {
-        return false;
-    }
-    well_formed(s, p)
-}
 
 // A scalar value, and at least `least`.
 pub fn legal_code_point(c: u32, least: u64) -> bool
@@ -71,7 +30,11 @@ fn well_formed_if(s: &[u8], p: Part, there: bool) -> bool
     requires { ⌜ Within (now s) p ⌝ }
     ensures { λ r. ⌜ r ≡ allOf wellFormed (optionally there (partOf (now (s .entry)) p)) ⌝ }
 {
-    if there { well_formed(s, p) } else { true }
+    if there {
+        table_texts::well_formed(s, p)
+    } else {
+        true
+    }
 }
 
 fn legal_texts(s: &[u8], p: NumProp) -> bool
@@ -82,7 +45,7 @@ fn legal_texts(s: &[u8], p: NumProp) -> bool
     let num_type = p.num_type;
     let rom = p.rom;
     let script = p.script;
-    if !well_formed(s, num_type) {
+    if !table_texts::well_formed(s, num_type) {
         return false;
     }
     if !well_formed_if(s, rom, map / 1 % 2 == 1) {
@@ -124,16 +87,6 @@ fn legal_numbers(map: u8, n: Numbers) -> bool
         & small_if(map / 16 % 2 == 1, n.mult)
 }
 
-// Whether a part is "digit".
-pub fn is_digit_type(s: &[u8], p: Part) -> bool
-    requires { ⌜ Within (now s) p ⌝ }
-    ensures { λ r. ⌜ r ≡ isDigitType (partOf (now (s .entry)) p) ⌝ }
-{
-    let at = p.at;
-    let end = p.at + p.len;
-    text::same_bytes(&s[at..end], b"digit")
-}
-
 // Type "digit" with value 0 to 9: rom is that one ASCII digit.
 fn legal_digit(s: &[u8], p: NumProp) -> bool
     requires { ⌜ Inside (now s) p ⌝ }
@@ -149,7 +102,7 @@ fn legal_digit(s: &[u8], p: NumProp) -> bool
     if 9 < value {
         return true;
     }
-    if !is_digit_type(s, num_type) {
+    if !table_texts::is_digit_type(s, num_type) {
         return true;
     }
     if map / 1 % 2 != 1 {

@@ -6,7 +6,7 @@ use Rattle.rilvostam.proofs.rilvostam_best_edge.Statement.{statement}
 use Rattle.rilvostam.proofs.rilvostam_best_edge.Tie as tie
 use Rattle.rilvostam.proofs.rilvostam_best_edge.Reads as reads
 use Rattle.rilvostam.proofs.rilvostam_best_edge.Lts as lts
-use Rattle.paths.proofs.best_edge.Reads as best-edge-reads
+use Rattle.queries.proofs.best_edge.Reads as best-edge-reads
 use Rattle.statuses.proofs.answer_at.Reads as answer-at-reads
 use Rattle.statuses.proofs.answer_status.Reads as answer-status-reads
 

@@ -6,7 +6,7 @@ use Rattle.rilvostam.proofs.rilvostam_left_neighbor.Statement.{statemen
 use Rattle.rilvostam.proofs.rilvostam_left_neighbor.Tie as tie
 use Rattle.rilvostam.proofs.rilvostam_left_neighbor.Reads as reads
 use Rattle.rilvostam.proofs.rilvostam_left_neighbor.Lts as lts
-use Rattle.paths.proofs.left_neighbor.Reads as left-neighbor-reads
+use Rattle.queries.proofs.left_neighbor.Reads as left-neighbor-reads
 use Rattle.statuses.proofs.answer_at.Reads as answer-at-reads
 use Rattle.statuses.proofs.answer_status.Reads as answer-status-reads
 

@@ -6,7 +6,7 @@ use Rattle.rilvostam.proofs.rilvostam_right_neighbor.Statement.{stateme
 use Rattle.rilvostam.proofs.rilvostam_right_neighbor.Tie as tie
 use Rattle.rilvostam.proofs.rilvostam_right_neighbor.Reads as reads
 use Rattle.rilvostam.proofs.rilvostam_right_neighbor.Lts as lts
-use Rattle.paths.proofs.right_neighbor.Reads as right-neighbor-reads
+use Rattle.queries.proofs.right_neighbor.Reads as right-neighbor-reads
 use Rattle.statuses.proofs.answer_at.Reads as answer-at-reads
 use Rattle.statuses.proofs.answer_status.Reads as answer-status-reads
 

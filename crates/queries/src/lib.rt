@@ -1,0 +1,43 @@
+// The best edge of a span and the neighbours of a place in a finished listing (01, "The rest of the call").
+ghost use mathlib.Core.Path.{_≡_};
+ghost use Rattle.paths.specs.Reading.{answer};
+use paths::Answer;
+use paths::Checked;
+use paths::Query;
+use paths::Refusal;
+use text::Place;
+
+fn ask(line: &[u8], listing: &[u8], q: Query, skip: bool) -> Answer
+    ensures { λ r. ⌜ r ≡ answer (now (line .entry)) (now (listing .entry)) q skip ⌝ }
+{
+    match paths::check(line, listing) {
+        Checked::Refused(r) => Answer::Refused(r),
+        Checked::Readable(chars, count) => {
+            if !paths::is_inside(chars, q) {
+                return Answer::Refused(Refusal::BadPlace);
+            }
+            Answer::Best(paths::best_of(listing, 2, count, q, skip))
+        }
+    }
+}
+
+// The best edge of a span; skip: no numeric one.
+pub fn best_edge(line: &[u8], listing: &[u8], start: Place, end: Place, skip: bool) -> Answer
+    ensures { λ r. ⌜ r ≡ answer (now (line .entry)) (now (listing .entry)) (Query.Span start end) skip ⌝ }
+{
+    ask(line, listing, Query::Span(start, end), skip)
+}
+
+// The right neighbour of a place.
+pub fn right_neighbor(line: &[u8], listing: &[u8], place: Place, skip: bool) -> Answer
+    ensures { λ r. ⌜ r ≡ answer (now (line .entry)) (now (listing .entry)) (Query.Right place) skip ⌝ }
+{
+    ask(line, listing, Query::Right(place), skip)
+}
+
+// The left neighbour of a place.
+pub fn left_neighbor(line: &[u8], listing: &[u8], place: Place, skip: bool) -> Answer
+    ensures { λ r. ⌜ r ≡ answer (now (line .entry)) (now (listing .entry)) (Query.Left place) skip ⌝ }
+{
+    ask(line, listing, Query::Left(place), skip)
+}
