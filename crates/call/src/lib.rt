@@ -161,7 +161,7 @@ fn passed(
     requires { ⌜ Offsets (now line) (now offs) × (65536 ≤ length (now w)) × ((n : ℕ) × Sound (now line) (now table) (now edges) n h count) ⌝ }
     ensures { λ r. ⌜ CallPassed (now (line .entry)) (now (table .entry)) h (now (edges .entry)) (now (w .exit)) r ⌝ }
 {
-    let none = lattice::empty(w);
+    let none = lattice_ends::empty(w);
     let given = given::add_all_given(w, none, edges, count);
     let first = first_edges(w, given, line, offs, table, h);
     let l = first.lattice;
@@ -187,7 +187,7 @@ fn checked_call(
         Passes::Above(p) => Answer::Refused(Refusal::AboveTop(p)),
         Passes::Added(m, k) => {
             let l = rest::rest_of_call(work, m, line, offs, table, h, n, k);
-            match lattice::finish(work, l, out) {
+            match lattice_ends::finish(work, l, out) {
                 Finished::Listing(len) => Answer::Listing(len),
                 Finished::TooLong => Answer::Refused(Refusal::TooLong),
             }

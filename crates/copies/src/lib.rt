@@ -57,5 +57,5 @@ pub fn add_copy(w: &mut [u8], l: Lattice, at: usize, sep: &[u8]) -> Lattice
     let key = v.fields - at - 2 + sep.len();
     let next = edge::next_at(w, at);
     let to = compose(w, len, at, txt.at, txt.len, next, sep);
-    lattice::add_edge(w, l, key, to)
+    lattice_add::add_edge(w, l, key, to)
 }

@@ -54,7 +54,7 @@ fn add_digit(w: &mut [u8], l: Lattice, c: u32, place: usize, marked: bool) -> La
         return l;
     }
     let txt = [c as u8];
-    lattice::add_regular(w, l, Place(place), Place(place + 1), b"num", &txt)
+    lattice_write::add_regular(w, l, Place(place), Place(place + 1), b"num", &txt)
 }
 
 // The edges of all digits whose places have no mark. One walk over the line.

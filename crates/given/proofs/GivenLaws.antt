@@ -21,7 +21,7 @@ use Rattle.edge_theorems.specs.Legal.{Legal}
 use Rattle.lattice.specs.declared.Lattice.{Lattice}
 use Rattle.lattice.specs.Lattice.{add, addAll}
 use Rattle.lattice.specs.Kept.{Holds}
-use Rattle.lattice.proofs.GivenLaws.{given-stands}
+use Rattle.lattice_add.proofs.GivenLaws.{given-stands}
 use Rattle.pass_list.specs.Item.{Every, nil, cons}
 use Rattle.stages.specs.CallEdge.{CallEdge, CallEdges}
 

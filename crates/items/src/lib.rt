@@ -256,7 +256,7 @@ fn add_texts(
 {
     let f = fraction_of(table, x.kind, x.record_at.0);
     let d = fields_of(offs, x, f, txt.len());
-    lattice::add_numeric(w, l, x.start, x.end, ty, txt, d, line, table, txt)
+    lattice_write::add_numeric(w, l, x.start, x.end, ty, txt, d, line, table, txt)
 }
 
 // An item is added to the lattice.

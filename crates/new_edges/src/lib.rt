@@ -109,7 +109,7 @@ fn add_percent(w: &mut [u8], l: Lattice, left: usize, right: usize) -> Lattice
     let v = value_of(w, l, right);
     let mut buf = [0u8; 300];
     let n = put_percent(&mut buf, v);
-    lattice::add_regular(w, l, a.start, b.end, b"percentage", &buf[..n])
+    lattice_write::add_regular(w, l, a.start, b.end, b"percentage", &buf[..n])
 }
 
 // The right edge's txt and "%", from a place on.
@@ -120,7 +120,7 @@ fn add_txt_percent(w: &mut [u8], l: Lattice, p: Place, right: usize) -> Lattice
     let b = head_of(w, l, right);
     let mut buf = [0u8; 300];
     let n = put_txt_percent(&mut buf, w, b.txt);
-    lattice::add_regular(w, l, p, b.end, b"percentage", &buf[..n])
+    lattice_write::add_regular(w, l, p, b.end, b"percentage", &buf[..n])
 }
 
 // The fields of a fraction.
@@ -168,7 +168,7 @@ fn add_composed(
     ensures { λ r. ⌜ (drop 39424 (now (w .exit)) ≡ drop 39424 (now (w .entry))) × ((es : List Edge) → Holds (now (w .entry)) l es → Holds (now (w .exit)) r (add es (fractionWith (start .0) (end .0) (now (txt .entry)) (q .numerator, q .denominator) (scriptFrom (now (script .entry)) s)))) ⌝ }
 {
     let d = fraction_fields(txt.len(), q, s);
-    lattice::add_numeric(w, l, start, end, b"fraction", txt, d, txt, script, b"")
+    lattice_write::add_numeric(w, l, start, end, b"fraction", txt, d, txt, script, b"")
 }
 
 // "right/left" over all three.

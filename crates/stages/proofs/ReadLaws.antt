@@ -6,16 +6,15 @@ use mathlib.Core.List.{List, [], _∷_, _++_, append-assoc}
 use Prim.Native.Nat.{ℕ, zero, suc, _+_, _≤_, _<_}
 use native.Mathlib.Numerals.{add-one}
 use native.Mathlib.Omega.{arith}
-use lib.ListN.{length, take, drop, getD, take-append-drop, length-append}
+use lib.ListN.{length, take, drop, getD, length-append}
 use lib.Seq.{take-suc}
-use Rattle.fields.specs.Part.{part}
 use Rattle.edge.specs.Edge.{Edge, mapOf, edgeBytes, edgesBytes, EdgeFits}
 use Rattle.edge.specs.Layout.{mapAt, nextAt, edgeAt, edgesAt}
 use Rattle.edge_theorems.specs.Legal.{Legal}
 use Rattle.edge_theorems.proofs.ReadBackLaws.{edge-there, edge-behind}
 use Rattle.lattice.specs.declared.Lattice.{Lattice}
 use Rattle.lattice.specs.Kept.{noEdge, offset, Holds}
-use Rattle.lattice.proofs.KeptLaws.{length-edges-snoc, kept-size, kept-bytes, edge-stands, offset-in}
+use Rattle.lattice.proofs.KeptLaws.{length-edges-snoc, begins, kept-size, kept-bytes, edge-stands, offset-in}
 use Rattle.lattice.proofs.HoldsLaws.{kept-of}
 use Rattle.paths.specs.Best.{Whole}
 use Rattle.pass_list.specs.Item.{Every, nil, cons}
@@ -33,11 +32,6 @@ call-legals {es = []} nil = nil
 call-legals {es = e ∷ es} (cons c cs) = cons (c .legal) (call-legals cs)
 
 -- ---- the i-th edge
--- a list begins with a part of it
-begins : (w : List ℕ) (at : ℕ) (bs : List ℕ) → part w at (length bs) ≡ bs → drop at w ≡ bs ++ drop (length bs) (drop at w)
-unfolding part
-begins w at bs e = sym (take-append-drop (length bs) (drop at w)) ∙ ap (λ (z : List ℕ). z ++ drop (length bs) (drop at w)) e
-
 pub offset-next : (es : List Edge) (i : ℕ) → i < length es → offset es (i + 1) ≡ offset es i + length (edgeBytes (getD es i noEdge))
 unfolding offset
 offset-next es i h = rw (add-one i, take-suc es i noEdge h) (let l = length-edges-snoc (take i es) (getD es i noEdge) in omega arith)
