@@ -5,7 +5,7 @@ use mathlib.Core.Logic.{inl, inr}
 use mathlib.Core.List.{List, _++_, append-assoc}
 use Prim.Native.Nat.{ℕ, _+_, _-_, _≤_, _<_}
 use native.Mathlib.Omega.{arith}
-use lib.ListN.{length, take, drop, getD, set, take-append-drop, length-append}
+use lib.ListN.{length, take, drop, getD, set, length-append}
 use lib.Seq.{sets, length-sets, take-at}
 use Rattle.fields.specs.Fields.{leAt, bytesOf}
 use Rattle.fields.specs.Part.{part}
@@ -21,7 +21,7 @@ use Rattle.edge_theorems.proofs.ReadBackLaws.{behind, number-there, number-behi
 use Rattle.lattice.specs.declared.Lattice.{Lattice}
 use Rattle.lattice.specs.Kept.{key, Fits, Stands, Holds, END}
 use Rattle.lattice.proofs.KeyLaws.{length-key}
-use Rattle.lattice.proofs.KeptLaws.{fieldsBytes, length-edge}
+use Rattle.lattice.proofs.KeptLaws.{fieldsBytes, length-edge, begins}
 use Rattle.lattice.proofs.HoldsLaws.{holds-beside}
 use Rattle.copies.specs.Copy.{prefixed, prefixedBytes, Source}
 
@@ -99,8 +99,8 @@ module _ (w : List ℕ) (at : ℕ) (e : Edge) (fits : EdgeFits e) (there : part 
   rest = drop (length (edgeBytes e)) (drop at w)
 
   stand : drop at w ≡ edgeBytes e ++ rest
-  unfolding part rest
-  stand = sym (take-append-drop (length (edgeBytes e)) (drop at w)) ∙ ap (λ (z : List ℕ). z ++ drop (length (edgeBytes e)) (drop at w)) there
+  unfolding rest
+  stand = begins w at (edgeBytes e) there
 
   pub next-is : nextAt w at ≡ at + length (edgeBytes e)
   next-is = edge-there w at rest e fits stand .ends

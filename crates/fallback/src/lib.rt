@@ -6,10 +6,10 @@ ghost use Prim.Native.Nat.{ℕ, _≤_, _<_};
 ghost use lib.ListN.{length, drop, getD, set, replicate};
 ghost use Rattle.text.specs.Text.{chars};
 ghost use Rattle.edge.specs.Edge.{Edge};
-ghost use Rattle.edge.specs.Layout.{edgeAt, edgesAt};
+ghost use Rattle.edge.specs.Layout.{edgeAt};
 ghost use Rattle.lattice.specs.Lattice.{addAll};
 ghost use Rattle.lattice.specs.Kept.{Holds};
-ghost use Rattle.paths.specs.Reading.{Spanned, Spans};
+ghost use Rattle.paths.specs.Reading.{Spanned};
 ghost use Rattle.stages.specs.CallEdge.{Legals};
 ghost use Rattle.numbers.specs.Fallback.{covered, fallback};
 ghost use Rattle.fallback.specs.Marks.{onePlace, digitEdge, unmarked};
@@ -31,17 +31,17 @@ fn mark(s: &[u8], at: usize, marks: &mut [bool; 257])
     }
 }
 
-// The marks of all places that a numeric edge of one place covers. One walk over the listing.
-fn mark_covered(s: &[u8], count: usize, marks: &mut [bool; 257])
-    requires { ⌜ Spans 256 count (now s) 2 × (now marks ≡ replicate 257 false) ⌝ }
-    ensures { λ _. ⌜ ((p : ℕ) → p < 256 → getD (now (marks .exit)) p false ≡ covered (edgesAt count (now (s .entry)) 2) p) ⌝ }
+// The marks of all places that a numeric edge of one place covers. One walk over the lattice.
+fn mark_covered(w: &[u8], l: Lattice, marks: &mut [bool; 257])
+    requires { ⌜ (l .full ≡ false) × ((n : ℕ) × (n ≤ 256) × ((es : List Edge) × Holds (now w) l es × Legals n es)) × (now marks ≡ replicate 257 false) ⌝ }
+    ensures { λ _. ⌜ ((n : ℕ) (es : List Edge) → n ≤ 256 → Holds (now (w .entry)) l es → Legals n es → (p : ℕ) → p < 256 → getD (now (marks .exit)) p false ≡ covered es p) ⌝ }
 {
-    let mut at = 2;
-    let mut left = count;
-    while 0 < left {
-        mark(s, at, marks);
-        at = edge::next_at(s, at);
-        left -= 1;
+    let count = l.count;
+    let mut i = 0;
+    while i < count {
+        let at = lattice::offset_at(w, l, i);
+        mark(w, at, marks);
+        i += 1;
     }
 }
 
@@ -92,6 +92,6 @@ pub fn fallback(w: &mut [u8], l: Lattice, line: &[u8]) -> Lattice
         return l;
     }
     let mut marks = [false; 257];
-    mark_covered(w, l.count, &mut marks);
+    mark_covered(w, l, &mut marks);
     add_unmarked(w, l, line, &marks)
 }

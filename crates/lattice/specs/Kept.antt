@@ -8,7 +8,8 @@
 --
 --     cell s base i     the i-th u16 from an offset on
 --     key e             the bytes of an edge that tell it apart: start, end, type and txt; no key begins another
---     bucket e          the bucket of an edge, by a hash of its key
+--     hashWords bs k    a hash of the first k times four bytes of bs; hash bs: of all of them, below 256
+--     bucket e          the bucket of an edge, by the hash of its key
 --     lastIn es b k     one more than the index of the last of the first k edges that is in bucket b; 0: there is none
 --     offset es i       where the i-th edge stands in the listing
 --     Fits e            the numbers of e fit their bytes
@@ -23,7 +24,7 @@ use mathlib.Core.Logic.{_⊎_}
 use mathlib.Core.Bool.{Bool, true, false, cond, _||_}
 use mathlib.Core.List.{List, [], _∷_, _++_}
 use mathlib.Core.Option.{none}
-use Prim.Native.Nat.{ℕ, zero, suc, _+_, _*_, _%_, _-_, _≤_, _<_}
+use Prim.Native.Nat.{ℕ, zero, suc, _+_, _*_, _/_, _%_, _-_, _≤_, _<_}
 use lib.ListN.{length, take, getD}
 use lib.Dec.{eqb, ltb}
 use lib.Seq.{sets}
@@ -64,12 +65,20 @@ linked w n len b =
 unfoldable pub key : Edge → List ℕ
 key e = bytesOf 2 (e .start) ++ (bytesOf 2 (e .end) ++ (str (e .type) ++ str (e .txt)))
 
-unfoldable pub hashFrom : ℕ → List ℕ → ℕ
-hashFrom h [] = h
-hashFrom h (b ∷ bs) = hashFrom ((h * 33 + b) % 256) bs
+-- any spread would do: the factor is 2 ^ 32 less 2 ^ 32 over the golden ratio
+abbrev pub mixed : ℕ → ℕ → ℕ
+mixed h v = (h + v) * 1640531527 % 4294967296
+
+unfoldable pub hashWords : List ℕ → ℕ → ℕ
+hashWords bs zero = 0
+hashWords bs (suc k) = mixed (hashWords bs k) (leAt bs (4 * k) 4)
+
+-- the last four bytes count once more, or there would be up to three bytes that don't count
+unfoldable pub hash : List ℕ → ℕ
+hash bs = mixed (hashWords bs (length bs / 4)) (leAt bs (length bs - 4) 4) / 16777216
 
 abbrev pub bucket : Edge → ℕ
-bucket e = hashFrom 0 (key e)
+bucket e = hash (key e)
 
 -- what an index past the end of a list gives
 abbrev pub noEdge : Edge

@@ -2,37 +2,44 @@
 use mathlib.Core.Path.{_≡_, refl, sym, ap, _∙_}
 use mathlib.Core.Logic.{⊎-elim}
 use mathlib.Core.Bool.{Bool, true, false, cond}
-use mathlib.Core.List.{List, [], _∷_, _++_}
-use Prim.Native.Nat.{ℕ, zero, suc, _+_, _*_, _%_, _≤_, _<_}
+use mathlib.Core.List.{List, _++_}
+use Prim.Native.Nat.{ℕ, zero, suc, _+_, _*_, _-_, _/_, _≤_, _<_}
 use native.Mathlib.Nat.{eq-or-lt-of-le, le-of-suc-le-suc}
 use native.Mathlib.Numerals.{add-one}
 use native.Mathlib.Omega.{arith}
 use native.Mathlib.Decide.{decLt}
-use lib.ListN.{length, getD, drop, drop-of-length-le, List·getD-append}
-use lib.Seq.{drop-cons}
-use lib.Dec.{eqb, lit<}
+use lib.ListN.{length, getD, List·getD-append}
+use lib.Dec.{eqb}
 use borrow.Author.Tests.{eqb-true, eqb-false}
+use Rattle.fields.specs.Fields.{leAt}
+use Rattle.fields.specs.Part.{part}
+use Rattle.fields.proofs.FieldsLaws.{leAt-of-part}
+use Rattle.fields.proofs.PartLaws.{length-part}
 use Rattle.edge.specs.Edge.{Edge}
 use Rattle.lattice.specs.Lattice.{sameKey}
-use Rattle.lattice.specs.Kept.{noEdge, key, hashFrom, bucket, lastIn}
+use Rattle.lattice.specs.Kept.{noEdge, key, mixed, hashWords, hash, bucket, lastIn}
 use Rattle.lattice.proofs.KeyLaws.{same-key}
 
--- ---- the hash: h is that of the bytes before i
-pub hash-turn : (xs : List ℕ) (h i v : ℕ) → i < length xs → v ≡ getD xs i 0 → hashFrom h (drop i xs) ≡ hashFrom ((h * 33 + v) % 256) (drop (i + 1) xs)
-unfolding hashFrom
-hash-turn xs h i v l e = rw (drop-cons xs i 0 l, e, add-one i)
+-- ---- the hash: h is that of the words before the i-th
+pub hash-zero : (bs : List ℕ) → 0 ≡ hashWords bs 0
+unfolding hashWords
+hash-zero bs = refl
 
-pub hash-ends : (xs : List ℕ) (h i : ℕ) → length xs ≤ i → hashFrom h (drop i xs) ≡ h
-unfolding hashFrom
-hash-ends xs h i l = rw (drop-of-length-le xs {i = i} l)
+module _ (s : List ℕ) (at n : ℕ) (room : at + n ≤ length s) where
+  pub hash-turn : {h v : ℕ} (i : ℕ) → i < n / 4 → h ≡ hashWords (part s at n) i → v ≡ leAt s (at + 4 * i) 4 → mixed h v ≡ hashWords (part s at n) (i + 1)
+  unfolding hashWords
+  hash-turn i l p q = rw (add-one i, leAt-of-part s at n (4 * i) 4 (omega arith), p, q)
 
-hash-lt : (h : ℕ) (xs : List ℕ) → h < 256 → hashFrom h xs < 256
-unfolding hashFrom
-hash-lt h [] l = l
-hash-lt h (x ∷ xs) l = hash-lt ((h * 33 + x) % 256) xs (omega arith)
+  pub hash-ends : {h v : ℕ} (i : ℕ) → 4 ≤ n → i ≡ n / 4 → h ≡ hashWords (part s at n) i → v ≡ leAt s (at + (n - 4)) 4 → mixed h v / 16777216 ≡ hash (part s at n)
+  unfolding hash
+  hash-ends i l k p q = rw (length-part s at n room, leAt-of-part s at n (n - 4) 4 (omega arith), p, q, k)
+
+hash-lt : (bs : List ℕ) → hash bs < 256
+unfolding hash
+hash-lt bs = omega arith
 
 pub bucket-lt : (e : Edge) {b : ℕ} → b ≡ bucket e → b < 256
-bucket-lt e p = rw p (hash-lt 0 (key e) (lit< tt))
+bucket-lt e p = rw p (hash-lt (key e))
 
 -- ---- the last edge of a bucket
 pub last-le : (es : List Edge) (b k : ℕ) → lastIn es b k ≤ k
@@ -78,7 +85,7 @@ other-bucket e c h = go (sameKey e c) refl
   where
     go : (t : Bool) → sameKey e c ≡ t → sameKey e c ≡ false
     go false p = p
-    go true p = absurd (eqb-false (bucket e) (bucket c) h (ap (hashFrom 0) (same-key e c p)))
+    go true p = absurd (eqb-false (bucket e) (bucket c) h (ap hash (same-key e c p)))
 
 pub record Searching (es : List Edge) (c : Edge) (n edge : ℕ) : Type 0 where
   pub within : edge ≤ n

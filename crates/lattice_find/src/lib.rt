@@ -2,13 +2,13 @@
 // A lattice that would be over 1,024 edges or 32,768 bytes is full: it adds nothing more, and is refused at the end.
 ghost use mathlib.Core.Path.{_≡_};
 ghost use mathlib.Core.List.{List};
-ghost use Prim.Native.Nat.{_+_, _≤_};
+ghost use Prim.Native.Nat.{_+_, _≤_, _<_};
 ghost use lib.ListN.{length};
 ghost use Rattle.fields.specs.Part.{part};
 ghost use Rattle.text.specs.Bytes.{same};
 ghost use Rattle.edge.specs.Edge.{Edge};
 ghost use Rattle.lattice.specs.Lattice.{has};
-ghost use Rattle.lattice.specs.Kept.{hashFrom, Stands, Holds, Search, AddingIs};
+ghost use Rattle.lattice.specs.Kept.{mixed, hash, Stands, Holds, Search, AddingIs};
 use lattice::Adding;
 use lattice::Lattice;
 
@@ -24,18 +24,27 @@ const MOST_EDGES: usize = 1024;
 
 const MOST_BYTES: usize = 32768;
 
-// The bucket of a key of n bytes.
-fn bucket_of(s: &[u8], at: usize, n: usize) -> usize
-    requires { ⌜ at + n ≤ length (now s) ⌝ }
-    ensures { λ r. ⌜ r ≡ hashFrom 0 (part (now (s .entry)) at n) ⌝ }
+// A hash, with four bytes more.
+fn mix(h: u64, v: u32) -> u64
+    requires { ⌜ h < 4294967296 ⌝ }
+    ensures { λ r. ⌜ r ≡ mixed h v ⌝ }
 {
-    let mut h: usize = 0;
+    (h + v as u64) * 1640531527 % 4294967296
+}
+
+// The bucket of a key of n bytes: four of them at a time, and the last four in the end.
+fn bucket_of(s: &[u8], at: usize, n: usize) -> usize
+    requires { ⌜ (at + n ≤ length (now s)) × (4 ≤ n) ⌝ }
+    ensures { λ r. ⌜ r ≡ hash (part (now (s .entry)) at n) ⌝ }
+{
+    let words = n / 4;
+    let mut h: u64 = 0;
     let mut i = 0;
-    while i < n {
-        h = (h * 33 + s[at + i] as usize) % 256;
+    while i < words {
+        h = mix(h, fields::u32_at(s, at + 4 * i));
         i += 1;
     }
-    h
+    (mix(h, fields::u32_at(s, at + (n - 4))) / 16777216) as usize
 }
 
 // Whether n bytes of w are those of s.

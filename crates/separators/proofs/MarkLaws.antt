@@ -1,30 +1,28 @@
 -- Laws of the marks of F1 (`specs/Marks.antt`). No contract cites this file.
--- In order: the edge that is read; the walk over the listing; marks and the definition. Assumes nothing.
+-- In order: the edge that is read; the walk over the lattice; marks and the definition. Assumes nothing.
 use mathlib.Core.Path.{_≡_, refl, sym, ap, _∙_}
 use mathlib.Core.Bool.{Bool, true, false, cond, _||_}
 use mathlib.Core.List.{List, [], _∷_}
 use mathlib.Core.Option.{none, some}
 use Prim.Native.Nat.{ℕ, suc, _+_, _-_, _≤_, _<_}
 use native.Mathlib.Nat.{add-sub-cancel-left}
+use native.Mathlib.Numerals.{add-one}
 use native.Mathlib.Omega.{arith}
 use native.Mathlib.Decide.{ℕ-discrete}
-use lib.ListN.{length, take, drop, getD, set, replicate, length-set, length-replicate, getD-replicate}
-use lib.Seq.{getD-set-same, getD-set-other}
+use lib.ListN.{length, take, drop, getD, set, replicate, length-set, length-replicate, getD-replicate, drop-of-length-le}
+use lib.Seq.{getD-set-same, getD-set-other, drop-cons}
 use borrow.Author.Tests.{eq-eqb, ne-eqb}
 use Rattle.fields.specs.Part.{part}
 use Rattle.digits.specs.TextEnds.{beginsWithDigit, endsWithDigit}
 use Rattle.digits.proofs.Theorems.{ends-last}
 use Rattle.edge.specs.declared.EdgeView.{EdgeView}
 use Rattle.edge.specs.Edge.{Edge, Numeric}
-use Rattle.edge.specs.Layout.{stands, only, mapAt, textAt, nextAt, edgeAt, edgesAt}
+use Rattle.edge.specs.Layout.{stands, only, mapAt, textAt, edgeAt}
 use Rattle.edge.specs.View.{viewAt}
-use Rattle.paths.specs.Reading.{Spanned, Spans}
-use Rattle.paths.proofs.ReadingLaws.{spans-first, spans-next}
+use Rattle.paths.specs.Reading.{Spanned}
 use Rattle.pass_list.specs.Item.{nil, cons}
-use Rattle.lattice.specs.declared.Lattice.{Lattice}
-use Rattle.lattice.specs.Kept.{Holds}
+use Rattle.lattice.specs.Kept.{noEdge}
 use Rattle.stages.specs.CallEdge.{Legals}
-use Rattle.stages.proofs.ReadLaws.{edges-of}
 use Rattle.stages.proofs.SoundLaws.{sound-of}
 use Rattle.numbers.specs.Fractions.{isNumeric}
 use Rattle.numbers.specs.Separators.{endsBefore}
@@ -89,15 +87,13 @@ module _ (s : List ℕ) (at : ℕ) {v : EdgeView} (read : v ≡ viewAt s at) whe
       unfolding apartBy
       apart-marked t = rw (numeric-read, sym bit-0 ∙ on, sym begins-read ∙ t, start-read)
 
--- ---- the walk: with the edges that are left, the marks are those of all edges
-pub record Marked (s : List ℕ) (count at left : ℕ) (marks : List Bool) : Type 0 where
-  pub spans : Spans 256 left s at
+-- ---- the walk: with the edges from the i-th on, the marks are those of all edges
+pub record Marked (es : List Edge) (i : ℕ) (marks : List Bool) : Type 0 where
   pub long : length marks ≡ 257
-  pub marked : (p : ℕ) → p < 257 → (getD marks p false || digitEnds (edgesAt left s at) p) ≡ digitEnds (edgesAt count s 2) p
+  pub marked : (p : ℕ) → p < 257 → (getD marks p false || digitEnds (drop i es) p) ≡ digitEnds es p
 
-pub mark-start : (s : List ℕ) (count : ℕ) {marks : List Bool} → Spans 256 count s 2 → marks ≡ replicate 257 false → Marked s count 2 count marks
-mark-start s count w e = record {
-  spans = w;
+pub mark-start : (es : List Edge) {marks : List Bool} → marks ≡ replicate 257 false → Marked es 0 marks
+mark-start es e = record {
   long = ap length e ∙ length-replicate {A = Bool} 257 false;
   marked = λ p h. rw (e, getD-replicate {A = Bool} 257 p false false h);
 }
@@ -121,34 +117,28 @@ step e rest marks p h (no n) = rw (ne-eqb (e .end) p (λ q. n (sym q))) (by-test
     by-test true = rw (getD-set-other marks (e .end) p true false n)
     by-test false = refl
 
-module _ (s : List ℕ) (count at left : ℕ) (marks : List Bool) (w : Marked s count at left marks) where
-  pub mark-first : 0 < left → Spanned 256 s at
-  mark-first h = spans-first 256 left s at h (w .spans)
-
-  edges-first : 0 < left → edgesAt left s at ≡ edgeAt s at ∷ edgesAt (left - 1) s (nextAt s at)
-  unfolding edgesAt
-  edges-first h = let e : left ≡ suc (left - 1) = omega arith in ap (λ (j : ℕ). edgesAt j s at) e
-
+module _ {es : List Edge} {i : ℕ} {marks : List Bool} (m : Marked es i marks) where
   kept-length : (t : Bool) (a : ℕ) → length (cond t (set marks a true) marks) ≡ 257
-  kept-length true a = length-set marks a true ∙ w .long
-  kept-length false a = w .long
+  kept-length true a = length-set marks a true ∙ m .long
+  kept-length false a = m .long
 
-  pub mark-turn : 0 < left → {to : ℕ} {v : List Bool} → to ≡ nextAt s at → v ≡ cond (endsWithDigit (edgeAt s at .txt)) (set marks (edgeAt s at .end) true) marks → Marked s count to (left - 1) v
-  mark-turn h e f =
-      let i = mark-first h .within in
-      let l = w .long in
+  -- e is the i-th edge
+  pub mark-turn : i < length es → (e : Edge) → e ≡ getD es i noEdge → e .end < 257 → {v : List Bool} → v ≡ cond (endsWithDigit (e .txt)) (set marks (e .end) true) marks → Marked es (i + 1) v
+  mark-turn h e here b f =
+      let l = m .long in
+      let rest : drop i es ≡ e ∷ drop (i + 1) es =
+      drop-cons es i noEdge h ∙ ap (λ (d : Edge). d ∷ drop (suc i) es) (sym here) ∙ ap (λ (k : ℕ). e ∷ drop k es) (sym (add-one i)) in
       record {
-        spans = rw e (spans-next 256 left s at h (w .spans));
-        long = ap length f ∙ kept-length (endsWithDigit (edgeAt s at .txt)) (edgeAt s at .end);
-        marked = λ p k. rw (f, e)
-            (step (edgeAt s at) (edgesAt (left - 1) s (nextAt s at)) marks p (omega arith) (ℕ-discrete p (edgeAt s at .end))
-            ∙ ap (λ (es : List Edge). getD marks p false || digitEnds es p) (sym (edges-first h))
-            ∙ w .marked p k);
+        long = ap length f ∙ kept-length (endsWithDigit (e .txt)) (e .end);
+        marked = λ p k. rw f
+            (step e (drop (i + 1) es) marks p (omega arith) (ℕ-discrete p (e .end))
+            ∙ ap (λ (ds : List Edge). getD marks p false || digitEnds ds p) (sym rest)
+            ∙ m .marked p k);
       }
 
-  pub mark-end : left ≤ 0 → (p : ℕ) → p < 257 → getD marks p false ≡ digitEnds (edgesAt count s 2) p
-  unfolding digitEnds edgesAt
-  mark-end h p k = let z : left ≡ 0 = omega arith in sym (or-false (getD marks p false)) ∙ (rw z at (w .marked p k))
+  pub mark-end : length es ≤ i → (p : ℕ) → p < 257 → getD marks p false ≡ digitEnds es p
+  unfolding digitEnds
+  mark-end h p k = sym (or-false (getD marks p false)) ∙ (rw (drop-of-length-le es {i = i} h) at (m .marked p k))
     where
       or-false : (b : Bool) → (b || false) ≡ b
       or-false true = refl
@@ -159,8 +149,3 @@ pub ends-agree : {n : ℕ} (es : List Edge) (p : ℕ) → Legals n es → digitE
 unfolding digitEnds endsBefore
 ends-agree [] p nil = refl
 ends-agree {n} (e ∷ es) p (cons l ls) = rw (ends-last (e .txt) (sound-of n e (l .content) .txt), ends-agree es p ls)
-
--- of a lattice that is not full
-pub lattice-marks : {w : List ℕ} {l : Lattice} {es : List Edge} {n : ℕ} → Holds w l es → l .full ≡ false → Legals n es → (marks : List Bool)
-    → ((p : ℕ) → p < 257 → getD marks p false ≡ digitEnds (edgesAt (l .count) w 2) p) → (p : ℕ) → p < 257 → getD marks p false ≡ endsBefore es p
-lattice-marks {es = es} q f legals marks m p h = m p h ∙ ap (λ (ds : List Edge). digitEnds ds p) (edges-of q f legals) ∙ ends-agree es p legals

@@ -27,7 +27,7 @@ use Rattle.copies.proofs.CopyLaws.{length-by-txt, map-is}
 use Rattle.stages.specs.CallEdge.{Short, CallEdge, CallEdges}
 use Rattle.stages.proofs.ReadLaws.{edge-of-one, every-at}
 use Rattle.stages.proofs.OverLaws.{holds-full, over-add-all, over-turn-off, over-map-inactive}
-use Rattle.stages.proofs.SoundLaws.{sound-of}
+use Rattle.stages.proofs.SoundLaws.{one-spanned}
 use Rattle.numbers.specs.Fractions.{isNumeric}
 use Rattle.numbers.specs.Separators.{apart, hasFraction, copyOf, copies, separate}
 use Rattle.separators.specs.Marks.{apartBy, setApart, allApart}
@@ -108,14 +108,7 @@ module _ {w : List ℕ} {l : Lattice} {es : List Edge} (q : Holds w l es) (i : �
     edge-is = ap (edgeAt w) here ∙ edge-of-one q f i (counted f) (call .legal) .is
 
     pub edge-spanned : n ≤ 256 → Spanned 256 w at
-    edge-spanned few =
-        let t = edge-of-one q f i (counted f) (call .legal) in
-        let s = sound-of n (getD es i noEdge) (call .legal .content) in
-        let y = t .inside in
-        let r = q .room in
-        let m = q .short in
-        let b = s .within in
-        rw here (record { whole = omega arith; rises = rw (t .is) (s .rises); within = rw (t .is) (omega arith) })
+    edge-spanned = one-spanned q f i (counted f) here (call .legal)
 
     module _ (marks : List Bool) {r : Bool} (asked : r ≡ apartBy marks (edgeAt w at)) where
       apart-told : r ≡ apartBy marks (getD es i noEdge)

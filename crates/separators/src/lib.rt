@@ -7,12 +7,12 @@ ghost use Prim.Native.Nat.{ℕ, _≤_, _<_};
 ghost use lib.ListN.{length, drop, getD, set, replicate};
 ghost use Rattle.digits.specs.TextEnds.{endsWithDigit};
 ghost use Rattle.edge.specs.Edge.{Edge};
-ghost use Rattle.edge.specs.Layout.{edgeAt, edgesAt};
+ghost use Rattle.edge.specs.Layout.{edgeAt};
 ghost use Rattle.lattice.specs.Lattice.{add};
 ghost use Rattle.lattice.specs.Kept.{Holds, noEdge};
-ghost use Rattle.paths.specs.Reading.{Spanned, Spans};
+ghost use Rattle.paths.specs.Reading.{Spanned};
 ghost use Rattle.copies.specs.Copy.{Source};
-ghost use Rattle.stages.specs.CallEdge.{CallEdge, CallEdges};
+ghost use Rattle.stages.specs.CallEdge.{Legals, CallEdge, CallEdges};
 ghost use Rattle.numbers.specs.Separators.{copyOf, separate};
 ghost use Rattle.separators.specs.Marks.{digitEnds, apartBy, setApart, allApart};
 use lattice::Lattice;
@@ -33,17 +33,17 @@ fn mark(s: &[u8], at: usize, marks: &mut [bool; 257])
     }
 }
 
-// The marks of all places where an edge ends whose txt ends with a digit. One walk over the listing.
-fn mark_ends(s: &[u8], count: usize, marks: &mut [bool; 257])
-    requires { ⌜ Spans 256 count (now s) 2 × (now marks ≡ replicate 257 false) ⌝ }
-    ensures { λ _. ⌜ ((p : ℕ) → p < 257 → getD (now (marks .exit)) p false ≡ digitEnds (edgesAt count (now (s .entry)) 2) p) ⌝ }
+// The marks of all places where an edge ends whose txt ends with a digit. One walk over the lattice.
+fn mark_ends(w: &[u8], l: Lattice, marks: &mut [bool; 257])
+    requires { ⌜ (l .full ≡ false) × ((n : ℕ) × (n ≤ 256) × ((es : List Edge) × Holds (now w) l es × Legals n es)) × (now marks ≡ replicate 257 false) ⌝ }
+    ensures { λ _. ⌜ ((n : ℕ) (es : List Edge) → n ≤ 256 → Holds (now (w .entry)) l es → Legals n es → (p : ℕ) → p < 257 → getD (now (marks .exit)) p false ≡ digitEnds es p) ⌝ }
 {
-    let mut at = 2;
-    let mut left = count;
-    while 0 < left {
-        mark(s, at, marks);
-        at = edge::next_at(s, at);
-        left -= 1;
+    let count = l.count;
+    let mut i = 0;
+    while i < count {
+        let at = lattice::offset_at(w, l, i);
+        mark(w, at, marks);
+        i += 1;
     }
 }
 
@@ -123,6 +123,6 @@ pub fn separate(w: &mut [u8], l: Lattice) -> Lattice
         return l;
     }
     let mut marks = [false; 257];
-    mark_ends(w, l.count, &mut marks);
+    mark_ends(w, l, &mut marks);
     set_all_apart(w, l, &marks)
 }

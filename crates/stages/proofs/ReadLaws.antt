@@ -1,23 +1,21 @@
--- What the bytes of a lattice say: each of its edges is read where it stands, and all of them from the front. For the stages of the call.
--- In order: properties of each element; the i-th edge; all edges. Assumes nothing.
-use mathlib.Core.Path.{_≡_, refl, sym, ap, _∙_, subst}
+-- What the bytes of a lattice say: each of its edges is read where it stands. For the stages of the call.
+-- In order: properties of each element; the i-th edge. Assumes nothing.
+use mathlib.Core.Path.{_≡_}
 use mathlib.Core.Bool.{false}
-use mathlib.Core.List.{List, [], _∷_, _++_, append-assoc}
+use mathlib.Core.List.{List, [], _∷_}
 use Prim.Native.Nat.{ℕ, zero, suc, _+_, _≤_, _<_}
 use native.Mathlib.Numerals.{add-one}
 use native.Mathlib.Omega.{arith}
-use lib.ListN.{length, take, drop, getD, take-append-drop, length-append}
+use lib.ListN.{length, take, getD}
 use lib.Seq.{take-suc}
-use Rattle.fields.specs.Part.{part}
-use Rattle.edge.specs.Edge.{Edge, mapOf, edgeBytes, edgesBytes, EdgeFits}
-use Rattle.edge.specs.Layout.{mapAt, nextAt, edgeAt, edgesAt}
+use Rattle.edge.specs.Edge.{Edge, mapOf, edgeBytes, EdgeFits}
+use Rattle.edge.specs.Layout.{mapAt, nextAt, edgeAt}
 use Rattle.edge_theorems.specs.Legal.{Legal}
-use Rattle.edge_theorems.proofs.ReadBackLaws.{edge-there, edge-behind}
+use Rattle.edge_theorems.proofs.ReadBackLaws.{edge-there}
 use Rattle.lattice.specs.declared.Lattice.{Lattice}
 use Rattle.lattice.specs.Kept.{noEdge, offset, Holds}
-use Rattle.lattice.proofs.KeptLaws.{length-edges-snoc, kept-size, kept-bytes, edge-stands, offset-in}
+use Rattle.lattice.proofs.KeptLaws.{length-edges-snoc, begins, edge-stands, offset-in}
 use Rattle.lattice.proofs.HoldsLaws.{kept-of}
-use Rattle.paths.specs.Best.{Whole}
 use Rattle.pass_list.specs.Item.{Every, nil, cons}
 use Rattle.stages.specs.CallEdge.{Legals, CallEdges}
 
@@ -33,11 +31,6 @@ call-legals {es = []} nil = nil
 call-legals {es = e ∷ es} (cons c cs) = cons (c .legal) (call-legals cs)
 
 -- ---- the i-th edge
--- a list begins with a part of it
-begins : (w : List ℕ) (at : ℕ) (bs : List ℕ) → part w at (length bs) ≡ bs → drop at w ≡ bs ++ drop (length bs) (drop at w)
-unfolding part
-begins w at bs e = sym (take-append-drop (length bs) (drop at w)) ∙ ap (λ (z : List ℕ). z ++ drop (length bs) (drop at w)) e
-
 pub offset-next : (es : List Edge) (i : ℕ) → i < length es → offset es (i + 1) ≡ offset es i + length (edgeBytes (getD es i noEdge))
 unfolding offset
 offset-next es i h = rw (add-one i, take-suc es i noEdge h) (let l = length-edges-snoc (take i es) (getD es i noEdge) in omega arith)
@@ -64,36 +57,3 @@ edge-of-one {w = w} {l} {es} q f i x legal =
 
 pub edge-of : {n : ℕ} {w : List ℕ} {l : Lattice} {es : List Edge} → Holds w l es → l .full ≡ false → Legals n es → (i : ℕ) → i < l .count → EdgeThere n w (l .len) es i
 edge-of {l = l} {es} q f legals i x = edge-of-one q f i x (every-at noEdge legals (let z = kept-of q f .count in omega arith))
-
--- ---- all edges
-module _ {n : ℕ} (w : List ℕ) where
-  edges-read : (es : List Edge) (at : ℕ) (rest : List ℕ) → Legals n es → drop at w ≡ edgesBytes es ++ rest → edgesAt (length es) w at ≡ es
-  unfolding edgesBytes edgesAt
-  edges-read [] at rest nil stand = refl
-  edges-read (e ∷ es) at rest (cons l ls) stand =
-      let s : drop at w ≡ edgeBytes e ++ (edgesBytes es ++ rest) = stand ∙ append-assoc (edgeBytes e) (edgesBytes es) rest in
-      rw (edge-there w at (edgesBytes es ++ rest) e (l .fits) s .is)
-      (ap (λ (r : List Edge). e ∷ r) (edges-read es (nextAt w at) rest ls (edge-behind w at (edgesBytes es ++ rest) e (l .fits) s)))
-
-  edges-whole : (es : List Edge) (at : ℕ) (rest : List ℕ) → Legals n es → drop at w ≡ edgesBytes es ++ rest → at + length (edgesBytes es) ≤ length w → Whole (length es) w at
-  unfolding edgesBytes Whole
-  edges-whole [] at rest nil stand room = omega arith
-  edges-whole (e ∷ es) at rest (cons l ls) stand room =
-      let s : drop at w ≡ edgeBytes e ++ (edgesBytes es ++ rest) = stand ∙ append-assoc (edgeBytes e) (edgesBytes es) rest in
-      let z = edge-there w at (edgesBytes es ++ rest) e (l .fits) s .ends in
-      let k = length-append (edgeBytes e) (edgesBytes es) in
-      (omega arith, edges-whole es (nextAt w at) rest ls (edge-behind w at (edgesBytes es ++ rest) e (l .fits) s) (omega arith))
-
-module _ {n : ℕ} {w : List ℕ} {l : Lattice} {es : List Edge} (q : Holds w l es) (f : l .full ≡ false) (legals : Legals n es) where
-  pub whole-of : Whole (l .count) w 2
-  whole-of =
-      let k = kept-of q f in
-      let s = kept-size k in
-      let r = k .room in
-      let m = k .short in
-      subst (λ (c : ℕ). Whole c w 2) (k .count) (edges-whole w es 2 _ legals (begins w 2 (edgesBytes es) (kept-bytes k)) (omega arith))
-
-  pub edges-of : edgesAt (l .count) w 2 ≡ es
-  edges-of =
-      let k = kept-of q f in
-      ap (λ (c : ℕ). edgesAt c w 2) (sym (k .count)) ∙ edges-read w es 2 _ legals (begins w 2 (edgesBytes es) (kept-bytes k))

@@ -1,25 +1,26 @@
 -- What it says that an edge may be listed: its span, its texts. No contract cites this file.
--- In order: one edge; the edges of a listing; those of a lattice. Assumes nothing.
+-- In order: one edge; the i-th edge of a lattice. Assumes nothing.
 use mathlib.Core.Path.{_≡_, ap, _∙_}
 use mathlib.Core.Bool.{true, false, _&&_}
 use mathlib.Core.List.{List, _++_}
-use Prim.Native.Nat.{ℕ, zero, suc, _≤_, _<_}
-use native.Mathlib.Nat.{le-trans}
+use Prim.Native.Nat.{ℕ, _≤_, _<_}
+use native.Mathlib.Omega.{arith}
+use lib.ListN.{getD}
 use lib.Dec.{leb, ltb}
 use borrow.Author.Tests.{leb-true, ltb-true, le-leb, lt-ltb}
 use Rattle.text.specs.Text.{wellFormed, isNil}
 use Rattle.text.proofs.RowLaws.{and-true}
 use Rattle.text.proofs.TextLaws.{left-append}
 use Rattle.edge.specs.Edge.{Edge}
-use Rattle.edge.specs.Layout.{nextAt, edgeAt, edgesAt}
+use Rattle.edge.specs.Layout.{edgeAt}
 use Rattle.edge.specs.Check.{each, soundNumeric, sound}
-use Rattle.paths.specs.Best.{Whole}
-use Rattle.paths.specs.Reading.{Spans}
-use Rattle.pass_list.specs.Item.{cons}
+use Rattle.edge_theorems.specs.Legal.{Legal}
+use Rattle.paths.specs.Reading.{Spanned}
 use Rattle.lattice.specs.declared.Lattice.{Lattice}
-use Rattle.lattice.specs.Kept.{Holds}
+use Rattle.lattice.specs.Kept.{noEdge, offset, Holds}
 use Rattle.stages.specs.CallEdge.{Legals}
-use Rattle.stages.proofs.ReadLaws.{whole-of, edges-of}
+use Rattle.lattice.proofs.HoldsLaws.{kept-of}
+use Rattle.stages.proofs.ReadLaws.{every-at, edge-of-one}
 
 -- ---- one edge
 pub record Sound (n : ℕ) (e : Edge) : Type 0 where
@@ -46,14 +47,25 @@ sound-is n e s = rw (lt-ltb (e .start) (e .end) (s .rises), le-leb (e .end) n (s
 pub formed-append : (s t : List ℕ) → wellFormed s ≡ true → wellFormed t ≡ true → wellFormed (s ++ t) ≡ true
 formed-append s t h k = ap isNil (left-append s h t) ∙ k
 
--- ---- the edges of a listing
-pub legal-spans : {n : ℕ} (k : ℕ) (s : List ℕ) (at : ℕ) → n ≤ 256 → Whole k s at → Legals n (edgesAt k s at) → Spans 256 k s at
-unfolding Whole Spans edgesAt
-legal-spans zero s at h w ls = w
-legal-spans {n} (suc k) s at h w (cons l ls) =
-    let t = sound-of n (edgeAt s at) (l .content) in
-    (record { whole = w .0; rises = t .rises; within = le-trans (t .within) h }, legal-spans k s (nextAt s at) h (w .1) ls)
+-- ---- the i-th edge of a lattice that is not full
+module _ {w : List ℕ} {l : Lattice} {es : List Edge} (q : Holds w l es) (f : l .full ≡ false) (i : ℕ) (x : i < l .count) {at : ℕ} (here : at ≡ offset es i) {n : ℕ} where
+  -- of a lattice of which only this edge is known to be legal
+  pub one-spanned : Legal false n (getD es i noEdge) → n ≤ 256 → Spanned 256 w at
+  one-spanned legal few =
+      let t = edge-of-one q f i x legal in
+      let s = sound-of n (getD es i noEdge) (legal .content) in
+      let y = t .inside in
+      let r = q .room in
+      let m = q .short in
+      let b = s .within in
+      rw here (record { whole = omega arith; rises = rw (t .is) (s .rises); within = rw (t .is) (omega arith) })
 
--- ---- those of a lattice that is not full
-pub lattice-spans : {w : List ℕ} {l : Lattice} {es : List Edge} {n : ℕ} → Holds w l es → l .full ≡ false → Legals n es → n ≤ 256 → Spans 256 (l .count) w 2
-lattice-spans {w} {l} q f legals h = legal-spans (l .count) w 2 h (whole-of q f legals) (rw (edges-of q f legals) legals)
+  module _ (legals : Legals n es) where
+    legal-at : Legal false n (getD es i noEdge)
+    legal-at = every-at noEdge legals (let z = kept-of q f .count in omega arith)
+
+    pub spanned-at : n ≤ 256 → Spanned 256 w at
+    spanned-at few = one-spanned legal-at few
+
+    pub read-at : edgeAt w at ≡ getD es i noEdge
+    read-at = ap (edgeAt w) here ∙ edge-of-one q f i x legal-at .is

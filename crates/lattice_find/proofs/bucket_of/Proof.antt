@@ -1,40 +1,35 @@
--- `lattice_find::bucket_of` meets its contract. The loop's invariant: h, carried on over the bytes that are left, is the hash of all. The measure is what is left.
+-- `lattice_find::bucket_of` meets its contract. The loop's invariant: h is the hash of the words before the i-th. The measure is how many are left.
 -- Assumes nothing.
 use borrow.Author.Needs.{needs}
-use Prim.Native.Nat.{_+_, _≤_, _<_, _-_}
-use mathlib.Core.Path.{_≡_, sym, _∙_}
+use Prim.Native.Nat.{ℕ, _/_, _≤_, _<_, _-_}
+use mathlib.Core.Path.{_≡_, ap, _∙_}
 use native.Mathlib.Omega.{arith}
-use lib.ListN.{length, drop}
 use Rattle.fields.specs.Part.{part}
-use Rattle.fields.proofs.PartLaws.{part-at, length-part}
-use Rattle.lattice.specs.Kept.{hashFrom}
-use Rattle.lattice_find.proofs.BucketLaws.{hash-turn, hash-ends}
+use Rattle.lattice.specs.Kept.{hashWords}
+use Rattle.lattice_find.proofs.BucketLaws.{hash-zero, hash-turn, hash-ends}
 use Rattle.lattice_find.proofs.bucket_of.Statement.{statement}
 use Rattle.lattice_find.proofs.bucket_of.Tie as tie
 
 abbrev Inv-loop : tie.InvT-loop
-Inv-loop s at n h₀ i₀ h i = (i ≤ n) × (h < 256) × (hashFrom h (drop i (part s at n)) ≡ hashFrom 0 (part s at n))
+Inv-loop s at n words h₀ i₀ h i = (i ≤ words) × (h < 4294967296) × (h ≡ hashWords (part s at n) i)
 
 abbrev μ-loop : tie.MeasureT-loop
-μ-loop s at n h₀ i₀ h i = n - i
+μ-loop s at n words h₀ i₀ h i = words - i
 
 loop-holds : tie.Need-loop-holds Inv-loop μ-loop
-loop-holds c = search needs
+loop-holds c = (omega arith, omega arith, hash-zero _)
 
-mul-h : tie.Need-mul-h Inv-loop μ-loop
-mul-h c = search needs
+mul-u32-at : tie.Need-mul-u32-at Inv-loop μ-loop
+mul-u32-at c = search needs
 
-add-h : tie.Need-add-h Inv-loop μ-loop
-add-h c = search needs
+add-u32-at : tie.Need-add-u32-at Inv-loop μ-loop
+add-u32-at c = search needs
 
-shared-slice-read-h : tie.Need-shared-slice-read-h Inv-loop μ-loop
-shared-slice-read-h c = search needs
+u32-at-requires : tie.Need-u32-at-requires Inv-loop μ-loop
+u32-at-requires c κs = search needs
 
-cast-h : tie.Need-cast-h Inv-loop μ-loop
-cast-h c = omega (arith, c .shared-slice-known .given (c .before .before .before .args .at + c .before .before .loop .i))
-
-add-h-2 : tie.Need-add-h-2 Inv-loop μ-loop
-add-h-2 c = omega (arith, c .shared-slice-known .given (c .before .before .before .args .at + c .before .before .loop .i))
+mix-requires : tie.Need-mix-requires Inv-loop μ-loop
+mix-requires c κs = search needs
 
 add-i : tie.Need-add-i Inv-loop μ-loop
 add-i c = search needs
@@ -43,17 +38,31 @@ loop-less : tie.Need-loop-less Inv-loop μ-loop
 loop-less c = search needs
 
 loop-again : tie.Need-loop-again Inv-loop μ-loop
-loop-again c = let s = c .before .before .before .args in
-    let i = c .before .before .loop .i in
-    let l : length (part (s .s .now) (s .at) (s .n)) ≡ s .n = length-part _ _ _ (c .before .before .before .pre) in
-    let k = c .before .loop-test .taken in
-    (omega arith, omega arith, sym (hash-turn (part (s .s .now) (s .at) (s .n)) _ i _ (omega arith) (sym (part-at _ _ _ i k))) ∙ c .before .before .loop .inv .2)
+loop-again c =
+    let u = c .before in
+    let i = u .before in
+    let l = i .before in
+    (omega arith, omega (arith, c .mix .ensures), c .mix .ensures ∙ hash-turn _ _ _ (l .before .before .pre .0) _ (i .loop-test .taken) (l .loop .inv .2) (u .u32-at .ensures))
+
+sub-u32-at : tie.Need-sub-u32-at Inv-loop μ-loop
+sub-u32-at c = search needs
+
+add-u32-at-2 : tie.Need-add-u32-at-2 Inv-loop μ-loop
+add-u32-at-2 c = search needs
+
+u32-at-requires-2 : tie.Need-u32-at-requires-2 Inv-loop μ-loop
+u32-at-requires-2 c κs = search needs
+
+mix-requires-2 : tie.Need-mix-requires-2 Inv-loop μ-loop
+mix-requires-2 c κs = search needs
 
 returns : tie.Need-returns Inv-loop μ-loop
-returns c = let s = c .before .before .args in
-    let l : length (part (s .s .now) (s .at) (s .n)) ≡ s .n = length-part _ _ _ (c .before .before .pre) in
-    let k = c .loop-test .left in
-    sym (hash-ends (part (s .s .now) (s .at) (s .n)) _ (c .before .loop .i) (omega arith)) ∙ c .before .loop .inv .2
+returns c =
+    let u = c .before in
+    let x = u .before in
+    let l = x .before in
+    let p = l .before .before .pre in
+    ap (λ (z : ℕ). z / 16777216) (c .mix2 .ensures) ∙ hash-ends _ _ _ (p .0) _ (p .1) (omega (arith, l .loop .inv .0, x .loop-test .left)) (l .loop .inv .2) (u .u32-at2 .ensures)
 
 pub bucket-of-spec : {M : Type 1} → statement M
 bucket-of-spec =
@@ -62,12 +71,15 @@ bucket-of-spec =
     Inv-loop
     μ-loop
     loop-holds
-    mul-h
-    add-h
-    shared-slice-read-h
-    cast-h
-    add-h-2
+    mul-u32-at
+    add-u32-at
+    u32-at-requires
+    mix-requires
     add-i
     loop-less
     loop-again
+    sub-u32-at
+    add-u32-at-2
+    u32-at-requires-2
+    mix-requires-2
     returns)

@@ -7,8 +7,9 @@ use mathlib.Core.List.{List}
 use native.Mathlib.Omega.{arith}
 use Rattle.edge.specs.Edge.{Edge}
 use Rattle.lattice.specs.Lattice.{has}
-use Rattle.lattice.specs.Kept.{hashFrom, Holds, Stands, Search, AddingIs, bucket}
+use Rattle.lattice.specs.Kept.{hash, Holds, Stands, Search, AddingIs, bucket}
 use Rattle.lattice_find.proofs.SearchLaws.{stands-keyed, too-many, too-long, into}
+use Rattle.lattice.proofs.KeyLaws.{length-key}
 use Rattle.lattice.proofs.HoldsLaws.{kept-of}
 use Rattle.lattice_find.proofs.how_to_add.Statement.{statement}
 use Rattle.lattice_find.proofs.how_to_add.Tie as tie
@@ -23,7 +24,7 @@ abbrev E : tie.Start → Edge → Type 0
 E s e = Stands (s .args .s .now) (s .args .at) (s .args .n) (s .args .to) e
 
 hashed : (c : tie.After-bucket-of) (e : Edge) → E (start c) e → c .bucket-of .result ≡ bucket e
-hashed c e d = c .bucket-of .ensures ∙ ap (hashFrom 0) (stands-keyed _ _ _ _ e d .there)
+hashed c e d = c .bucket-of .ensures ∙ ap hash (stands-keyed _ _ _ _ e d .there)
 
 abbrev asked : (c : tie.After-bucket-of) (es : List Edge) (e : Edge) → H (start c) es → E (start c) e → Search (start c .args .w .now) (start c .args .s .now) (start c .args .at + 2) (start c .args .n) (c .bucket-of .result)
 asked c es e q d = record { count = start c .args .l .count; len = start c .args .l .len; es = es; e = e; kept = kept-of q (c .before .if1 .left); keyed = stands-keyed _ _ _ _ e d; in-bucket = hashed c e d }
@@ -39,7 +40,7 @@ add-key : tie.Need-add-key
 add-key c = search needs
 
 bucket-of-requires : tie.Need-bucket-of-requires
-bucket-of-requires c κs = let k = stands-keyed _ _ _ _ _ (c .before .before .before .pre .1 .1) .inside in omega arith
+bucket-of-requires c κs = let d = c .before .before .before .pre .1 in let k = stands-keyed _ _ _ _ _ (d .1) .inside in let n = d .1 .keyed in let l = length-key (d .0) in (omega arith, omega arith)
 
 has-key-requires : tie.Need-has-key-requires
 has-key-requires c κs = let p = start c .pre in asked c _ _ (p .0 .1) (p .1 .1)

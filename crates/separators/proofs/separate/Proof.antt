@@ -1,10 +1,9 @@
 -- `separators::separate` meets its contract. Assumes nothing.
-use mathlib.Core.Path.{refl, subst}
+use mathlib.Core.Path.{refl, _∙_, subst}
 use Rattle.lattice.specs.Kept.{Holds}
 use Rattle.lattice.proofs.HoldsLaws.{kept-of}
 use Rattle.stages.proofs.ReadLaws.{call-legals}
-use Rattle.stages.proofs.SoundLaws.{lattice-spans}
-use Rattle.separators.proofs.MarkLaws.{lattice-marks}
+use Rattle.separators.proofs.MarkLaws.{ends-agree}
 use Rattle.separators.proofs.ApartLaws.{all-separate}
 use Rattle.separators.proofs.StepLaws.{full-separate}
 use borrow.Author.Needs.{needs}
@@ -18,7 +17,7 @@ mark-ends-requires : tie.Need-mark-ends-requires
 mark-ends-requires c κs =
     let e = c .before .before in
     let p = e .before .before .pre in
-    (lattice-spans (p .2 .1) (e .if1 .left) (call-legals (p .2 .2)) (p .1), refl)
+    (e .if1 .left, (p .0, p .1, (p .2 .0, p .2 .1, call-legals (p .2 .2))), refl)
 
 set-all-apart-requires : tie.Need-set-all-apart-requires
 set-all-apart-requires c κs =
@@ -38,7 +37,7 @@ returns-2 c =
     let marks = m .mark-ends .last .1 .1 .0 in (
       a .set-all-apart .ensures .0,
       λ n es few q d. subst (Holds (a .set-all-apart .last .0) (a .set-all-apart .result))
-          (all-separate marks few es (lattice-marks q (e .if1 .left) (call-legals d) marks (m .mark-ends .ensures)) (call-legals d))
+          (all-separate marks few es (λ p h. m .mark-ends .ensures n es few q (call-legals d) p h ∙ ends-agree es p (call-legals d)) (call-legals d))
           (a .set-all-apart .ensures .1 n es few q (kept-of q (e .if1 .left) .count) d),
     )
 
