@@ -1,10 +1,13 @@
 // What the strings of a table may hold (01, "Table", "Record"): UTF-8, a marker, the type of digits.
 ghost use mathlib.Core.Path.{_≡_};
-ghost use Prim.Native.Nat.{_+_, _≤_};
-ghost use lib.ListN.{length};
+ghost use mathlib.Core.Bool.{true};
+ghost use Prim.Native.Nat.{_+_, _≤_, _<_};
+ghost use lib.ListN.{length, getD};
+ghost use Rattle.text.specs.Table.{within};
 ghost use Rattle.text.specs.Text.{wellFormed};
 ghost use Rattle.dicts.specs.Check.{isDigitType, legalMark};
 ghost use Rattle.dicts.specs.Answers.{Ascii, partOf, Within};
+ghost use Rattle.table_texts.specs.Threes.{plainThree, Threes};
 use dicts::layout::Part;
 
 // The offset of the first byte of a part that is not ASCII, or of the part's end.
@@ -22,13 +25,50 @@ fn ascii_end(s: &[u8], from: usize, end: usize) -> usize
     at
 }
 
-// Whether the bytes of a part are UTF-8. Most are ASCII, and only the rest is taken apart into characters.
+fn between(lo: u8, hi: u8, x: u8) -> bool
+    ensures { λ r. ⌜ r ≡ within lo hi x ⌝ }
+{
+    (lo <= x) & (x <= hi)
+}
+
+// Whether a sequence of three bytes stands at an offset whose lead byte is E1 to EC: those of Han and Kana are, and most of three bytes.
+fn three_at(s: &[u8], at: usize, end: usize) -> bool
+    requires { ⌜ (at < end) × (end ≤ length (now s)) ⌝ }
+    ensures { λ r. ⌜ (r ≡ true → (at + 3 ≤ end) × (plainThree (getD (now (s .entry)) at 0) (getD (now (s .entry)) (at + 1) 0) (getD (now (s .entry)) (at + 2) 0) ≡ true)) ⌝ }
+{
+    if end - at < 3 {
+        return false;
+    }
+    let b = s[at];
+    let c = s[at + 1];
+    let d = s[at + 2];
+    between(0xE1, 0xEC, b) & between(0x80, 0xBF, c) & between(0x80, 0xBF, d)
+}
+
+// The offset of the first byte of a part that begins no such sequence, or of the part's end.
+fn threes_end(s: &[u8], from: usize, end: usize) -> usize
+    requires { ⌜ (from ≤ end) × (end ≤ length (now s)) ⌝ }
+    ensures { λ r. ⌜ Threes (now (s .entry)) from end r ⌝ }
+{
+    let mut at = from;
+    while at < end {
+        if three_at(s, at, end) {
+            at += 3;
+        } else {
+            return at;
+        }
+    }
+    at
+}
+
+// Whether the bytes of a part are UTF-8. Most are ASCII or sequences of three bytes, and only the rest is taken apart into characters.
 pub fn well_formed(s: &[u8], p: Part) -> bool
     requires { ⌜ Within (now s) p ⌝ }
     ensures { λ r. ⌜ r ≡ wellFormed (partOf (now (s .entry)) p) ⌝ }
 {
     let end = p.at + p.len;
-    let rest = ascii_end(s, p.at, end);
+    let behind = ascii_end(s, p.at, end);
+    let rest = threes_end(s, behind, end);
     if rest == end {
         return true;
     }

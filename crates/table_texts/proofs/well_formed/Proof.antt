@@ -1,6 +1,7 @@
--- `table_texts::well_formed` meets its contract: what stands before the first byte that isn't ASCII is well-formed.
+-- `table_texts::well_formed` meets its contract: what stands before the rest is well-formed.
 use mathlib.Core.Path.{sym, _∙_}
-use Rattle.dicts.proofs.ContentLaws.{behind-ascii, all-ascii}
+use Rattle.dicts.proofs.ContentLaws.{behind-ascii}
+use Rattle.table_texts.proofs.ThreeLaws.{threes-all}
 use Rattle.fields.specs.Part.{part}
 use borrow.Author.Needs.{needs}
 use Rattle.table_texts.proofs.well_formed.Statement.{statement}
@@ -12,8 +13,13 @@ add-end c = search needs
 ascii-end-requires : tie.Need-ascii-end-requires
 ascii-end-requires c κs = search needs
 
+threes-end-requires : tie.Need-threes-end-requires
+threes-end-requires c κs = (c .ascii-end .ensures .before, c .before .before .before .pre)
+
 returns : tie.Need-returns
-returns c = all-ascii _ _ _ _ (c .before .before .before .before .pre) (c .before .ascii-end .ensures) (c .if1 .taken)
+returns c =
+    let a = c .before .before in
+    sym (behind-ascii _ _ _ _ (a .before .before .before .pre) (a .ascii-end .ensures) ∙ threes-all _ _ _ _ (c .before .threes-end .ensures) (c .if1 .taken))
 
 sub-well-formed : tie.Need-sub-well-formed
 sub-well-formed c = search needs
@@ -29,7 +35,10 @@ well-formed-requires c κs = search needs
 
 returns-2 : tie.Need-returns-2
 unfolding part
-returns-2 c = c .well-formed .ensures ∙ sym (behind-ascii _ _ _ _ (c .before .before .before .before .before .before .pre) (c .before .before .before .ascii-end .ensures))
+returns-2 c =
+    let k = c .before .before .before in
+    let a = k .before in
+    c .well-formed .ensures ∙ sym (behind-ascii _ _ _ _ (a .before .before .before .pre) (a .ascii-end .ensures) ∙ k .threes-end .ensures .same)
 
 pub well-formed-spec : {M : Type 1} → statement M
 well-formed-spec =
@@ -37,6 +46,7 @@ well-formed-spec =
     (tie.spec
     add-end
     ascii-end-requires
+    threes-end-requires
     returns
     sub-well-formed
     part-well-formed-start
