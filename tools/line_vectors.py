@@ -1,5 +1,5 @@
 #!/usr/bin/env python3
-"""Writes stdin and stdout of the programs line_vectors and cut_lines of the gate: lines, and the rows that the old program's answers give for them.
+"""Writes stdin and stdout of the programs line_vectors and number_edges of the gate: lines, and the rows that the old program's answers give for them.
 
 usage: tools/line_vectors.py [ORACLE, default tools/oracle/target/release/oracle]
 
@@ -109,14 +109,15 @@ def store(crate, given, wanted):
 
 def main():
     table = bytes.fromhex(oracle("plain-table").decode())
-    lines = [line if isinstance(line, bytes) else line.encode() for line in LINES]
-    heads = (b"line %d\n" % k for k in range(1, len(lines) + 1))
-    store("line_vectors", b"".join(line + b"\n" for line in lines), b"".join(a + b for a, b in zip(heads, printed(lines, table))))
+    # two lines without an end, each cut at 4,096 bytes; what is left of the second is the first line of the list
     digits, long = b"0123456789" * 409 + b"012345", "三".encode() * 1366
-    store("cut_lines", digits + long, b"".join(printed([digits, long[:4096]], table)))
+    lines = [long[4096:]] + [line if isinstance(line, bytes) else line.encode() for line in LINES]
+    heads = (b"line %d\n" % k for k in range(1, len(lines) + 1))
+    cut = b"".join(printed([digits, long[:4096]], table))
+    store("line_vectors", digits + long[:4096] + b"".join(line + b"\n" for line in lines), cut + b"".join(a + b for a, b in zip(heads, printed(lines, table))))
     example = "百分之五".encode()
     store("number_edges", example + b"\n", b"".join(printed([example], table)))
-    print(len(lines), "lines", file=sys.stderr)
+    print(2 + len(lines), "lines", file=sys.stderr)
 
 
 if __name__ == "__main__":

@@ -1,5 +1,6 @@
-// The rows of every line of standard input, each headed by its number: what the program prints for it. tools/line_vectors.py writes the input, and the output as the old
-// program answers.
+// The program of 01 on a list of lines. First it does what the program does, twice: the input begins with two lines that are cut at 4,096 bytes, ASCII digits and then 三, which ends
+// inside a character. The lines behind them are read at once and answered one by one, each headed by its number. tools/line_vectors.py writes the input, and the output as the
+// old program answers.
 fn head(k: u64) {
     io::write_all(1, b"line ");
     io::print_decimal(1, k);
@@ -20,6 +21,8 @@ fn print_all(s: &[u8]) {
 }
 
 fn main() {
+    print_line::print_line();
+    print_line::print_line();
     let mut text = io::large_buffer();
     let n = io::read_full(libc::STDIN_FILENO, &mut text);
     print_all(&text[..n]);
