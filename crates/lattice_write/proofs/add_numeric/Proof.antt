@@ -1,5 +1,6 @@
 -- `lattice_write::add_numeric` meets its contract: the edge is written behind the listing, where there is always room, and added. Assumes nothing.
 use mathlib.Core.Path.{_∙_}
+use native.Mathlib.Omega.{arith}
 use Rattle.edge.specs.Edge.{Edge}
 use Rattle.edge.specs.Write.{numeric}
 use Rattle.lattice_write.proofs.ComposeLaws.{Composed, numeric-composed}
@@ -22,7 +23,10 @@ abbrev writing : tie.After-add-edge-arg → tie.After-write-numeric
 writing c = c .before .before .before .before .before .before
 
 write-numeric-requires : tie.Need-write-numeric-requires
-write-numeric-requires c κs = search needs
+write-numeric-requires c κs =
+    let p = c .before .before .before .before .before .before .before .pre in
+    let q = p .0 .1 in
+    (omega (arith, q .room, q .short), omega (arith, p .4), omega (arith, p .4), p .1, p .2, p .3)
 
 enum-known-to : tie.Need-enum-known-to
 enum-known-to c = search needs

@@ -1,5 +1,6 @@
 -- `lattice_write::add_regular` meets its contract: the edge is written behind the listing, where there is always room, and added. Assumes nothing.
 use mathlib.Core.Path.{_∙_}
+use native.Mathlib.Omega.{arith}
 use Rattle.edge.specs.Edge.{Edge}
 use Rattle.edge.specs.Write.{regular}
 use Rattle.lattice_write.proofs.ComposeLaws.{Composed, regular-composed}
@@ -22,7 +23,10 @@ abbrev writing : tie.After-add-edge-arg → tie.After-write-regular
 writing c = c .before .before .before .before .before .before
 
 write-regular-requires : tie.Need-write-regular-requires
-write-regular-requires c κs = search needs
+write-regular-requires c κs =
+    let p = c .before .before .before .before .pre in
+    let q = p .0 .1 in
+    (omega (arith, q .room, q .short), omega (arith, p .3), omega (arith, p .3), p .1, p .2)
 
 enum-known-to : tie.Need-enum-known-to
 enum-known-to c = search needs
