@@ -2,7 +2,7 @@
 -- cites this file. In order: an edge as it counts; what `next` answers.
 -- Assumes nothing.
 use mathlib.Core.Path.{_≡_, refl, ap}
-use mathlib.Core.Bool.{Bool, true, false, cond, not, _&&_, _||_}
+use mathlib.Core.Bool.{Bool, true, false, cond, _&&_}
 use Prim.Native.Nat.{ℕ, _+_, _*_, _/_, _≤_, _<_}
 use native.Mathlib.Nat.{mul-le-mul-right}
 use native.Mathlib.Omega.{arith}
@@ -11,7 +11,6 @@ use borrow.Author.Tests.{leb-true, lt-ltb, le-ltb}
 use Rattle.whole.specs.Whole.{TOP}
 use Rattle.text.proofs.RowLaws.{and-true}
 use Rattle.passes.specs.Passes.{Pass, D1, G1, G2, G3, G4, powerOfTen}
-use Rattle.pass_list.specs.declared.record.PassEdge.{PassEdge}
 use Rattle.pass_list.specs.declared.chain.Chain.{Chain}
 use Rattle.pass_list.specs.declared.chain.Next.the-variants.{Longer, Ends, Above}
 use Rattle.pass_list.specs.Item.{Item, Fits, EdgeIs}
@@ -69,13 +68,3 @@ module _ (p : Pass) (x : ItemChain) (y : Item) where
       pub longer-answer : joinedValue p x y ≤ TOP → Longer (passChain (longer p x y)) ≡ answer p x y
       unfolding answer joins
       longer-answer v = rw (t, r, le-ltb TOP (joinedValue p x y) v)
-
--- the nearest edge that isn't a gap, where the next one is none, and where it is one
-module _ (e : PassEdge) (h : Bool) (n b : ℕ) where
-  pub near-other : (g : Bool) → g ≡ false → _≡_ {A = Chain} (record { edge = e; more = true; «has_near» = true; near = b }) (record { edge = e; more = true; «has_near» = not g || h; near = cond g n b })
-  near-other true t = absurd (let z : _≡_ {A = ℕ} 0 1 = cc in omega arith)
-  near-other false t = refl
-
-  pub near-gap : (g : Bool) → g ≡ true → _≡_ {A = Chain} (record { edge = e; more = true; «has_near» = h; near = n }) (record { edge = e; more = true; «has_near» = not g || h; near = cond g n b })
-  near-gap true t = refl
-  near-gap false t = absurd (let z : _≡_ {A = ℕ} 0 1 = cc in omega arith)

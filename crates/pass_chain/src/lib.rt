@@ -1,9 +1,9 @@
-// A chain of touching edges, as far as a pass's rule goes (01: "a chain state with sum and last base takes the next atom"). The definitions are those of
+// What the next edge does to a chain of touching edges: whether the pass's rule joins it, and the chain that it makes then. The definitions are those of
 // `pass_list`, specs/ItemPass.antt and specs/Answers.antt.
 ghost use mathlib.Core.Path.{_≡_};
-ghost use Rattle.pass_list.specs.Item.{Item, passEdge, EdgeIs};
-ghost use Rattle.pass_list.specs.ItemPass.{ItemChain, begin};
-ghost use Rattle.pass_list.specs.Answers.{passOf, passChain, ChainIs, answer};
+ghost use Rattle.pass_list.specs.Item.{Item, EdgeIs};
+ghost use Rattle.pass_list.specs.ItemPass.{ItemChain};
+ghost use Rattle.pass_list.specs.Answers.{passOf, ChainIs, answer};
 use pass_joined::counted;
 use pass_joined::joined_value;
 use pass_joined::over;
@@ -14,28 +14,8 @@ use pass_list::record::PassEdge;
 use pass_rules::rule;
 use whole::Value;
 
-// The chain that an edge begins.
-pub fn begin(e: PassEdge) -> Chain
-    ensures { λ r. ⌜ ((y : Item) → e ≡ passEdge y → r ≡ passChain (begin y)) ⌝ }
-{
-    if e.num.gap {
-        return Chain {
-            edge: e,
-            more: false,
-            has_near: false,
-            near: 0,
-        };
-    }
-    Chain {
-        edge: e,
-        more: false,
-        has_near: true,
-        near: e.num.base,
-    }
-}
-
 // What the next edge does to a chain.
-pub fn next(mut c: Chain, pass: Pass, e: PassEdge) -> Next
+pub fn next(c: Chain, pass: Pass, e: PassEdge) -> Next
     requires { ⌜ ((x : ItemChain) × ChainIs c x) × ((y : Item) × EdgeIs e y) ⌝ }
     ensures { λ r. ⌜ ((x : ItemChain) (y : Item) → ChainIs c x → EdgeIs e y → r ≡ answer (passOf pass) x y) ⌝ }
 {
@@ -55,14 +35,6 @@ pub fn next(mut c: Chain, pass: Pass, e: PassEdge) -> Next
     }
     match joined_value(pass, last.num.value, r.num.value) {
         Value::Above => Next::Above,
-        Value::Fits(v) => {
-            c.edge = over(pass, last, r, v);
-            c.more = true;
-            if !e.num.gap {
-                c.has_near = true;
-                c.near = e.num.base;
-            }
-            Next::Longer(c)
-        }
+        Value::Fits(v) => Next::Longer(c.take(over(pass, last, r, v), e)),
     }
 }

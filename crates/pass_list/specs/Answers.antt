@@ -2,7 +2,7 @@
 --     passOf p          the pass that the code's name p stands for
 --     passChain x       the chain x as the code has it
 --     ChainIs c x       the code's chain c is x, and the edge over it fits
---     answer p x y      what `next` answers: the longer chain, that it ends, or that the value is above TOP
+--     answer p x y      what `next` of `pass_chain` answers: the longer chain, that it ends, or that the value is above TOP
 --     passed o k        what a pass answers: the place in o, or the count k
 --     PassedIs p l s r  a pass p over the items l answered r and left the bytes s of the list
 -- Assumes nothing.

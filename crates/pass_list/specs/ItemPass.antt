@@ -4,6 +4,7 @@
 --     counted p l e    the next edge e after l as it counts in pass p
 --     rule p c e       pass p joins e, as it counts, to the chain c, where they touch
 --     over p l e v     the edge over l and e, of value v
+--     taken c o e      the chain c with e taken in, where o is the edge over both
 --     next p c e       the chain c with e joined to it, where pass p does so
 --     chainsOf p l, after p l, added p l, firstAbove l   as in `passes`
 -- Assumes nothing.
@@ -142,13 +143,11 @@ joinedValue p c e = valueOf p (c .edge .value) (counted p (c .edge) e .value)
 unfoldable pub joins : Pass → ItemChain → Item → Bool
 joins p c e = touches c e && rule p c (counted p (c .edge) e)
 
+abbrev pub taken : ItemChain → Item → Item → ItemChain
+taken c o e = record { edge = o; more = true; has-near = not (e .gap) || c .has-near; near = cond (e .gap) (c .near) (e .base) }
+
 unfoldable pub longer : Pass → ItemChain → Item → ItemChain
-longer p c e = record {
-  edge = over p (c .edge) (counted p (c .edge) e) (joinedValue p c e);
-  more = true;
-  has-near = not (e .gap) || c .has-near;
-  near = cond (e .gap) (c .near) (e .base);
-}
+longer p c e = taken c (over p (c .edge) (counted p (c .edge) e) (joinedValue p c e)) e
 
 unfoldable pub next : Pass → ItemChain → Item → Option ItemChain
 next p c e = cond (joins p c e) (some (longer p c e)) none

@@ -5,8 +5,8 @@ ghost use Rattle.passes.specs.Passes as passes;
 ghost use Rattle.pass_list.specs.Item.{AllSmall};
 ghost use Rattle.pass_list.specs.Stored.{itemsAt};
 ghost use Rattle.pass_list.specs.Answers.{passOf, PassedIs};
-use pass_chain::begin;
 use pass_chain::next;
+use pass_list::chain::Chain;
 use pass_list::chain::Next;
 use pass_list::chain::Pass;
 use pass_list::record::get;
@@ -20,7 +20,7 @@ fn run_pass(list: &mut [u8], n: usize, pass: Pass) -> Passed
     if n == 0 {
         return Passed::Edges(0);
     }
-    let mut chain = begin(get(list, 0));
+    let mut chain = Chain::begin(get(list, 0));
     let mut i: usize = 1;
     let mut k: usize = 0;
     while i < n {
@@ -31,7 +31,7 @@ fn run_pass(list: &mut [u8], n: usize, pass: Pass) -> Passed
             Next::Ends => {
                 let edge = chain.edge;
                 put(list, k * 56, edge);
-                chain = begin(e);
+                chain = Chain::begin(e);
                 k += 1;
             }
             Next::Above => {

@@ -51,7 +51,9 @@ fn add_sign(
     let from = m.at;
     let to = m.at + m.len;
     match markers::sign_before(line, offs, start, &table[from..to]) {
-        Sign::Before(size) => { lattice_write::add_regular(w, l, Place(start.0 - size), end, ty, txt) }
+        Sign::Before(size) => {
+            lattice_write::add_regular(w, l, Place(start.0 - size), end, ty, txt)
+        }
         Sign::NoSign => l,
     }
 }

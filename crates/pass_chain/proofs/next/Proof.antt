@@ -11,7 +11,7 @@ use Rattle.pass_list.specs.Item.{Item, passEdge, EdgeIs}
 use Rattle.pass_list.specs.ItemPass.{ItemChain, touches, rule, counted, over, joinedValue, longer}
 use Rattle.pass_list.specs.Answers.{passOf, passChain, ChainIs, answer}
 use Rattle.whole.proofs.AnswersLaws.{value-fits, value-above}
-use Rattle.pass_chain.proofs.ChainLaws.{chain-edge, counted-fits, apart, refused, too-large, longer-answer, near-other, near-gap}
+use Rattle.pass_chain.proofs.ChainLaws.{chain-edge, counted-fits, apart, refused, too-large, longer-answer}
 use borrow.Author.Needs.{needs}
 use Rattle.pass_chain.proofs.next.Statement.{statement}
 use Rattle.pass_chain.proofs.next.Tie as tie
@@ -74,21 +74,16 @@ enum-known-v c = search needs
 over-requires : tie.Need-over-requires
 over-requires c κs = search needs
 
+take-requires : tie.Need-take-requires
+take-requires c κs = search needs
+
 returns-3 : tie.Need-returns-3
 returns-3 c x y p q =
     too-large _ x y (touching (c .before .before .before .before .before .before .before .before .before) x y p q) (sym (ruled (c .before .before .before .before) x y p q) ∙ not-false _ (c .before .before .before .if2 .left)) (value-above (joinedValue (passOf (c .before .before .before .before .before .before .before .before .before .before .before .before .args .pass)) x y) (sym (valued (c .before .before) x y p q) ∙ c .enum-told .given .1))
 
 returns-4 : tie.Need-returns-4
 unfolding longer
-returns-4 c x y p q =
-    let g : y .gap ≡ false = sym (ap (λ (e : PassEdge). e .num .gap) (q .is)) ∙ not-true _ (c .if3 .taken) in
-    rw (joined (c .before .before) x y p q, q .is) (ap Longer (near-other _ (x .has-near) (x .near) (y .base) (y .gap) g) ∙ joined-answer (c .before .before) x y p q)
-
-returns-5 : tie.Need-returns-5
-unfolding longer
-returns-5 c x y p q =
-    let g : y .gap ≡ true = sym (ap (λ (e : PassEdge). e .num .gap) (q .is)) ∙ not-false _ (c .if3 .left) in
-    rw (joined (c .before .before) x y p q, p .is) (ap Longer (near-gap _ (x .has-near) (x .near) (y .base) (y .gap) g) ∙ joined-answer (c .before .before) x y p q)
+returns-4 c x y p q = ap Longer (c .take .ensures x _ y (p .is) (joined (c .before) x y p q) (q .is)) ∙ joined-answer (c .before) x y p q
 
 pub next-spec : {M : Type 1} → statement M
 next-spec =
@@ -104,6 +99,6 @@ next-spec =
     enum-told
     enum-known-v
     over-requires
+    take-requires
     returns-3
-    returns-4
-    returns-5)
+    returns-4)
