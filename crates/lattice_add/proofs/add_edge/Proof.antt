@@ -24,7 +24,7 @@ abbrev asked : tie.After-link-arg → tie.After-how-to-add
 asked c = c .before .before .before .before
 
 how-to-add-requires : tie.Need-how-to-add-requires
-how-to-add-requires c κs = search needs
+how-to-add-requires c κs = c .before .before .pre
 
 enum-told : tie.Need-enum-told
 enum-told c = search needs
