@@ -1,7 +1,7 @@
 -- `next` meets its contract. Where the chain and the edge don't touch, where the rule refuses and where the value is above TOP, one of its answers is
 -- named by a law of `proofs/ChainLaws.antt`. Assumes nothing.
 use mathlib.Core.Path.{_≡_, sym, ap, _∙_}
-use mathlib.Core.Bool.{true, false}
+use mathlib.Core.Bool.{true}
 use borrow.Author.Tests.{eq-eqb, ne-eqb, not-true, not-false}
 use Rattle.whole.specs.Answers.{value}
 use Rattle.pass_list.specs.declared.record.PassEdge.{PassEdge}
