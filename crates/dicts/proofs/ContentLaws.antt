@@ -16,7 +16,7 @@ use Rattle.text.specs.Bytes.{same}
 use Rattle.text.specs.Text.{wellFormed, left, isNil}
 use Rattle.text.specs.Sequence.{scalar, encode}
 use Rattle.text.proofs.BytesLaws.{same-lengths}
-use Rattle.text.proofs.TextLaws.{left-cons, left-nil}
+use Rattle.text.proofs.TextLaws.{left-cons}
 use Rattle.dicts.specs.Table.{Text}
 use Rattle.dicts.specs.Check.{legalMark, legalCodePoint, isDigitType, legalDigit, digitRule}
 use Rattle.dicts.specs.Answers.{optionally, partOf, recordOf, Within, Ascii}
@@ -65,10 +65,6 @@ module _ (s : List ℕ) (at n r : ℕ) (w : at + n ≤ length s) (a : Ascii s at
       let g : part s at n ≡ part s at (r - at) ++ part s r (at + n - r)
       = ap (part s at) e ∙ part-add s at (r - at) (at + n - r) ∙ ap (λ (k : ℕ). part s at (r - at) ++ part s k (at + n - r)) f in
       ap wellFormed g ∙ ap isNil (left-behind (part s at (r - at)) (part s r (at + n - r)) low)
-
-  pub all-ascii : r ≡ at + n → true ≡ wellFormed (part s at n)
-  unfolding part
-  all-ascii e = sym (behind-ascii ∙ (let z : at + n - r ≡ 0 = omega arith in rw (z, left-nil)))
 
 -- ---- a string of a list
 module _ (s : List ℕ) (at n : ℕ) (w : at + n ≤ length s) where

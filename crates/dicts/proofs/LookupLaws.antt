@@ -27,10 +27,6 @@ pub drop-stops : (c : ℕ) (r : Record) (rs : List Record) → c ≤ r .code-poi
 unfolding dropBelow
 drop-stops c r rs h = simp (le-ltb (r .code-point) c h)
 
-pub drop-nil : (c : ℕ) → dropBelow c [] ≡ []
-unfolding dropBelow
-drop-nil c = refl
-
 -- ---- a turn of `seek`: here the walk stands, r is where it goes on
 module _ (s : List ℕ) (c : ℕ) {here : Records} where
   pub seek-ends : {l : List Record} → here ≡ End → dropBelow c (recordsOf s here) ≡ l → recordsOf s here ≡ l

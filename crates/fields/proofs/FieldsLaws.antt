@@ -16,7 +16,7 @@ use lib.Dec.{lit<}
 use Rattle.whole.proofs.SetsLaws.{sets-then}
 use Rattle.fields.specs.Part.{part}
 use Rattle.fields.specs.Fields.{le, leAt, bytesOf}
-use Rattle.fields.proofs.PartLaws.{length-part, part-add, part-of-drop, part-of-part, part-append-left, part-append-right, part-append-first, part-sets, part-sets-in, part-sets-other}
+use Rattle.fields.proofs.PartLaws.{length-part, part-add, part-of-drop, part-of-part, part-append-first, part-sets, part-sets-other}
 
 -- ---- what bytes say
 pub le-append : (a b : List ℕ) → le (a ++ b) ≡ le a + 2 ^ (8 * length a) * le b
@@ -45,16 +45,6 @@ leAt-of-part s at n i w h = leAt-same _ _ _ _ _ (part-of-part s at n i w h)
 
 pub leAt-of-drop : (s : List ℕ) (k at w : ℕ) → leAt (drop k s) at w ≡ leAt s (k + at) w
 leAt-of-drop s k at w = leAt-same _ _ _ _ _ (part-of-drop s k at w)
-
-pub leAt-append-left : (a b : List ℕ) (at w : ℕ) → at + w ≤ length a → leAt (a ++ b) at w ≡ leAt a at w
-leAt-append-left a b at w h = leAt-same _ _ _ _ _ (part-append-left a b at w h)
-
-pub leAt-append-right : (a b : List ℕ) (at w : ℕ) → leAt (a ++ b) (length a + at) w ≡ leAt b at w
-leAt-append-right a b at w = leAt-same _ _ _ _ _ (part-append-right a b at w)
-
--- what stands behind k is read behind k
-pub leAt-behind : (s t : List ℕ) (k at w : ℕ) → drop k t ≡ drop k s → leAt t (k + at) w ≡ leAt s (k + at) w
-leAt-behind s t k at w e = sym (leAt-of-drop t k at w) ∙ ap (λ (z : List ℕ). leAt z at w) e ∙ leAt-of-drop s k at w
 
 -- ---- the bytes of a number
 pub length-bytesOf : (w n : ℕ) → length (bytesOf w n) ≡ w
@@ -89,9 +79,6 @@ leAt-bytesOf w n rest h = ap le (part-append-first (bytesOf w n) rest w (length-
 pub leAt-sets : (s : List ℕ) (at w n : ℕ) → at + w ≤ length s → n < 2 ^ (8 * w) → leAt (sets s at (bytesOf w n)) at w ≡ n
 unfolding leAt
 leAt-sets s at w n h k = ap le (part-sets s at (bytesOf w n) w (length-bytesOf w n) h) ∙ le-bytesOf w n k
-
-pub leAt-sets-in : (s : List ℕ) (at : ℕ) (bs : List ℕ) (i w : ℕ) → at + length bs ≤ length s → i + w ≤ length bs → leAt (sets s at bs) (at + i) w ≡ leAt bs i w
-leAt-sets-in s at bs i w h k = leAt-same _ _ _ _ _ (part-sets-in s at bs i w h k)
 
 pub leAt-sets-other : (s : List ℕ) (i : ℕ) (bs : List ℕ) (at w : ℕ) → (i + length bs ≤ at) ⊎ (at + w ≤ i) → leAt (sets s i bs) at w ≡ leAt s at w
 leAt-sets-other s i bs at w h = leAt-same _ _ _ _ _ (part-sets-other s i bs at w h)

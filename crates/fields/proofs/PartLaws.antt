@@ -108,11 +108,6 @@ pub drop-sets : (s : List ℕ) (i : ℕ) (bs : List ℕ) (k : ℕ) → i + lengt
 drop-sets s i [] k h = refl
 drop-sets s i (b ∷ bs) k h = drop-sets (set s i b) (suc i) bs k (omega arith) ∙ drop-set-lt k s i b (omega arith)
 
--- what lies before them too
-pub take-sets : (s : List ℕ) (i : ℕ) (bs : List ℕ) (k : ℕ) → k ≤ i → take k (sets s i bs) ≡ take k s
-take-sets s i [] k h = refl
-take-sets s i (b ∷ bs) k h = take-sets (set s i b) (suc i) bs k (omega arith) ∙ take-set-le k s i b h
-
 -- ---- a loop that copies: i bytes are stored
 pub copy-turn : (out s : List ℕ) {now : List ℕ} (at i : ℕ) → i < length s → now ≡ sets out at (take i s) → set now (at + i) (getD s i 0) ≡ sets out at (take (i + 1) s)
 copy-turn out s at i h e =

@@ -10,8 +10,6 @@ use lib.Ieee.{Float, nan, inf, fin, binary64, isNan, nanBits, fits, ofBits, toBi
 use lib.Ieee.Bits.{ofBits-toBits, toBits-lt, nanBits-is, nanBits-above}
 use lib.Ieee.Compare.{differs-from-itself, nan-differs}
 use borrow.Author.Tests.{lt-ltb, le-ltb}
-use Rattle.whole.specs.Whole.{TOP, ofNat}
-use Rattle.whole.proofs.WholeLaws.{ofNat-fits, ofNat-not-nan}
 use Rattle.fields.specs.Fields.{leAt}
 use Rattle.fields.proofs.FieldsLaws.{leAt-sets}
 use Rattle.float_fields.specs.FloatFields.{f64At, f64Bytes}
@@ -52,10 +50,3 @@ f64At-sets s at x h f = rw (leAt-sets s at 8 (toBits binary64 x) h (toBits-lt bi
 -- what was written is no NaN's bits
 pub f64-sets-not-nan : (s : List ℕ) (at : ℕ) (x : Float) → at + 8 ≤ length s → T (fits binary64 x) → T (not (isNan x)) → T (not (nanBits binary64 (leAt (sets s at (f64Bytes x)) at 8)))
 f64-sets-not-nan s at x h f n = rw (leAt-sets s at 8 (toBits binary64 x) h (toBits-lt binary64 x f), nanBits-is binary64 (toBits binary64 x), ofBits-toBits binary64 x f) n
-
--- the f64 of a whole number
-pub f64At-sets-whole : (s : List ℕ) (at n : ℕ) → at + 8 ≤ length s → f64At (sets s at (f64Bytes (ofNat n))) at ≡ ofNat n
-f64At-sets-whole s at n h = f64At-sets s at (ofNat n) h (ofNat-fits n)
-
-pub f64-sets-whole-not-nan : (s : List ℕ) (at n : ℕ) → at + 8 ≤ length s → n ≤ TOP → T (not (nanBits binary64 (leAt (sets s at (f64Bytes (ofNat n))) at 8)))
-f64-sets-whole-not-nan s at n h k = f64-sets-not-nan s at (ofNat n) h (ofNat-fits n) (ofNat-not-nan k)

@@ -13,18 +13,18 @@ use Rattle.text.specs.Text.{chars}
 use Rattle.text.proofs.BytesLaws.{same-true}
 use Rattle.text.proofs.RowLaws.{cond-cases, and-true}
 use Rattle.whole.specs.Decimal.{decimal}
-use Rattle.dicts.specs.Table.{Text, Table}
+use Rattle.dicts.specs.Table.{Text}
 use Rattle.edge.specs.Edge.{Edge}
 use Rattle.lattice.specs.Kept.{noEdge}
 use Rattle.paths.specs.declared.Query.{Query}
 use Rattle.paths.specs.Best.{Best, best, numbered, leftNeighbor, rightNeighbor}
 use Rattle.paths.proofs.BestLaws.{Each, Holds, best-holds}
 use Rattle.numbers.specs.Listed.{wholeValue}
-use Rattle.numbers.specs.Fractions.{standsAt, larger, longest, Marker, markerAt, Made, made, nothing, isNumeric, percentEdge, fractionEdge, otherwise, both, withValues, between, marked}
+use Rattle.numbers.specs.Fractions.{standsAt, larger, longest, Made, made, nothing, isNumeric, percentEdge, fractionEdge, otherwise, both, withValues, between, marked}
 use Rattle.made.specs.declared.Choice.{Choice}
 use Rattle.made.specs.Choice.{madeOf, numberOr, valueOr, HasValue, Two, One, Valid}
 use Rattle.made.specs.Around.{sideOf, keptOf, Neighbors}
-use Rattle.made.specs.Decision.{sizeOf, choice, noChoice, otherwiseOf, bothOf, withValuesOf, betweenOf}
+use Rattle.made.specs.Decision.{choice, noChoice, otherwiseOf, bothOf, withValuesOf, betweenOf}
 
 -- ---- the indices that the tables keep
 Below : ℕ → ℕ × Edge → Type 0
@@ -191,13 +191,3 @@ longest-within w p (m ∷ ms) h =
   where
     larger-within : (a b : ℕ) → p + a ≤ length w → p + b ≤ length w → p + larger a b ≤ length w
     larger-within a b x y = cond-cases (λ (n : ℕ). p + n ≤ length w) (leb a b) (λ t. y) (λ t. x)
-
--- what `made_at` asks of the marker that stands at a place
-pub marker-within : (t : Table) (w : List ℕ) (p : ℕ) → p ≤ length w → p + sizeOf (markerAt t w p) ≤ length w
-unfolding markerAt
-marker-within t w p h =
-    let a = longest-within w p (t .percentage-markers) h in
-    let c = longest-within w p (t .fraction-connectors) h in
-    let P : Marker → Type 0 = λ m. p + sizeOf m ≤ length w in
-    cond-cases P (eqb (larger (longest w p (t .percentage-markers)) (longest w p (t .fraction-connectors))) 0)
-    (λ z. omega arith) (λ z. cond-cases P (leb (longest w p (t .fraction-connectors)) (longest w p (t .percentage-markers))) (λ y. a) (λ y. c))

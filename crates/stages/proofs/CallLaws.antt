@@ -107,11 +107,5 @@ module _ {P : Edge → Type 0} (off : (e : Edge) → P e → P (inactive e)) whe
 pub turn-off-call : {n : ℕ} {es : List Edge} (is : List ℕ) → CallEdges n es → CallEdges n (turnOff es is)
 turn-off-call {es = es} is h = every-turn-off inactive-call es is h
 
-pub turn-off-legals : {n : ℕ} {es : List Edge} (is : List ℕ) → Legals n es → Legals n (turnOff es is)
-turn-off-legals {es = es} is h = every-turn-off inactive-legal es is h
-
-pub turned-call : {n : ℕ} {es : List Edge} (i : ℕ) → CallEdges n es → CallEdges n (turnOffAt es i)
-turned-call {es = es} i h = every-turned inactive-call es i h
-
 pub map-inactive-call : {n : ℕ} {es : List Edge} (f : Edge → Bool) → CallEdges n es → CallEdges n (map (λ (e : Edge). cond (f e) (inactive e) e) es)
 map-inactive-call {es = es} f h = every-map-inactive inactive-call f es h

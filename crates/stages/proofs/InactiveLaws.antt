@@ -9,8 +9,8 @@ use native.Mathlib.Omega.{arith}
 use lib.ListN.{length, getD}
 use Rattle.edge.specs.Edge.{Edge, Numeric}
 use Rattle.lattice.specs.Lattice.{quiet, inactive, turnOffAt, turnOff}
-use Rattle.lattice.specs.Kept.{noEdge, offset}
-use Rattle.lattice.proofs.TurnOffLaws.{length-turned, turned-at, turned-offset}
+use Rattle.lattice.specs.Kept.{noEdge}
+use Rattle.lattice.proofs.TurnOffLaws.{length-turned, turned-at}
 
 -- ---- one edge
 pub inactive-start : (e : Edge) → inactive e .start ≡ e .start
@@ -20,10 +20,6 @@ inactive-start e = refl
 pub inactive-end : (e : Edge) → inactive e .end ≡ e .end
 unfolding inactive
 inactive-end e = refl
-
-pub inactive-type : (e : Edge) → inactive e .type ≡ e .type
-unfolding inactive
-inactive-type e = refl
 
 pub inactive-txt : (e : Edge) → inactive e .txt ≡ e .txt
 unfolding inactive
@@ -60,11 +56,6 @@ pub length-turn-off : (es : List Edge) (is : List ℕ) → length (turnOff es is
 unfolding turnOff
 length-turn-off es [] = refl
 length-turn-off es (i ∷ is) = length-turn-off (turnOffAt es i) is ∙ length-turned es i
-
-pub offset-turn-off : (es : List Edge) (is : List ℕ) (j : ℕ) → offset (turnOff es is) j ≡ offset es j
-unfolding turnOff
-offset-turn-off es [] j = refl
-offset-turn-off es (i ∷ is) j = offset-turn-off (turnOffAt es i) is j ∙ turned-offset es i j
 
 abbrev pub AsItWas : Edge → Edge → Type 0
 AsItWas d e = (d ≡ e) ⊎ (d ≡ inactive e)

@@ -6,7 +6,7 @@ use Prim.Native.Nat.{ℕ, _≤_, _<_}
 use native.Mathlib.Omega.{arith}
 use lib.Dec.{ltb}
 use lib.Ieee.{Float}
-use borrow.Author.Tests.{lt-ltb, le-ltb, ltb-true, ltb-false}
+use borrow.Author.Tests.{ltb-true, ltb-false}
 use Rattle.whole.specs.declared.Value.{Value}
 use Rattle.whole.specs.declared.Value.the-variants as Value
 use Rattle.whole.specs.Whole.{TOP, ofNat}
@@ -27,12 +27,6 @@ module _ {A : Type 0} (n : ℕ) (over under : A) {r : A} (answer : cond (ltb TOP
       go : (above : Bool) → (above ≡ true → TOP < n) → cond above over under ≡ r → TOP < n
       go true g e = g refl
       go false g e = absurd (f e)
-
-pub value-up-to-top : {n : ℕ} → n ≤ TOP → value n ≡ Value.Fits (ofNat n)
-value-up-to-top h = rw (le-ltb _ _ h)
-
-pub value-over-top : {n : ℕ} → TOP < n → value n ≡ Value.Above
-value-over-top h = rw (lt-ltb _ _ h)
 
 pub value-fits : (n : ℕ) {x : Float} → value n ≡ Value.Fits x → (n ≤ TOP) × (x ≡ ofNat n)
 value-fits n e =

@@ -11,7 +11,7 @@ use lib.Pow.{pow-add}
 use native.Mathlib.Omega.{arith}
 use native.Mathlib.Decide.{decLt}
 use lib.Dec.{ltb}
-use lib.ListN.{length, length-append, drop, drop-of-length-le, getD, set, replicate, List·getD-append}
+use lib.ListN.{length, length-append, drop, drop-of-length-le, getD, set, List·getD-append}
 use lib.Seq.{sets, drop-cons, getD-append-seam}
 use borrow.Author.Tests.{lt-ltb, le-ltb, le-leb, lt-leb}
 use Rattle.whole.proofs.SetsLaws.{sets-set-before}
@@ -110,15 +110,6 @@ pub digitsFrom-le : (v : ℕ) (ds : List ℕ) → v ≤ digitsFrom v ds
 unfolding digitsFrom
 digitsFrom-le v [] = le-refl v
 digitsFrom-le v (d ∷ ds) = le-trans (omega arith) (digitsFrom-le (v * 10 + d) ds)
-
-pub digitsFrom-above : (v : ℕ) (ds : List ℕ) → TOP < v → TOP < digitsFrom v ds
-digitsFrom-above v ds h = omega (arith, digitsFrom-le v ds)
-
--- leading zeros don't count
-pub digitsValue-zeros : (k : ℕ) (ds : List ℕ) → digitsValue (replicate k 0 ++ ds) ≡ digitsValue ds
-unfolding digitsFrom
-digitsValue-zeros zero ds = refl
-digitsValue-zeros (suc k) ds = digitsValue-zeros k ds
 
 -- ---- the text and its number
 pub digitsValue-decimal : (n : ℕ) → digitsValue (map digitOf (decimal n)) ≡ n

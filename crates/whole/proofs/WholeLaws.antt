@@ -17,7 +17,7 @@ use lib.Ieee.Order.{round-mono}
 use lib.Ieee.Fits.{down-pos, and-i, and-l, and-r}
 use native.Mathlib.Decide.{decLt}
 use borrow.Author.Tests.{lt-ltb, le-ltb}
-use lib.Ieee.Bits.{is-true, is-false, ofBits-toBits, toBits-lt, nanBits-is}
+use lib.Ieee.Bits.{is-true, is-false, ofBits-toBits, nanBits-is}
 use lib.Ieee.Fits.{ofInt-fits}
 use Rattle.whole.specs.Whole.{TOP, ofNat}
 
@@ -167,19 +167,12 @@ ofNat-in-u64 {n} h = value-in-u64 (ofNat n) n h (ofNat-value n (omega arith))
 pub ofNat-injective : {m n : ℕ} → m ≤ TOP → n ≤ TOP → ofNat m ≡ ofNat n → m ≡ n
 ofNat-injective h k e = sym (ofNat-to-unsigned h) ∙ ap (toUnsigned 64) e ∙ ofNat-to-unsigned k
 
--- of two values that are both the f64's whole number
-pub whole-unique : {x : Float} {m n : ℕ} → m ≤ TOP → n ≤ TOP → x ≡ ofNat m → x ≡ ofNat n → m ≡ n
-whole-unique h k p q = ofNat-injective h k (sym p ∙ q)
-
 pub ofNat-fits : (n : ℕ) → T (fits binary64 (ofNat n))
 unfolding ofNat
 ofNat-fits n = ofInt-fits binary64 (pos n)
 
 pub ofNat-bits-back : (n : ℕ) → ofBits binary64 (toBits binary64 (ofNat n)) ≡ ofNat n
 ofNat-bits-back n = ofBits-toBits binary64 (ofNat n) (ofNat-fits n)
-
-pub ofNat-bits-lt : (n : ℕ) → toBits binary64 (ofNat n) < 2 ^ 64
-ofNat-bits-lt n = toBits-lt binary64 (ofNat n) (ofNat-fits n)
 
 -- the bits of a whole number are no other's
 pub ofNat-bits-injective : {m n : ℕ} → m ≤ TOP → n ≤ TOP → toBits binary64 (ofNat m) ≡ toBits binary64 (ofNat n) → m ≡ n
