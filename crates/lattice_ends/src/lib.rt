@@ -1,4 +1,4 @@
-// The two ends of a lattice's life: one without edges, and the listing in the output (01: "Output order").
+// The lattice without edges, and its listing in the output (01: "Output order").
 ghost use mathlib.Core.Path.{_≡_};
 ghost use mathlib.Core.List.{List, []};
 ghost use Prim.Native.Nat.{_≤_};
