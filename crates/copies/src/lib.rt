@@ -52,10 +52,10 @@ pub fn add_copy(w: &mut [u8], l: Lattice, at: usize, sep: &[u8]) -> Lattice
     ensures { λ r. ⌜ (drop 39424 (now (w .exit)) ≡ drop 39424 (now (w .entry))) × ((es : List Edge) (e : Edge) → Holds (now (w .entry)) l es → Source (now (w .entry)) (l .len) at (length (now (sep .entry))) e → Holds (now (w .exit)) r (add es (prefixed (now (sep .entry)) e))) ⌝ }
 {
     let len = l.len;
-    let v = edge::edge_at(w, at);
+    let v = edge_head::edge_at(w, at);
     let txt = v.txt;
     let key = v.fields - at - 2 + sep.len();
-    let next = edge::next_at(w, at);
+    let next = edge_next::next_at(w, at);
     let to = compose(w, len, at, txt.at, txt.len, next, sep);
     lattice_add::add_edge(w, l, key, to)
 }

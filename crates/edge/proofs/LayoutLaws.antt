@@ -10,8 +10,6 @@ use lib.ListN.{length, getD, drop-of-length-le}
 use lib.Seq.{drop-cons, take-nil}
 use Rattle.fields.specs.Fields.{le, leAt}
 use Rattle.fields.specs.Part.{part}
-use Rattle.edge.specs.declared.Part.{Part}
-use Rattle.edge.specs.View.{numberIf, partIf, fieldsAt}
 use Rattle.edge.specs.Layout.{bit, stands, mapAt, txtAt, stringEndIf, fractionAt, baseAt, multAt, stringEnd, scriptAt, valueSAt, fieldsEnd, nextAt}
 
 -- ---- numbers at the end of the list: bytes past it count as 0
@@ -106,17 +104,5 @@ within-from m s at n e h = rw e (within m s at n h)
 pub orig-within : (m : ℕ) (s : List ℕ) (at n : ℕ) → fieldsEnd m s at ≤ n → at + 2 ≤ n
 orig-within m s at n h = le-trans (string-end-ge s at) (within m s at n h .value-at)
 
-pub value-s-is : (m : ℕ) (s : List ℕ) (v : ℕ) {sc vs : ℕ} → sc ≡ scriptAt m v → vs ≡ stringEndIf (stands 5 m) s sc → vs ≡ valueSAt m s v
-unfolding valueSAt
-value-s-is m s v p q = cc
-
 pub length-within : (s : List ℕ) (a n : ℕ) {x : ℕ} → x ≡ a → stringEnd s a ≤ n → x + 2 ≤ n
 length-within s a n e h = let k = string-end-ge s a in omega arith
-
--- ---- the fields, from what the code reads
-pub fields-read : (m : ℕ) (s : List ℕ) (at : ℕ) {v sc vs a b c d e l : ℕ} {f g : Part} → v ≡ stringEnd s at → sc ≡ scriptAt m v → vs ≡ valueSAt m s v
-    → a ≡ numberIf (stands 1 m) s v → b ≡ numberIf (stands 2 m) s (fractionAt m v) → c ≡ numberIf (stands 2 m) s (fractionAt m v + 8) → d ≡ numberIf (stands 3 m) s (baseAt m v)
-    → e ≡ numberIf (stands 4 m) s (multAt m v) → l ≡ leAt s at 2 → f ≡ partIf (stands 5 m) s sc → g ≡ partIf (stands 8 m) s vs
-    → record { map = m; value = a; numerator = b; denominator = c; base = d; «base_multiplier» = e; orig = record { at = at + 2; len = l }; script = f; «value_s» = g } ≡ fieldsAt m s at
-unfolding fieldsAt
-fields-read m s at p q r a b c d e l f g = rw (a, b, c, d, e, l, f, g, q, r, p)

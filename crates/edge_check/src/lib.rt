@@ -75,7 +75,7 @@ fn fields_sound_at(map: u16, s: &[u8], at: usize) -> bool
     ensures { λ r. ⌜ r ≡ each soundNumeric (only (stands 0 map) (numericAt map (now (s .entry)) at)) ⌝ }
 {
     if edge::bit(map, 1) {
-        fields_sound(s, edge::fields_at(map, s, at))
+        fields_sound(s, edge_fields::fields_at(map, s, at))
     } else {
         true
     }
@@ -86,7 +86,7 @@ fn edge_sound(s: &[u8], at: usize, chars: usize) -> bool
     requires { ⌜ nextAt (now s) at ≤ length (now s) ⌝ }
     ensures { λ r. ⌜ r ≡ sound chars (edgeAt (now (s .entry)) at) ⌝ }
 {
-    let e = edge::edge_at(s, at);
+    let e = edge_head::edge_at(s, at);
     let span = (e.start.0 < e.end.0) & (e.end.0 <= chars);
     let texts = text_sound(s, e.ty) & text_sound(s, e.txt);
     span & texts & fields_sound_at(e.map, s, e.fields)
@@ -114,7 +114,7 @@ pub fn check_listing(s: &[u8], chars: usize, given: bool) -> ListingCheck
     let mut left = count;
     let mut at = 2;
     while 0 < left {
-        let next = edge::next_at(s, at);
+        let next = edge_next::next_at(s, at);
         if !edge_good(s, at, next, chars, given) {
             return ListingCheck::Refused(Offset(at));
         }

@@ -9,7 +9,7 @@ fn put_next(out: &mut [u8], at: usize, listing: &[u8], from: usize) -> Written
     requires { ⌜ (at ≤ length (now out)) × (from ≤ length (now listing)) ⌝ }
     ensures { λ r. ⌜ RowAt (now (listing .entry)) from (now (out .entry)) (now (out .exit)) at r ⌝ }
 {
-    if listing.len() < edge::next_at(listing, from) {
+    if listing.len() < edge_next::next_at(listing, from) {
         return Written::NoRoom;
     }
     rows::put_row(out, at, listing, from)
@@ -28,7 +28,7 @@ pub fn put_rows(out: &mut [u8], listing: &[u8]) -> Written
             return Written::NoRoom;
         };
         at = next;
-        from = edge::next_at(listing, from);
+        from = edge_next::next_at(listing, from);
         left -= 1;
     }
     Written::To(at)

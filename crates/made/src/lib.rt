@@ -35,14 +35,14 @@ fn whole_value_at(w: &[u8], at: usize) -> Value
     requires { ⌜ (nextAt (now w) at ≤ length (now w)) × WholeValued (edgeAt (now w) at) ⌝ }
     ensures { λ r. ⌜ optionOf r ≡ wholeValue (edgeAt (now (w .entry)) at) ⌝ }
 {
-    let e = edge::edge_at(w, at);
+    let e = edge_head::edge_at(w, at);
     if !edge::bit(e.map, 1) {
         return Value::Nothing;
     }
     if !edge::bit(e.map, 2) {
         return Value::Nothing;
     }
-    let d = edge::fields_at(e.map, w, e.fields);
+    let d = edge_fields::fields_at(e.map, w, e.fields);
     Value::Whole(whole::to_u64(f64::from_bits(d.value)))
 }
 

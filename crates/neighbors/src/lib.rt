@@ -64,7 +64,7 @@ fn scored_neighbors(
         let place = place_at(w, at, right);
         let score = paths::score_at(w, at, side(right, place), false);
         keep(tops, table, place, score, i);
-        at = edge::next_at(w, at);
+        at = edge_next::next_at(w, at);
         i += 1;
     }
 }

@@ -65,7 +65,7 @@ fn copy_script(buf: &mut [u8; 300], w: &[u8], map: u16, at: usize) -> Script
     requires { ⌜ (fieldsEnd map (now w) at ≤ length (now w)) × ((t : Text) → numericAt map (now w) at .script ≡ some t → length t ≤ 60) ⌝ }
     ensures { λ r. ⌜ (scriptFrom (now (buf .exit)) r ≡ numericAt map (now (w .entry)) at .script) × (scriptLen r ≤ 60) ⌝ }
 {
-    let d = edge::fields_at(map, w, at);
+    let d = edge_fields::fields_at(map, w, at);
     if !edge::bit(map, 32) {
         return Script::Absent;
     }
@@ -84,7 +84,7 @@ fn head_of(w: &[u8], l: Lattice, i: usize) -> EdgeView
     ensures { λ r. ⌜ ((n : ℕ) (es : List Edge) → Has n (now (w .entry)) l es → HeadIs (now (w .entry)) (getD es i noEdge) r) ⌝ }
 {
     let at = lattice::offset_at(w, l, i);
-    edge::edge_at(w, at)
+    edge_head::edge_at(w, at)
 }
 
 // The value of the i-th edge, which has one.
@@ -93,7 +93,7 @@ fn value_of(w: &[u8], l: Lattice, i: usize) -> u64
     ensures { λ r. ⌜ ((n : ℕ) (es : List Edge) → Has n (now (w .entry)) l es → HasValue (getD es i noEdge) → r ≡ valueOr (getD es i noEdge)) ⌝ }
 {
     let e = head_of(w, l, i);
-    let d = edge::fields_at(e.map, w, e.fields);
+    let d = edge_fields::fields_at(e.map, w, e.fields);
     whole::to_u64(f64::from_bits(d.value))
 }
 

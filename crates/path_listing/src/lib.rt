@@ -48,7 +48,7 @@ fn right_neighbors(
         let start = fields::u16_at(s, at + 2) as usize;
         let score = score_at(s, at, Query::Right(Place(start)), skip);
         keep(tops, ats, start, score, at);
-        at = edge::next_at(s, at);
+        at = edge_next::next_at(s, at);
         left -= 1;
     }
 }
@@ -62,7 +62,11 @@ fn hop_from(s: &[u8], tops: &[usize; 256], ats: &[usize; 256], p: usize) -> Hop
         return Hop::Pass;
     }
     let at = ats[p];
-    Hop::Take(at, edge::next_at(s, at), fields::u16_at(s, at + 4) as usize)
+    Hop::Take(
+        at,
+        edge_next::next_at(s, at),
+        fields::u16_at(s, at + 4) as usize,
+    )
 }
 
 // The size of the path from a place to another.

@@ -134,7 +134,7 @@ fn class_at(s: &[u8], at: usize, skip: bool) -> usize
     requires { ⌜ headEnd (now s) at ≤ length (now s) ⌝ }
     ensures { λ r. ⌜ r ≡ class skip (edgeAt (now (s .entry)) at) ⌝ }
 {
-    let e = edge::edge_at(s, at);
+    let e = edge_head::edge_at(s, at);
     if !edge::bit(e.map, 1) {
         return regular_class(s, e.ty);
     }
@@ -190,7 +190,7 @@ pub fn best_of(s: &[u8], first: usize, count: usize, q: Query, skip: bool) -> Fo
             top = score;
             top_at = at;
         }
-        at = edge::next_at(s, at);
+        at = edge_next::next_at(s, at);
         left -= 1;
     }
     if top == 0 {

@@ -80,7 +80,7 @@ pub fn put_row(out: &mut [u8], at: usize, listing: &[u8], from: usize) -> Writte
     ensures answer { λ r. ⌜ r ≡ written (now (out .entry)) at (rowBytes (edgeAt (now (listing .entry)) from)) ⌝ }
     ensures bytes { λ _. ⌜ now (out .exit) ≡ writtenTo (now (out .entry)) at (rowBytes (edgeAt (now (listing .entry)) from)) ⌝ }
 {
-    let e = edge::edge_at(listing, from);
+    let e = edge_head::edge_at(listing, from);
     let room = out.len() - at;
     let numbers = number_len(e.start.0 as u64) + number_len(e.end.0 as u64);
     if room < numbers + e.ty.len + e.txt.len + 4 {

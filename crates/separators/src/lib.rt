@@ -22,7 +22,7 @@ fn mark(s: &[u8], at: usize, marks: &mut [bool; 257])
     requires { ⌜ Spanned 256 (now s) at ⌝ }
     ensures { λ _. ⌜ now (marks .exit) ≡ cond (endsWithDigit (edgeAt (now (s .entry)) at .txt)) (set (now (marks .entry)) (edgeAt (now (s .entry)) at .end) true) (now (marks .entry)) ⌝ }
 {
-    let e = edge::edge_at(s, at);
+    let e = edge_head::edge_at(s, at);
     let txt = e.txt;
     let end = e.end;
     let from = txt.at;
@@ -52,7 +52,7 @@ fn is_apart(s: &[u8], at: usize, marks: &[bool; 257]) -> bool
     requires { ⌜ Spanned 256 (now s) at ⌝ }
     ensures { λ r. ⌜ r ≡ apartBy (now (marks .entry)) (edgeAt (now (s .entry)) at) ⌝ }
 {
-    let e = edge::edge_at(s, at);
+    let e = edge_head::edge_at(s, at);
     let txt = e.txt;
     let start = e.start;
     let from = txt.at;

@@ -24,7 +24,7 @@ fn shown_at(line: &[u8], listing: &[u8], chars: usize, count: usize, place: Plac
 {
     match best_of(listing, 2, count, Query::Right(place), false) {
         Found::At(at) => {
-            let e = edge::edge_at(listing, at.0);
+            let e = edge_head::edge_at(listing, at.0);
             let txt = e.txt;
             Shown::Listing(txt)
         }

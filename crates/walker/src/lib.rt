@@ -26,7 +26,7 @@ fn whole_at(listing: &[u8], at: usize) -> bool
     if listing.len() < at {
         return false;
     }
-    edge::next_at(listing, at) <= listing.len()
+    edge_next::next_at(listing, at) <= listing.len()
 }
 
 // What stands at an offset.
@@ -34,7 +34,7 @@ fn here_at(listing: &[u8], at: usize) -> Here
     ensures { λ r. ⌜ r ≡ hereAt (now (listing .entry)) at ⌝ }
 {
     if whole_at(listing, at) {
-        Here::Edge(edge::edge_at(listing, at))
+        Here::Edge(edge_head::edge_at(listing, at))
     } else {
         Here::End
     }
@@ -45,7 +45,7 @@ fn behind(listing: &[u8], at: usize) -> usize
     ensures { λ r. ⌜ r ≡ behind (now (listing .entry)) at ⌝ }
 {
     if whole_at(listing, at) {
-        edge::next_at(listing, at)
+        edge_next::next_at(listing, at)
     } else {
         at
     }

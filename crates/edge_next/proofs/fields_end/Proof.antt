@@ -1,9 +1,9 @@
--- `edge::fields_end` meets its contract: the offsets are the definition's, one behind the other. Assumes nothing.
+-- `edge_next::fields_end` meets its contract: the offsets are the definition's, one behind the other. Assumes nothing.
 use Rattle.edge.specs.Layout.{fieldsEnd, valueSAt}
 use mathlib.Core.Path.{_≡_}
 use borrow.Author.Needs.{needs}
-use Rattle.edge.proofs.fields_end.Statement.{statement}
-use Rattle.edge.proofs.fields_end.Tie as tie
+use Rattle.edge_next.proofs.fields_end.Statement.{statement}
+use Rattle.edge_next.proofs.fields_end.Tie as tie
 
 string-end-requires : tie.Need-string-end-requires
 string-end-requires c κs = search needs

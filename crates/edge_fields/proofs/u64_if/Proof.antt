@@ -1,9 +1,9 @@
--- `edge::u64_if` meets its contract, by whether the bit stands. Assumes nothing.
+-- `edge_fields::u64_if` meets its contract, by whether the bit stands. Assumes nothing.
 use Rattle.edge.proofs.LayoutLaws.{if-on, if-off}
 use mathlib.Core.Path.{refl, sym, _∙_}
 use borrow.Author.Needs.{needs}
-use Rattle.edge.proofs.u64_if.Statement.{statement}
-use Rattle.edge.proofs.u64_if.Tie as tie
+use Rattle.edge_fields.proofs.u64_if.Statement.{statement}
+use Rattle.edge_fields.proofs.u64_if.Tie as tie
 
 bit-requires : tie.Need-bit-requires
 bit-requires c κs = search needs

@@ -1,10 +1,10 @@
--- `edge::u16_or_zero` meets its contract: bytes past the end count as 0. Assumes nothing.
+-- `edge_next::u16_or_zero` meets its contract: bytes past the end count as 0. Assumes nothing.
 use Rattle.edge.proofs.LayoutLaws.{le-at-past, le-at-last}
 use mathlib.Core.Path.{sym}
 use native.Mathlib.Omega.{arith}
 use borrow.Author.Needs.{needs}
-use Rattle.edge.proofs.u16_or_zero.Statement.{statement}
-use Rattle.edge.proofs.u16_or_zero.Tie as tie
+use Rattle.edge_next.proofs.u16_or_zero.Statement.{statement}
+use Rattle.edge_next.proofs.u16_or_zero.Tie as tie
 
 returns : tie.Need-returns
 returns c = sym (le-at-past _ _ 2 (c .if1 .taken))

@@ -1,10 +1,10 @@
--- `edge::string_end_if` meets its contract, by whether the bit stands. Assumes nothing.
+-- `edge_next::string_end_if` meets its contract, by whether the bit stands. Assumes nothing.
 use Rattle.edge.proofs.LayoutLaws.{if-on, if-off}
 use native.Mathlib.Omega.{arith}
 use mathlib.Core.Path.{refl, sym, _∙_}
 use borrow.Author.Needs.{needs}
-use Rattle.edge.proofs.string_end_if.Statement.{statement}
-use Rattle.edge.proofs.string_end_if.Tie as tie
+use Rattle.edge_next.proofs.string_end_if.Statement.{statement}
+use Rattle.edge_next.proofs.string_end_if.Tie as tie
 
 bit-requires : tie.Need-bit-requires
 bit-requires c κs = search needs

@@ -1,9 +1,9 @@
--- `edge::string_end` meets its contract: a u16 is below 65536. Assumes nothing.
+-- `edge_next::string_end` meets its contract: a u16 is below 65536. Assumes nothing.
 use Rattle.edge.specs.Layout.{stringEnd}
 use native.Mathlib.Omega.{arith}
 use borrow.Author.Needs.{needs}
-use Rattle.edge.proofs.string_end.Statement.{statement}
-use Rattle.edge.proofs.string_end.Tie as tie
+use Rattle.edge_next.proofs.string_end.Statement.{statement}
+use Rattle.edge_next.proofs.string_end.Tie as tie
 
 add-result : tie.Need-add-result
 add-result c = search needs

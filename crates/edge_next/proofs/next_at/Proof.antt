@@ -1,9 +1,9 @@
--- `edge::next_at` meets its contract, by bit 0 of the map. Assumes nothing.
+-- `edge_next::next_at` meets its contract, by bit 0 of the map. Assumes nothing.
 use Rattle.edge.proofs.LayoutLaws.{next-numeric, next-regular}
 use mathlib.Core.Path.{_≡_}
 use borrow.Author.Needs.{needs}
-use Rattle.edge.proofs.next_at.Statement.{statement}
-use Rattle.edge.proofs.next_at.Tie as tie
+use Rattle.edge_next.proofs.next_at.Statement.{statement}
+use Rattle.edge_next.proofs.next_at.Tie as tie
 
 u16-or-zero-requires : tie.Need-u16-or-zero-requires
 u16-or-zero-requires c κs = search needs

@@ -1,11 +1,11 @@
--- `edge::edge_at` meets its contract: the head is within the slice, and each field is read where the definition reads it. Assumes nothing.
+-- `edge_head::edge_at` meets its contract: the head is within the slice, and each field is read where the definition reads it. Assumes nothing.
 use mathlib.Core.Path.{_≡_}
 use native.Mathlib.Omega.{arith}
 use Rattle.edge.specs.Layout.{stringEnd}
 use Rattle.edge.specs.View.{viewAt}
 use borrow.Author.Needs.{needs}
-use Rattle.edge.proofs.edge_at.Statement.{statement}
-use Rattle.edge.proofs.edge_at.Tie as tie
+use Rattle.edge_head.proofs.edge_at.Statement.{statement}
+use Rattle.edge_head.proofs.edge_at.Tie as tie
 
 add-type-at : tie.Need-add-type-at
 unfolding stringEnd
