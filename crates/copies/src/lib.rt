@@ -40,8 +40,8 @@ fn compose(
     let head = txt - 2 - at;
     let behind = len + head + 2;
     copy_inside(w, at, len, head);
-    fields::put_u16(w, len + head, (sep.len() + n) as u16);
-    fields::copy_in(w, behind, sep);
+    fields_write::put_u16(w, len + head, (sep.len() + n) as u16);
+    fields_copy::copy_in(w, behind, sep);
     copy_inside(w, txt, behind + sep.len(), to - txt);
     behind + sep.len() + (to - txt)
 }

@@ -19,8 +19,8 @@ fn put_text(out: &mut [u8], at: usize, t: &[u8]) -> usize
     requires { ⌜ (at + 2 + length (now t) ≤ length (now out)) × (length (now t) < 65536) ⌝ }
     ensures { λ r. ⌜ (r ≡ at + 2 + length (now (t .entry))) × Put (now (out .entry)) (now (out .exit)) at r (str (now (t .entry))) ⌝ }
 {
-    fields::put_u16(out, at, t.len() as u16);
-    fields::copy_in(out, at + 2, t);
+    fields_write::put_u16(out, at, t.len() as u16);
+    fields_copy::copy_in(out, at + 2, t);
     at + 2 + t.len()
 }
 
@@ -52,7 +52,7 @@ fn put_u64_if(map: u16, p: u16, out: &mut [u8], at: usize, v: u64) -> usize
     ensures { λ r. ⌜ (r ≡ at + 8 * (map / p % 2)) × Put (now (out .entry)) (now (out .exit)) at r (opt (bytesOf 8) (only (eqb (map / p % 2) 1) v)) ⌝ }
 {
     if edge::bit(map, p) {
-        fields::put_u64(out, at, v);
+        fields_write::put_u64(out, at, v);
         at + 8
     } else {
         at
@@ -96,9 +96,9 @@ fn put_head(
     requires { ⌜ (at + 10 + length (now ty) + length (now txt) ≤ length (now out)) × (length (now ty) < 65536) × (length (now txt) < 65536) × (start .0 < 65536) × (end .0 < 65536) ⌝ }
     ensures { λ r. ⌜ (r ≡ at + 10 + length (now (ty .entry)) + length (now (txt .entry))) × Put (now (out .entry)) (now (out .exit)) at r (headBytes map (start .0) (end .0) (now (ty .entry)) (now (txt .entry))) ⌝ }
 {
-    fields::put_u16(out, at, map);
-    fields::put_u16(out, at + 2, start.0 as u16);
-    fields::put_u16(out, at + 4, end.0 as u16);
+    fields_write::put_u16(out, at, map);
+    fields_write::put_u16(out, at + 2, start.0 as u16);
+    fields_write::put_u16(out, at + 4, end.0 as u16);
     let txt_at = put_text(out, at + 6, ty);
     put_text(out, txt_at, txt)
 }

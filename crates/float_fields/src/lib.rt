@@ -38,5 +38,5 @@ pub fn put_f64(out: &mut [u8], at: usize, x: f64)
     requires { ⌜ at + 8 ≤ length (now out) ⌝ }
     ensures { λ _. ⌜ now (out .exit) ≡ sets (now (out .entry)) at (f64Bytes x) ⌝ }
 {
-    fields::put_u64(out, at, bits_of(x));
+    fields_write::put_u64(out, at, bits_of(x));
 }

@@ -18,7 +18,7 @@ fn copy_part(buf: &mut [u8], s: &[u8], from: usize, to: usize) -> usize
     requires { ⌜ (from ≤ to) × (to ≤ length (now s)) × (to - from ≤ length (now buf)) ⌝ }
     ensures { λ r. ⌜ Front (now (buf .entry)) (now (buf .exit)) r (part (now (s .entry)) from (to - from)) ⌝ }
 {
-    fields::copy_in(buf, 0, &s[from..to]);
+    fields_copy::copy_in(buf, 0, &s[from..to]);
     to - from
 }
 

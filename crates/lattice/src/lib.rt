@@ -56,5 +56,5 @@ pub fn turn_off(w: &mut [u8], l: Lattice, i: usize)
 {
     let at = offset_at(w, l, i);
     let map = inactive_map(fields::u16_at(w, at));
-    fields::put_u16(w, at, map);
+    fields_write::put_u16(w, at, map);
 }

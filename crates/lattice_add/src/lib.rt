@@ -24,7 +24,7 @@ fn put_cell(w: &mut [u8], base: usize, i: usize, v: usize)
     requires { ⌜ (base + 2 * i + 2 ≤ length (now w)) × (v < 65536) ⌝ }
     ensures { λ _. ⌜ now (w .exit) ≡ sets (now (w .entry)) (base + 2 * i) (bytesOf 2 v) ⌝ }
 {
-    fields::put_u16(w, base + 2 * i, v as u16);
+    fields_write::put_u16(w, base + 2 * i, v as u16);
 }
 
 // The cells and the count with one edge more, the n-th, at offset len.
@@ -36,7 +36,7 @@ fn link(w: &mut [u8], n: usize, len: usize, bucket: usize)
     put_cell(w, OFFSETS, n, len);
     put_cell(w, NEXTS, n, head);
     put_cell(w, HEADS, bucket, n + 1);
-    fields::put_u16(w, 0, (n + 1) as u16);
+    fields_write::put_u16(w, 0, (n + 1) as u16);
 }
 
 // The edge that is composed behind the listing, up to an offset and with a key of n bytes, is added.
@@ -79,7 +79,7 @@ pub fn add_given(w: &mut [u8], l: Lattice, s: &[u8], at: usize, to: usize) -> La
             full: true,
         },
         Adding::Into(bucket) => {
-            fields::copy_in(w, len, &s[at..to]);
+            fields_copy::copy_in(w, len, &s[at..to]);
             link(w, count, len, bucket);
             Lattice {
                 count: count + 1,

@@ -16,10 +16,10 @@ pub fn empty(w: &mut [u8]) -> Lattice
     requires { ⌜ 39424 ≤ length (now w) ⌝ }
     ensures { λ r. ⌜ (drop 39424 (now (w .exit)) ≡ drop 39424 (now (w .entry))) × Holds (now (w .exit)) r [] ⌝ }
 {
-    fields::put_u16(w, 0, 0);
+    fields_write::put_u16(w, 0, 0);
     let mut b = 0;
     while b < 256 {
-        fields::put_u16(w, HEADS + 2 * b, 0);
+        fields_write::put_u16(w, HEADS + 2 * b, 0);
         b += 1;
     }
     Lattice {
@@ -42,6 +42,6 @@ pub fn finish(w: &[u8], l: Lattice, out: &mut [u8]) -> Finished
     if out.len() < len {
         return Finished::TooLong;
     }
-    fields::copy_in(out, 0, &w[..len]);
+    fields_copy::copy_in(out, 0, &w[..len]);
     Finished::Listing(len)
 }

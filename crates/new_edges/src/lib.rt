@@ -55,7 +55,7 @@ fn put_txt_percent(buf: &mut [u8; 300], w: &[u8], t: Part) -> usize
     let from = t.at;
     let n = t.len;
     let to = from + n;
-    fields::copy_in(buf, 0, &w[from..to]);
+    fields_copy::copy_in(buf, 0, &w[from..to]);
     buf[n] = 37;
     n + 1
 }
@@ -72,7 +72,7 @@ fn copy_script(buf: &mut [u8; 300], w: &[u8], map: u16, at: usize) -> Script
     let from = d.script.at;
     let n = d.script.len;
     let to = from + n;
-    fields::copy_in(buf, 0, &w[from..to]);
+    fields_copy::copy_in(buf, 0, &w[from..to]);
     Script::Bytes(n)
 }
 

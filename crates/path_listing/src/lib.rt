@@ -8,15 +8,15 @@ ghost use lib.Dec.{ltb};
 ghost use Rattle.paths.specs.Reading.{Spans};
 ghost use Rattle.paths.specs.Path.{rights, path, edgeParts, pathListing, fitting, pathOut, written, after};
 ghost use Rattle.paths.specs.Table.{byTable, Rights, Steps, hopOf, sizeOf};
+use paths::check;
+use paths::is_inside;
+use paths::score_at;
 use paths::Checked;
 use paths::Hop;
 use paths::Query;
 use paths::Refusal;
 use paths::Size;
 use paths::Written;
-use paths::check;
-use paths::is_inside;
-use paths::score_at;
 use text::Place;
 
 // Keeps an edge as the right neighbour of a place, where it scores higher than the one kept there.
@@ -125,7 +125,7 @@ fn write_path(
                 p += 1;
             }
             Hop::Take(from, to, next) => {
-                fields::copy_in(out, at, &s[from..to]);
+                fields_copy::copy_in(out, at, &s[from..to]);
                 at += to - from;
                 p = next;
             }
@@ -152,7 +152,7 @@ fn path_in(
     match path_size(listing, &tops, &ats, start, end, out.len()) {
         Size::Over => Written::Refused(Refusal::ShortOutput),
         Size::Fits(n, len) => {
-            fields::put_u16(out, 0, n as u16);
+            fields_write::put_u16(out, 0, n as u16);
             write_path(listing, &tops, &ats, start, end, out);
             Written::Bytes(len)
         }

@@ -18,7 +18,7 @@ fn put_text(out: &mut [u8], at: usize, t: &[u8], by: u8) -> usize
     requires { ⌜ at + length (now t) + 1 ≤ length (now out) ⌝ }
     ensures { λ r. ⌜ Put (now (out .entry)) (now (out .exit)) at r (ended (now (t .entry)) by) ⌝ }
 {
-    fields::copy_in(out, at, t);
+    fields_copy::copy_in(out, at, t);
     let end = at + t.len();
     out[end] = by;
     end + 1

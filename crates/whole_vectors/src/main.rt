@@ -54,7 +54,7 @@ fn show_bits(x: f64) {
 // The bits of the f64 that bits are read as.
 fn show_back(bits: u64) {
     let mut field = [0u8; 8];
-    fields::put_u64(&mut field, 0, bits);
+    fields_write::put_u64(&mut field, 0, bits);
     show_bits(float_fields::f64_at(&field, 0));
 }
 

@@ -1,11 +1,11 @@
--- `fields::put_u16` meets its contract. Assumes nothing.
+-- `fields_write::put_u16` meets its contract. Assumes nothing.
 use native.Mathlib.Omega.{arith}
 use native.Mathlib.Numerals.{add-one}
 use lib.ListN.{length-set}
 use Rattle.fields.specs.Fields.{bytesOf}
 use borrow.Author.Needs.{needs}
-use Rattle.fields.proofs.put_u16.Statement.{statement}
-use Rattle.fields.proofs.put_u16.Tie as tie
+use Rattle.fields_write.proofs.put_u16.Statement.{statement}
+use Rattle.fields_write.proofs.put_u16.Tie as tie
 
 cast-out : tie.Need-cast-out
 cast-out c = search needs

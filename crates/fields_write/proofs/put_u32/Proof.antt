@@ -1,8 +1,8 @@
--- `fields::put_u32` meets its contract: its halves are written by `put_u16`. Assumes nothing.
+-- `fields_write::put_u32` meets its contract: its halves are written by `put_u16`. Assumes nothing.
 use Rattle.fields.proofs.FieldsLaws.{put-halves}
 use borrow.Author.Needs.{needs}
-use Rattle.fields.proofs.put_u32.Statement.{statement}
-use Rattle.fields.proofs.put_u32.Tie as tie
+use Rattle.fields_write.proofs.put_u32.Statement.{statement}
+use Rattle.fields_write.proofs.put_u32.Tie as tie
 
 cast-put-u16 : tie.Need-cast-put-u16
 cast-put-u16 c = search needs

@@ -1,13 +1,13 @@
--- `fields::copy_in` meets its contract. The loop's invariant: i bytes of s are stored, and the length is as it was.
+-- `fields_copy::copy_in` meets its contract. The loop's invariant: i bytes of s are stored, and the length is as it was.
 -- The measure is what is left of s. The mathematics of a turn is in `proofs/PartLaws.antt`. Assumes nothing.
 use borrow.Author.Needs.{needs}
 use Prim.Native.Nat.{_≤_, _-_}
 use mathlib.Core.Path.{_≡_}
 use lib.ListN.{length, take, length-set}
 use lib.Seq.{sets}
 use Rattle.fields.proofs.PartLaws.{copy-turn, copy-ends}
-use Rattle.fields.proofs.copy_in.Statement.{statement}
-use Rattle.fields.proofs.copy_in.Tie as tie
+use Rattle.fields_copy.proofs.copy_in.Statement.{statement}
+use Rattle.fields_copy.proofs.copy_in.Tie as tie
 
 abbrev Inv-loop : tie.InvT-loop
 Inv-loop out₀ at s i₀ out i = (i ≤ length s) × (length out ≡ length out₀) × (out ≡ sets out₀ at (take i s))
