@@ -62,7 +62,7 @@ fn scored_neighbors(
     let mut i = 0;
     while i < l.count {
         let place = place_at(w, at, right);
-        let score = paths::score_at(w, at, side(right, place), false);
+        let score = path_score::score_at(w, at, side(right, place), false);
         keep(tops, table, place, score, i);
         at = edge_next::next_at(w, at);
         i += 1;

@@ -10,13 +10,13 @@ use text::Place;
 fn ask(line: &[u8], listing: &[u8], q: Query, skip: bool) -> Answer
     ensures { λ r. ⌜ r ≡ answer (now (line .entry)) (now (listing .entry)) q skip ⌝ }
 {
-    match paths::check(line, listing) {
+    match path_check::check(line, listing) {
         Checked::Refused(r) => Answer::Refused(r),
         Checked::Readable(chars, count) => {
-            if !paths::is_inside(chars, q) {
+            if !path_check::is_inside(chars, q) {
                 return Answer::Refused(Refusal::BadPlace);
             }
-            Answer::Best(paths::best_of(listing, 2, count, q, skip))
+            Answer::Best(path_score::best_of(listing, 2, count, q, skip))
         }
     }
 }

@@ -8,13 +8,13 @@ ghost use Rattle.paths.specs.Best.{best, withOffsets, found};
 ghost use Rattle.paths.specs.Reading.{Spans};
 ghost use Rattle.paths.specs.Shown.{shownBy, shown, shownPart};
 use edge::Part;
+use path_check::check;
+use path_score::best_of;
 use paths::Checked;
 use paths::Found;
 use paths::Query;
 use paths::Refusal;
 use paths::Shown;
-use paths::best_of;
-use paths::check;
 use text::Place;
 
 // The text shown at a place of a line of so many characters.

@@ -1,9 +1,9 @@
--- `paths::starts_with` meets its contract: a text that is too short does not begin with the prefix, else its first bytes are compared. Assumes nothing.
+-- `path_score::starts_with` meets its contract: a text that is too short does not begin with the prefix, else its first bytes are compared. Assumes nothing.
 use mathlib.Core.Path.{_∙_}
 use Rattle.paths.proofs.BestLaws.{starts-with-short, starts-with-first}
 use borrow.Author.Needs.{needs}
-use Rattle.paths.proofs.starts_with.Statement.{statement}
-use Rattle.paths.proofs.starts_with.Tie as tie
+use Rattle.path_score.proofs.starts_with.Statement.{statement}
+use Rattle.path_score.proofs.starts_with.Tie as tie
 
 returns : tie.Need-returns
 returns c = starts-with-short _ _ _ _ (c .before .before .before .before .pre) (c .if1 .taken)

@@ -1,9 +1,9 @@
--- `paths::check` meets its contract, by what the line's check and the listing's answer. Assumes nothing.
+-- `path_check::check` meets its contract, by what the line's check and the listing's answer. Assumes nothing.
 use mathlib.Core.Path.{_≡_, sym, _∙_}
 use Rattle.paths.specs.Reading.{readCheck}
 use borrow.Author.Needs.{needs}
-use Rattle.paths.proofs.check.Statement.{statement}
-use Rattle.paths.proofs.check.Tie as tie
+use Rattle.path_check.proofs.check.Statement.{statement}
+use Rattle.path_check.proofs.check.Tie as tie
 
 check-line-requires : tie.Need-check-line-requires
 check-line-requires c κs = search needs

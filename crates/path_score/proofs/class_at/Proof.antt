@@ -1,9 +1,9 @@
--- `paths::class_at` meets its contract, by the bits 0 and 7 of the map. Assumes nothing.
+-- `path_score::class_at` meets its contract, by the bits 0 and 7 of the map. Assumes nothing.
 use Rattle.edge.proofs.CheckLaws.{type-within}
 use Rattle.paths.proofs.BestLaws.{class-regular, class-skipped, class-active, class-inactive}
 use borrow.Author.Needs.{needs}
-use Rattle.paths.proofs.class_at.Statement.{statement}
-use Rattle.paths.proofs.class_at.Tie as tie
+use Rattle.path_score.proofs.class_at.Statement.{statement}
+use Rattle.path_score.proofs.class_at.Tie as tie
 
 edge-at-requires : tie.Need-edge-at-requires
 edge-at-requires c κs = search needs

@@ -1,9 +1,9 @@
--- `paths::is_asked` meets its contract, by the kind of the query. Assumes nothing.
+-- `path_score::is_asked` meets its contract, by the kind of the query. Assumes nothing.
 use mathlib.Core.Path.{_≡_}
 use Rattle.paths.specs.Best.{asked}
 use borrow.Author.Needs.{needs}
-use Rattle.paths.proofs.is_asked.Statement.{statement}
-use Rattle.paths.proofs.is_asked.Tie as tie
+use Rattle.path_score.proofs.is_asked.Statement.{statement}
+use Rattle.path_score.proofs.is_asked.Tie as tie
 
 enum-known-q : tie.Need-enum-known-q
 enum-known-q c = search needs

@@ -1,14 +1,14 @@
--- `paths::score_at` meets its contract, by whether the edge is asked for, its class, and its length. Assumes nothing.
+-- `path_score::score_at` meets its contract, by whether the edge is asked for, its class, and its length. Assumes nothing.
 use mathlib.Core.Path.{_≡_, sym, _∙_}
 use mathlib.Core.Bool.{true}
 use native.Mathlib.Omega.{arith}
 use borrow.Author.Tests.{not-true, not-false}
 use Rattle.edge.specs.Layout.{stringEnd, edgeAt}
 use Rattle.paths.specs.Best.{asked}
 use Rattle.paths.proofs.BestLaws.{class-le, score-not-asked, score-never, score-no-place, score-asked, asked-at, no-place-at, places-at}
 use borrow.Author.Needs.{needs}
-use Rattle.paths.proofs.score_at.Statement.{statement}
-use Rattle.paths.proofs.score_at.Tie as tie
+use Rattle.path_score.proofs.score_at.Statement.{statement}
+use Rattle.path_score.proofs.score_at.Tie as tie
 
 add-u16-at : tie.Need-add-u16-at
 unfolding stringEnd

@@ -1,9 +1,9 @@
--- `paths::regular_class` meets its contract, by the prefixes in the order in which they are tried. Assumes nothing.
+-- `path_score::regular_class` meets its contract, by the prefixes in the order in which they are tried. Assumes nothing.
 use mathlib.Core.Path.{sym, _∙_}
 use Rattle.paths.proofs.BestLaws.{class-decomp, class-rom, class-num, class-other}
 use borrow.Author.Needs.{needs}
-use Rattle.paths.proofs.regular_class.Statement.{statement}
-use Rattle.paths.proofs.regular_class.Tie as tie
+use Rattle.path_score.proofs.regular_class.Statement.{statement}
+use Rattle.path_score.proofs.regular_class.Tie as tie
 
 slice-aggregate-starts-with : tie.Need-slice-aggregate-starts-with
 slice-aggregate-starts-with c = search needs
