@@ -1,9 +1,9 @@
--- `edge_check::text_sound_if` meets its contract, by whether the bit stands. Assumes nothing.
+-- `edge_sound::text_sound_if` meets its contract, by whether the bit stands. Assumes nothing.
 use Rattle.edge.proofs.LayoutLaws.{if-on, if-off}
 use mathlib.Core.Path.{refl, sym, _∙_}
 use borrow.Author.Needs.{needs}
-use Rattle.edge_check.proofs.text_sound_if.Statement.{statement}
-use Rattle.edge_check.proofs.text_sound_if.Tie as tie
+use Rattle.edge_sound.proofs.text_sound_if.Statement.{statement}
+use Rattle.edge_sound.proofs.text_sound_if.Tie as tie
 
 bit-requires : tie.Need-bit-requires
 bit-requires c κs = search needs

@@ -1,9 +1,9 @@
--- `edge_check::edge_good` meets its contract: an edge that is cut off is not good, and of one that is whole the map and the content decide. Assumes nothing.
+-- `edge_sound::edge_good` meets its contract: an edge that is cut off is not good, and of one that is whole the map and the content decide. Assumes nothing.
 use Rattle.edge.proofs.CheckLaws.{next-within, map-within, edge-cut, edge-whole}
 use mathlib.Core.Path.{_≡_, _∙_}
 use borrow.Author.Needs.{needs}
-use Rattle.edge_check.proofs.edge_good.Statement.{statement}
-use Rattle.edge_check.proofs.edge_good.Tie as tie
+use Rattle.edge_sound.proofs.edge_good.Statement.{statement}
+use Rattle.edge_sound.proofs.edge_good.Tie as tie
 
 returns : tie.Need-returns
 returns c = edge-cut _ _ _ _ (c .before .before .pre) (c .if1 .taken)

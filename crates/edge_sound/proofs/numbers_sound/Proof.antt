@@ -1,8 +1,8 @@
--- `edge_check::numbers_sound` meets its contract by `numbers-tested`. Assumes nothing.
+-- `edge_sound::numbers_sound` meets its contract by `numbers-tested`. Assumes nothing.
 use Rattle.edge.proofs.CheckLaws.{numbers-tested}
 use borrow.Author.Needs.{needs}
-use Rattle.edge_check.proofs.numbers_sound.Statement.{statement}
-use Rattle.edge_check.proofs.numbers_sound.Tie as tie
+use Rattle.edge_sound.proofs.numbers_sound.Statement.{statement}
+use Rattle.edge_sound.proofs.numbers_sound.Tie as tie
 
 bit-requires : tie.Need-bit-requires
 bit-requires c κs = search needs

@@ -1,10 +1,10 @@
--- `edge_check::allowed` meets its contract: each way through the tests is a case of the definition. Assumes nothing.
+-- `edge_sound::allowed` meets its contract: each way through the tests is a case of the definition. Assumes nothing.
 use Rattle.edge.proofs.LayoutLaws.{if-on, if-off}
 use Rattle.edge.specs.Check.{allowed}
 use mathlib.Core.Path.{refl, sym, _∙_}
 use borrow.Author.Needs.{needs}
-use Rattle.edge_check.proofs.allowed.Statement.{statement}
-use Rattle.edge_check.proofs.allowed.Tie as tie
+use Rattle.edge_sound.proofs.allowed.Statement.{statement}
+use Rattle.edge_sound.proofs.allowed.Tie as tie
 
 returns : tie.Need-returns
 unfolding allowed

@@ -1,7 +1,7 @@
--- `edge_check::edge_sound` meets its contract: the texts and fields of a whole edge are within the slice. Assumes nothing.
+-- `edge_sound::edge_sound` meets its contract: the texts and fields of a whole edge are within the slice. Assumes nothing.
 use Rattle.edge.proofs.CheckLaws.{head-within, type-within, txt-within, view-fields, edge-tested}
-use Rattle.edge_check.proofs.edge_sound.Statement.{statement}
-use Rattle.edge_check.proofs.edge_sound.Tie as tie
+use Rattle.edge_sound.proofs.edge_sound.Statement.{statement}
+use Rattle.edge_sound.proofs.edge_sound.Tie as tie
 
 edge-at-requires : tie.Need-edge-at-requires
 edge-at-requires c κs = head-within _ _ _ (c .before .pre)

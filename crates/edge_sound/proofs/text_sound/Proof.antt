@@ -1,10 +1,10 @@
--- `edge_check::text_sound` meets its contract: the part that is lent is the text. Assumes nothing.
+-- `edge_sound::text_sound` meets its contract: the part that is lent is the text. Assumes nothing.
 use Rattle.fields.specs.Part.{part}
 use native.Mathlib.Nat.{add-sub-cancel-left}
 use mathlib.Core.Path.{_∙_}
 use borrow.Author.Needs.{needs}
-use Rattle.edge_check.proofs.text_sound.Statement.{statement}
-use Rattle.edge_check.proofs.text_sound.Tie as tie
+use Rattle.edge_sound.proofs.text_sound.Statement.{statement}
+use Rattle.edge_sound.proofs.text_sound.Tie as tie
 
 add-to : tie.Need-add-to
 add-to c = search needs

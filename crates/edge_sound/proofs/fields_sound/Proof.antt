@@ -1,8 +1,8 @@
--- `edge_check::fields_sound` meets its contract by `fields-tested`. Assumes nothing.
+-- `edge_sound::fields_sound` meets its contract by `fields-tested`. Assumes nothing.
 use Rattle.edge.proofs.CheckLaws.{fields-tested}
 use borrow.Author.Needs.{needs}
-use Rattle.edge_check.proofs.fields_sound.Statement.{statement}
-use Rattle.edge_check.proofs.fields_sound.Tie as tie
+use Rattle.edge_sound.proofs.fields_sound.Statement.{statement}
+use Rattle.edge_sound.proofs.fields_sound.Tie as tie
 
 text-sound-requires : tie.Need-text-sound-requires
 text-sound-requires c κs = search needs

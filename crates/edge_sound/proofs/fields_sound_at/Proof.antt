@@ -1,9 +1,9 @@
--- `edge_check::fields_sound_at` meets its contract, by bit 0 of the map. Assumes nothing.
+-- `edge_sound::fields_sound_at` meets its contract, by bit 0 of the map. Assumes nothing.
 use Rattle.edge.proofs.CheckLaws.{fields-inside, numeric-tested, regular-tested}
 use mathlib.Core.Path.{sym, _∙_}
 use borrow.Author.Needs.{needs}
-use Rattle.edge_check.proofs.fields_sound_at.Statement.{statement}
-use Rattle.edge_check.proofs.fields_sound_at.Tie as tie
+use Rattle.edge_sound.proofs.fields_sound_at.Statement.{statement}
+use Rattle.edge_sound.proofs.fields_sound_at.Tie as tie
 
 bit-requires : tie.Need-bit-requires
 bit-requires c κs = search needs
