@@ -44,16 +44,14 @@ pub put-str : (x s : List ℕ) {t u : List ℕ} (at : ℕ) → t ≡ sets s at (
 unfolding str
 put-str x s at p q = put-then (put-number 2 (length x) s at p) (record { wrote = q; next = refl })
 
--- the part that is lent to a writer
-pub put-slice : (s : List ℕ) (p : Part) (w t : List ℕ) (at r : ℕ) → p .at + p .len ≤ length s
-    → (r ≡ at + 2 + length (take (p .at + p .len - p .at) (drop (p .at) s))) × Put w t at r (str (take (p .at + p .len - p .at) (drop (p .at) s)))
-    → (r ≡ at + 2 + p .len) × Put w t at r (str (textOf s p))
+-- a part of a slice, its length and its bytes
+pub put-part : (s : List ℕ) (p : Part) (w : List ℕ) {t u : List ℕ} (at : ℕ) → p .at + p .len ≤ length s → t ≡ sets w at (bytesOf 2 (p .len))
+    → u ≡ sets t (at + 2) (take (p .at + p .len - p .at) (drop (p .at) s)) → Put w u at (at + 2 + p .len) (str (textOf s p))
 unfolding part
-put-slice s p w t at r h q =
+put-part s p w at h a b =
     let e = add-sub-cancel-left (p .at) (p .len) in
-    let x = q .0 in
     let l = length-part s (p .at) (p .len) h in
-    (rw e at x ∙ rw l, rw e at (q .1))
+    rw l at (put-str (textOf s p) w at (rw l a) (rw e at b))
 
 -- ---- one field
 module _ (b : Bool) (s : List ℕ) (x : Text) (n at : ℕ) where

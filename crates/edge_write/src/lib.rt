@@ -1,28 +1,18 @@
-// An edge written at an offset of a lent buffer (01, "Listing"): regular or numeric, or the answer that there is no room.
+// A numeric edge written at an offset of a lent buffer (01, "Listing"), or the answer that there is no room. `edge_regular` writes a regular one.
 ghost use mathlib.Core.Path.{_≡_};
 ghost use mathlib.Core.Bool.{true};
 ghost use Prim.Native.Nat.{_+_, _*_, _/_, _%_, _≤_, _<_};
 ghost use lib.ListN.{length};
 ghost use lib.Dec.{eqb};
 ghost use Rattle.fields.specs.Fields.{bytesOf};
-ghost use Rattle.edge.specs.Edge.{str, opt, numericBytes, headBytes, edgeBytes};
+ghost use Rattle.edge.specs.Edge.{str, opt, numericBytes, edgeBytes};
 ghost use Rattle.edge.specs.Layout.{scriptAt, only};
-ghost use Rattle.edge.specs.Write.{written, writtenTo, Put, regular, numeric, numbersBytes, textPastIf, fieldsPast, Writable};
+ghost use Rattle.edge.specs.Write.{written, writtenTo, Put, numeric, numbersBytes, textPastIf, fieldsPast, Writable};
 ghost use Rattle.edge.specs.View.{numericOf, textOf};
 use edge::NumFields;
 use edge::Part;
 use edge::Written;
 use text::Place;
-
-// A string: its u16 length and its bytes.
-fn put_text(out: &mut [u8], at: usize, t: &[u8]) -> usize
-    requires { ⌜ (at + 2 + length (now t) ≤ length (now out)) × (length (now t) < 65536) ⌝ }
-    ensures { λ r. ⌜ (r ≡ at + 2 + length (now (t .entry))) × Put (now (out .entry)) (now (out .exit)) at r (str (now (t .entry))) ⌝ }
-{
-    fields_write::put_u16(out, at, t.len() as u16);
-    fields_copy::copy_in(out, at + 2, t);
-    at + 2 + t.len()
-}
 
 // A string that is a part of a slice.
 fn put_part(out: &mut [u8], at: usize, s: &[u8], t: Part) -> usize
@@ -31,7 +21,9 @@ fn put_part(out: &mut [u8], at: usize, s: &[u8], t: Part) -> usize
 {
     let from = t.at;
     let to = from + t.len;
-    put_text(out, at, &s[from..to])
+    fields_write::put_u16(out, at, t.len as u16);
+    fields_copy::copy_in(out, at + 2, &s[from..to]);
+    at + 2 + t.len
 }
 
 // The same, only if a bit stands.
@@ -83,45 +75,6 @@ fn put_fields(out: &mut [u8], at: usize, d: NumFields, o: &[u8], c: &[u8], v: &[
     put_part_if(d.map, 256, out, value_s, v, d.value_s)
 }
 
-// What every edge begins with.
-fn put_head(
-    out: &mut [u8],
-    at: usize,
-    map: u16,
-    start: Place,
-    end: Place,
-    ty: &[u8],
-    txt: &[u8],
-) -> usize
-    requires { ⌜ (at + 10 + length (now ty) + length (now txt) ≤ length (now out)) × (length (now ty) < 65536) × (length (now txt) < 65536) × (start .0 < 65536) × (end .0 < 65536) ⌝ }
-    ensures { λ r. ⌜ (r ≡ at + 10 + length (now (ty .entry)) + length (now (txt .entry))) × Put (now (out .entry)) (now (out .exit)) at r (headBytes map (start .0) (end .0) (now (ty .entry)) (now (txt .entry))) ⌝ }
-{
-    fields_write::put_u16(out, at, map);
-    fields_write::put_u16(out, at + 2, start.0 as u16);
-    fields_write::put_u16(out, at + 4, end.0 as u16);
-    let txt_at = put_text(out, at + 6, ty);
-    put_text(out, txt_at, txt)
-}
-
-// Writes a regular edge.
-pub fn write_regular(
-    out: &mut [u8],
-    at: usize,
-    start: Place,
-    end: Place,
-    ty: &[u8],
-    txt: &[u8],
-) -> Written
-    requires { ⌜ (at ≤ length (now out)) × (length (now ty) < 65536) × (length (now txt) < 65536) × (start .0 < 65536) × (end .0 < 65536) ⌝ }
-    ensures answer { λ r. ⌜ r ≡ written (now (out .entry)) at (edgeBytes (regular (start .0) (end .0) (now (ty .entry)) (now (txt .entry)))) ⌝ }
-    ensures bytes { λ _. ⌜ now (out .exit) ≡ writtenTo (now (out .entry)) at (edgeBytes (regular (start .0) (end .0) (now (ty .entry)) (now (txt .entry)))) ⌝ }
-{
-    if out.len() < at + 10 + ty.len() + txt.len() {
-        return Written::NoRoom;
-    }
-    Written::To(put_head(out, at, 0, start, end, ty, txt))
-}
-
 // Behind a text that is there only if a bit stands.
 fn text_past_if(map: u16, p: u16, len: usize, at: usize) -> usize
     requires { ⌜ (0 < p) × (len < 65536) × (at ≤ 10000000000000000000) ⌝ }
@@ -161,6 +114,6 @@ pub fn write_numeric(
     if out.len() < fields_past(d, head) {
         return Written::NoRoom;
     }
-    put_head(out, at, d.map, start, end, ty, txt);
+    edge_put::put_head(out, at, d.map, start, end, ty, txt);
     Written::To(put_fields(out, head, d, o, c, v))
 }

@@ -25,7 +25,7 @@ pub fn add_regular(
     ensures { λ r. ⌜ (drop 39424 (now (w .exit)) ≡ drop 39424 (now (w .entry))) × ((es : List Edge) → Holds (now (w .entry)) l es → Holds (now (w .exit)) r (add es (regular (start .0) (end .0) (now (ty .entry)) (now (txt .entry))))) ⌝ }
 {
     let len = l.len;
-    match edge_write::write_regular(w, len, start, end, ty, txt) {
+    match edge_regular::write_regular(w, len, start, end, ty, txt) {
         Written::To(to) => lattice_add::add_edge(w, l, 8 + ty.len() + txt.len(), to),
         Written::NoRoom => l,
     }

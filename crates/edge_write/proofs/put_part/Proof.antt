@@ -1,5 +1,6 @@
--- `edge_write::put_part` meets its contract: the part that is lent is the text. Assumes nothing.
-use Rattle.edge.proofs.WriteLaws.{put-slice}
+-- `edge_write::put_part` meets its contract: the length, and the bytes behind it, of the part that is lent. Assumes nothing.
+use Rattle.edge.proofs.WriteLaws.{put-part}
+use mathlib.Core.Path.{refl}
 use borrow.Author.Needs.{needs}
 use Rattle.edge_write.proofs.put_part.Statement.{statement}
 use Rattle.edge_write.proofs.put_part.Tie as tie
@@ -7,32 +8,52 @@ use Rattle.edge_write.proofs.put_part.Tie as tie
 add-to : tie.Need-add-to
 add-to c = search needs
 
-sub-put-text : tie.Need-sub-put-text
-sub-put-text c = search needs
+cast-put-u16 : tie.Need-cast-put-u16
+cast-put-u16 c = search needs
 
-part-put-text-start : tie.Need-part-put-text-start
-part-put-text-start c = search needs
+put-u16-requires : tie.Need-put-u16-requires
+put-u16-requires c κs = search needs
 
-part-put-text-end : tie.Need-part-put-text-end
-part-put-text-end c = search needs
+add-copy-in : tie.Need-add-copy-in
+add-copy-in c = search needs
 
-put-text-requires : tie.Need-put-text-requires
-put-text-requires c κs = search needs
+sub-copy-in : tie.Need-sub-copy-in
+sub-copy-in c = search needs
+
+part-copy-in-start : tie.Need-part-copy-in-start
+part-copy-in-start c = search needs
+
+part-copy-in-end : tie.Need-part-copy-in-end
+part-copy-in-end c = search needs
+
+copy-in-requires : tie.Need-copy-in-requires
+copy-in-requires c κs = search needs
+
+add-result : tie.Need-add-result
+add-result c = search needs
+
+add-result-2 : tie.Need-add-result-2
+add-result-2 c = search needs
 
 same-length : tie.Need-same-length
 same-length c = search needs
 
 returns : tie.Need-returns
-returns c = put-slice _ _ _ _ _ _ (c .before .before .before .before .before .before .before .before .pre .2) (c .before .before .put-text .ensures)
+returns c = (refl, put-part _ _ _ _ (c .before .before .before .before .before .before .before .before .before .before .before .before .before .before .pre .2) (c .before .before .before .before .before .before .before .before .put-u16 .ensures) (c .before .before .before .copy-in .ensures))
 
 pub put-part-spec : {M : Type 1} → statement M
 put-part-spec =
     tie.close
     (tie.spec
     add-to
-    sub-put-text
-    part-put-text-start
-    part-put-text-end
-    put-text-requires
+    cast-put-u16
+    put-u16-requires
+    add-copy-in
+    sub-copy-in
+    part-copy-in-start
+    part-copy-in-end
+    copy-in-requires
+    add-result
+    add-result-2
     same-length
     returns)

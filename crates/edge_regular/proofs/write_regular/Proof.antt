@@ -1,8 +1,8 @@
--- `edge_write::write_regular` meets its contract: the length of the edge's bytes is what the test asks for. Assumes nothing.
+-- `edge_regular::write_regular` meets its contract: the length of the edge's bytes is what the test asks for. Assumes nothing.
 use Rattle.edge.proofs.WriteLaws.{regular-no-room, regular-there}
 use borrow.Author.Needs.{needs}
-use Rattle.edge_write.proofs.write_regular.Statement.{statement}
-use Rattle.edge_write.proofs.write_regular.Tie as tie
+use Rattle.edge_regular.proofs.write_regular.Statement.{statement}
+use Rattle.edge_regular.proofs.write_regular.Tie as tie
 
 add-if1 : tie.Need-add-if1
 add-if1 c = search needs

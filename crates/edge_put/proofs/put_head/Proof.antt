@@ -1,9 +1,9 @@
--- `edge_write::put_head` meets its contract: five promises in a row. Assumes nothing.
+-- `edge_put::put_head` meets its contract: five promises in a row. Assumes nothing.
 use Rattle.edge.proofs.WriteLaws.{put-all-head}
 use native.Mathlib.Omega.{arith}
 use borrow.Author.Needs.{needs}
-use Rattle.edge_write.proofs.put_head.Statement.{statement}
-use Rattle.edge_write.proofs.put_head.Tie as tie
+use Rattle.edge_put.proofs.put_head.Statement.{statement}
+use Rattle.edge_put.proofs.put_head.Tie as tie
 
 put-u16-requires : tie.Need-put-u16-requires
 put-u16-requires c κs = search needs

@@ -1,9 +1,9 @@
--- `edge_write::put_text` meets its contract: the length, and the bytes behind it. Assumes nothing.
+-- `edge_put::put_text` meets its contract: the length, and the bytes behind it. Assumes nothing.
 use Rattle.edge.proofs.WriteLaws.{put-str}
 use mathlib.Core.Path.{refl}
 use borrow.Author.Needs.{needs}
-use Rattle.edge_write.proofs.put_text.Statement.{statement}
-use Rattle.edge_write.proofs.put_text.Tie as tie
+use Rattle.edge_put.proofs.put_text.Statement.{statement}
+use Rattle.edge_put.proofs.put_text.Tie as tie
 
 cast-put-u16 : tie.Need-cast-put-u16
 cast-put-u16 c = search needs
