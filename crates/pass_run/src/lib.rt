@@ -9,9 +9,9 @@ use pass_chain::next;
 use pass_list::chain::Chain;
 use pass_list::chain::Next;
 use pass_list::chain::Pass;
-use pass_list::record::get;
-use pass_list::record::put;
 use pass_list::run::Passed;
+use pass_record::get;
+use pass_record::put;
 
 fn run_pass(list: &mut [u8], n: usize, pass: Pass) -> Passed
     requires { ⌜ (n * 56 ≤ length (now list)) × AllSmall (itemsAt (now list) 0 n) ⌝ }

@@ -1,10 +1,10 @@
 -- `put_num` meets its contract: six numbers of eight bytes, one behind the other. Assumes nothing.
 use mathlib.Core.Path.{_≡_, ap}
 use Rattle.pass_list.specs.declared.record.NumData.{NumData}
-use Rattle.pass_list.proofs.StoredLaws.{put-numbers}
+use Rattle.pass_record.proofs.FieldLaws.{put-numbers}
 use borrow.Author.Needs.{needs}
-use Rattle.pass_list.proofs.record.put_num.Statement.{statement}
-use Rattle.pass_list.proofs.record.put_num.Tie as tie
+use Rattle.pass_record.proofs.put_num.Statement.{statement}
+use Rattle.pass_record.proofs.put_num.Tie as tie
 
 to-u64-requires : tie.Need-to-u64-requires
 to-u64-requires c κs = search needs

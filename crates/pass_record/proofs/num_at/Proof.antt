@@ -1,8 +1,8 @@
 -- `num_at` meets its contract: it reads the fields one by one. Assumes nothing.
-use Rattle.pass_list.proofs.StoredLaws.{itemAt-fields}
+use Rattle.pass_record.proofs.FieldLaws.{itemAt-fields}
 use borrow.Author.Needs.{needs}
-use Rattle.pass_list.proofs.record.num_at.Statement.{statement}
-use Rattle.pass_list.proofs.record.num_at.Tie as tie
+use Rattle.pass_record.proofs.num_at.Statement.{statement}
+use Rattle.pass_record.proofs.num_at.Tie as tie
 
 add-u16-at : tie.Need-add-u16-at
 add-u16-at c = search needs

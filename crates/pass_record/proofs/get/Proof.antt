@@ -1,8 +1,8 @@
 -- `get` meets its contract: it reads the fields one by one. Assumes nothing.
-use Rattle.pass_list.proofs.StoredLaws.{itemAt-fields, itemAt-fits}
+use Rattle.pass_record.proofs.FieldLaws.{itemAt-fields, itemAt-fits}
 use borrow.Author.Needs.{needs}
-use Rattle.pass_list.proofs.record.get.Statement.{statement}
-use Rattle.pass_list.proofs.record.get.Tie as tie
+use Rattle.pass_record.proofs.get.Statement.{statement}
+use Rattle.pass_record.proofs.get.Tie as tie
 
 u16-at-requires : tie.Need-u16-at-requires
 u16-at-requires c κs = search needs
