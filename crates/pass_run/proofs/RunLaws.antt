@@ -1,5 +1,5 @@
 -- Laws of a pass's loop (`pass_list`, specs/ItemPass.antt and specs/Answers.antt), the same for all five passes. No contract cites this file.
--- In order: what `next` says of a chain; the longer chain; lists; a chain above TOP; what a pass answers; the loop's invariant and each way out.
+-- In order: what `next` says of a chain; the longer chain; lists; a chain above TOP; what a pass answers; a chain that ended; the loop's invariant and each way out.
 -- Assumes nothing.
 use mathlib.Core.Path.{_≡_, refl, sym, ap, _∙_, subst}
 use mathlib.Core.Bool.{Bool, true, false, cond}
@@ -9,7 +9,7 @@ use Prim.Native.Nat.{ℕ, _+_, _*_, _-_, _^_, _≤_, _<_}
 use native.Mathlib.Nat.{lt-of-lt-of-le}
 use native.Mathlib.Omega.{arith}
 use lib.ListN.{length, drop}
-use lib.Seq.{sets, length-sets}
+use lib.Seq.{sets}
 use lib.Dec.{ltb}
 use borrow.Author.Tests.{lt-ltb, le-ltb, ltb-true, ltb-false}
 use Rattle.whole.specs.Whole.{TOP}
@@ -26,9 +26,10 @@ use Rattle.pass_list.specs.Item.{Item, nil, cons, AllSmall, Fits, EdgeIs}
 use Rattle.pass_list.specs.Stored.{recordBytes, itemAt, itemsAt}
 use Rattle.pass_list.specs.ItemPass.{ItemChain, begin, touches, g1Rule, g3Rule, rule, counted, kindOf, joins, joinedValue, longer, next, over, chainsOf, edgesOf, joinedOf, after, added, firstAbove}
 use Rattle.pass_list.specs.Answers.{passChain, ChainIs, answer, PassedIs}
+use Rattle.pass_run.specs.Ended.{Ended}
 use Rattle.pass_list.proofs.NextLaws.{joins-of-next}
 use Rattle.pass_chain.proofs.ChainLaws.{counted-fits}
-use Rattle.pass_list.proofs.StoredLaws.{item-behind, items-cons, items-first, items-none, length-items, items-put, behind-put, behind-next}
+use Rattle.pass_list.proofs.StoredLaws.{item-behind, items-cons, items-first, items-none, items-snoc, length-items, items-put, behind-put, behind-next}
 
 -- ---- what `next` answers says of the chain
 module _ (p : Pass) (x : ItemChain) (y : Item) where
@@ -178,6 +179,13 @@ pub passed-none : (p : Pass) (s u : List ℕ) (n : ℕ) → n ≡ 0 → PassedIs
 unfolding itemsAt chainsOf chains joinedOf firstAbove
 passed-none p s u n e = rw e (passed-all p [] u 0 [] refl refl refl nil (omega arith))
 
+-- ---- a chain that ended: its edge stands in its place, or is put there
+pub ended-stands : (t : List ℕ) (k i : ℕ) {x : Item} → itemAt t (k * 56) ≡ x → Ended t k i x t
+ended-stands t k i {x} e = let z : 0 + k ≡ k = omega arith in record { stored = items-snoc t 0 k ∙ rw (z, e); rest = refl }
+
+pub ended-put : (t : List ℕ) {u : List ℕ} (k i : ℕ) (x : Item) → Fits x → k < i → i * 56 ≤ length t → u ≡ sets t (k * 56) (recordBytes x) → Ended t k i x u
+ended-put t k i x f h room w = record { stored = rw w (items-put t k x f (omega arith)); rest = rw w (behind-put t t i k x h refl) }
+
 -- ---- the loop: k edges are written, i of n are read, and the chain c is open
 pub record Going (p : Pass) (s : List ℕ) (n : ℕ) (t : List ℕ) (c : Chain) (i k : ℕ) : Type 0 where
   pub behind : k < i
@@ -193,10 +201,13 @@ pub record Going (p : Pass) (s : List ℕ) (n : ℕ) (t : List ℕ) (c : Chain) 
   -- the open one
   pub model : ItemChain
   pub is : ChainIs c model
+  -- with as many chains as edges it is of one edge, which stands in its place
+  pub stands : k + 1 ≡ i → itemAt t (k * 56) ≡ model .edge
   pub so-far : done ++ from begin (next p) model (itemsAt s i (n - i)) ≡ chainsOf p (itemsAt s 0 n)
 
-pub put-long : (t : List ℕ) {u : List ℕ} (at : ℕ) (bs : List ℕ) {n : ℕ} → length t ≡ n → u ≡ sets t at bs → length u ≡ n
-put-long t at bs l w = ap length w ∙ length-sets t at bs ∙ l
+begin-edge : (y : Item) → begin y .edge ≡ y
+unfolding begin
+begin-edge y = refl
 
 begin-is : {e : Item} {c : Chain} (f : Fits e) → c ≡ passChain (begin e) → ChainIs c (begin e)
 unfolding begin
@@ -217,6 +228,7 @@ module _ (p : Pass) (s : List ℕ) (n : ℕ) where
     small = nil;
     model = begin (itemAt s (0 * 56));
     is = begin-is (e .fits) b;
+    stands = λ z. sym (begin-edge (itemAt s (0 * 56)));
     so-far = ap (chains begin (next p)) (sym (items-first s n h));
   }
 
@@ -251,26 +263,28 @@ module _ (p : Pass) (s : List ℕ) (n : ℕ) where
             small = g .small;
             model = longer p (g .model) y;
             is = record { is = a .1; fits = longer-fits p (g .model) y (g .is .fits) (subst Fits reads f) (a .2) };
+            stands = λ z. absurd (omega arith);
             so-far = turn-takes begin (next p) (g .done) (g .model) (longer p (g .model) y) y _ (a .0) so-far-next;
           }
 
-      pub ends : (u : List ℕ) (d : Chain) → Fits (itemAt t (i * 56)) → n * 56 ≤ length s → answer p (g .model) (itemAt t (i * 56)) ≡ Ends → u ≡ sets t (k * 56) (recordBytes (g .model .edge))
+      pub ends : (u : List ℕ) (d : Chain) → Fits (itemAt t (i * 56)) → answer p (g .model) (itemAt t (i * 56)) ≡ Ends → length u ≡ length t → Ended t k i (g .model .edge) u
           → d ≡ passChain (begin (itemAt t (i * 56))) → Going p s n u d (i + 1) (k + 1)
-      ends u d f room e w b =
+      ends u d f e kept w b =
           let q = g .behind in
-          let l = g .long in
           let m = g .model in
+          let same : drop (i * 56) u ≡ drop (i * 56) s = w .rest ∙ g .rest in
           record {
             behind = omega arith;
             inside = omega arith;
-            long = put-long t (k * 56) (recordBytes (m .edge)) (g .long) w;
-            rest = behind-next s u i (rw w (behind-put s t i k (m .edge) q (g .rest)));
+            long = kept ∙ g .long;
+            rest = behind-next s u i same;
             done = g .done ++ (m ∷ []);
-            stored = rw (w, items-put t k (m .edge) (g .is .fits) (omega arith), g .stored, edges-append (g .done) (m ∷ []));
+            stored = w .stored ∙ rw (g .stored, edges-append (g .done) (m ∷ []));
             below = rw (joined-append (g .done) (m ∷ []), above-append (joinedOf (g .done)) (joinedOf (m ∷ [])) (g .below)) (one-below m (g .is .fits .small .value));
             small = rw (edges-append (g .done) (m ∷ [])) (small-append _ _ (g .small) (cons (g .is .fits .small) nil));
             model = begin y;
             is = begin-is (subst Fits reads f) (subst (λ (x : Item). d ≡ passChain (begin x)) reads b);
+            stands = λ z. let e : k + 1 ≡ i = omega arith in rw e (item-behind s u (i * 56) same) ∙ sym (begin-edge y);
             so-far = turn-ends begin (next p) (g .done) m y _ (says-ends p m y (as-read e)) so-far-next;
           }
 
@@ -282,15 +296,14 @@ module _ (p : Pass) (s : List ℕ) (n : ℕ) where
           rw (g .is .is)
           (passed-above p (itemsAt s 0 n) u (g .model .edge .start) (rw (← so-far-next, joined-append (g .done) _, above-append (joinedOf (g .done)) _ (g .below), from-some begin (next p) (g .model) z y _ (a .0)) (from-above p z _ (longer-more p (g .model) y) v ∙ rw (longer-start p (g .model) y))))
 
-    pub finishes : n ≤ i → n * 56 ≤ length s → (u : List ℕ) → u ≡ sets t (k * 56) (recordBytes (g .model .edge)) → PassedIs p (itemsAt s 0 n) u (Passed.Edges (k + 1))
-    finishes h room u w =
+    pub finishes : n ≤ i → (u : List ℕ) → Ended t k i (g .model .edge) u → PassedIs p (itemsAt s 0 n) u (Passed.Edges (k + 1))
+    finishes h u w =
         let q = g .behind in
         let b = g .inside in
-        let l = g .long in
         let m = g .model in
         let all : g .done ++ (m ∷ []) ≡ chainsOf p (itemsAt s 0 n) = rw (← (from-nil begin (next p) m), ← (items-none s i n h)) (g .so-far) in
         passed-all p (itemsAt s 0 n) u (k + 1) (g .done ++ (m ∷ [])) all
-        (rw (w, items-put t k (m .edge) (g .is .fits) (omega arith), g .stored, edges-append (g .done) (m ∷ [])))
+        (w .stored ∙ rw (g .stored, edges-append (g .done) (m ∷ [])))
         (rw (joined-append (g .done) (m ∷ []), above-append (joinedOf (g .done)) (joinedOf (m ∷ [])) (g .below)) (one-below m (g .is .fits .small .value)))
         (rw (edges-append (g .done) (m ∷ [])) (small-append _ _ (g .small) (cons (g .is .fits .small) nil)))
         (rw (length-items s 0 n) (omega arith))

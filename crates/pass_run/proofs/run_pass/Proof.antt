@@ -3,11 +3,11 @@
 use mathlib.Core.Path.{_≡_, sym, _∙_}
 use Prim.Native.Nat.{_-_, _*_}
 use native.Mathlib.Omega.{arith}
-use Rattle.pass_list.specs.Stored.{recordBytes, itemAt}
+use Rattle.pass_list.specs.Stored.{itemAt}
 use Rattle.pass_list.specs.Answers.{passOf, answer}
 use Rattle.pass_chain.proofs.ChainLaws.{chain-edge}
 use Rattle.pass_list.proofs.StoredLaws.{small-in}
-use Rattle.pass_run.proofs.RunLaws.{Going, passed-none, begins, reads, takes, ends, above, finishes, put-long}
+use Rattle.pass_run.proofs.RunLaws.{Going, passed-none, begins, reads, takes, ends, above, finishes}
 use borrow.Author.Needs.{needs}
 use Rattle.pass_run.proofs.run_pass.Statement.{statement}
 use Rattle.pass_run.proofs.run_pass.Tie as tie
@@ -40,14 +40,14 @@ mul-get c = search needs
 get-requires-2 : tie.Need-get-requires-2 Inv-loop μ-loop
 get-requires-2 c κs = (omega (arith, c .before .loop-test .taken, c .before .before .loop .inv .long, c .before .before .before .before .before .before .before .before .pre .0), rw (reads _ _ _ _ _ _ _ (c .before .before .loop .inv)) (small-in _ _ _ (c .before .before .before .before .before .before .before .before .pre .1) (c .before .loop-test .taken)))
 
-add-i : tie.Need-add-i Inv-loop μ-loop
-add-i c = omega (arith, c .before .before .loop-test .taken, c .before .before .before .before .before .before .before .before .before .fits .n)
-
 next-requires : tie.Need-next-requires Inv-loop μ-loop
 next-requires c κs = ((c .before .before .before .loop .inv .model, c .before .before .before .loop .inv .is), (_, c .get2 .ensures))
 
 enum-known-c : tie.Need-enum-known-c Inv-loop μ-loop
 enum-known-c c = search needs
+
+add-i : tie.Need-add-i Inv-loop μ-loop
+add-i c = omega (arith, c .before .before .before .before .before .before .loop-test .taken, c .before .before .before .before .before .before .before .before .before .before .before .before .before .fits .n)
 
 loop-less : tie.Need-loop-less Inv-loop μ-loop
 loop-less c = omega (arith, c .before .before .before .before .before .before .loop-test .taken)
@@ -58,26 +58,28 @@ loop-again c = takes _ _ _ _ _ _ _ (c .before .before .before .before .before .b
 enum-told : tie.Need-enum-told Inv-loop μ-loop
 enum-told c = search needs
 
-mul-put : tie.Need-mul-put Inv-loop μ-loop
-mul-put c = omega (arith, c .before .before .before .before .before .before .before .loop-test .taken, c .before .before .before .before .before .before .before .before .loop .inv .behind, c .before .before .before .before .before .before .before .before .before .before .before .before .before .before .pre .0, c .before .before .before .before .before .before .before .before .before .before .before .before .before .before .good .0)
-
-put-requires : tie.Need-put-requires Inv-loop μ-loop
-put-requires c κs = (omega (arith, c .before .before .before .before .before .before .before .loop-test .taken, c .before .before .before .before .before .before .before .before .loop .inv .behind, c .before .before .before .before .before .before .before .before .loop .inv .long, c .before .before .before .before .before .before .before .before .before .before .before .before .before .before .pre .0), (c .before .before .before .before .before .before .before .before .loop .inv .model .edge, chain-edge (c .before .before .before .before .before .before .before .before .loop .inv .is)))
+put-ended-requires : tie.Need-put-ended-requires Inv-loop μ-loop
+put-ended-requires c κs = let a = c .before .before .before .before .before .before .before in
+    let g = a .loop .inv in
+    (g .behind, omega (arith, c .before .before .before .before .before .before .loop-test .taken, g .long, a .before .before .before .before .before .before .pre .0), (g .model .edge, chain-edge (g .is)))
 
 begin-requires-2 : tie.Need-begin-requires-2 Inv-loop μ-loop
 begin-requires-2 c κs = search needs
 
 add-k : tie.Need-add-k Inv-loop μ-loop
-add-k c = omega (arith, c .before .before .before .before .before .before .before .before .before .before .before .loop-test .taken, c .before .before .before .before .before .before .before .before .before .before .before .before .loop .inv .behind, c .before .before .before .before .before .before .before .before .before .before .before .before .before .before .before .before .before .before .fits .n)
+add-k c = omega (arith, c .before .before .before .before .before .before .before .before .before .before .before .loop .inv .behind, c .before .before .before .before .before .before .before .before .before .before .loop-test .taken, c .before .before .before .before .before .before .before .before .before .before .before .before .before .before .before .before .before .fits .n)
+
+add-i-2 : tie.Need-add-i-2 Inv-loop μ-loop
+add-i-2 c = omega (arith, c .before .before .before .before .before .before .before .before .before .before .loop-test .taken, c .before .before .before .before .before .before .before .before .before .before .before .before .before .before .before .before .before .fits .n)
 
 loop-less-2 : tie.Need-loop-less-2 Inv-loop μ-loop
-loop-less-2 c = omega (arith, c .before .before .before .before .before .before .before .before .before .before .before .loop-test .taken)
+loop-less-2 c = omega (arith, c .before .before .before .before .before .before .before .before .before .before .loop-test .taken)
 
 loop-again-2 : tie.Need-loop-again-2 Inv-loop μ-loop
-loop-again-2 c =
-    let g = c .before .before .before .before .before .before .before .before .before .before .before .before .loop .inv in
-    let e = c .before .before .before .before .before .before .before .before .before .get2 .ensures in
-    ends _ _ _ _ _ _ _ g (c .before .before .before .before .before .before .before .before .before .before .before .loop-test .taken) _ _ (e .fits) (c .before .before .before .before .before .before .before .before .before .before .before .before .before .before .before .before .before .before .pre .0) (sym (answered (c .before .before .before .before .before .before .before .before)) ∙ c .before .before .before .before .before .before .enum-told .given .1) (c .before .before .before .put .ensures _ (chain-edge (g .is))) (c .begin2 .ensures _ (e .is))
+loop-again-2 c = let g = c .before .before .before .before .before .before .before .before .before .before .before .loop .inv in
+    let e = c .before .before .before .before .before .before .before .before .get2 .ensures in
+    let p = c .before .before .before .put-ended in
+    ends _ _ _ _ _ _ _ g (c .before .before .before .before .before .before .before .before .before .before .loop-test .taken) _ _ (e .fits) (sym (answered (c .before .before .before .before .before .before .before)) ∙ c .before .before .before .before .before .enum-told .given .1) (p .kept .0) (p .ensures _ (chain-edge (g .is)) (g .stands)) (c .begin2 .ensures _ (e .is))
 
 enum-told-2 : tie.Need-enum-told-2 Inv-loop μ-loop
 enum-told-2 c = search needs
@@ -90,20 +92,18 @@ returns-2 c =
     let g = c .before .before .before .before .before .before .before .loop .inv in
     above _ _ _ _ _ _ _ g (c .before .before .before .before .before .before .loop-test .taken) _ (sym (answered (c .before .before .before)) ∙ c .before .enum-told2 .given .1)
 
-mul-put-2 : tie.Need-mul-put-2 Inv-loop μ-loop
-mul-put-2 c = omega (arith, c .before .before .before .loop .inv .behind, c .before .before .before .loop .inv .inside, c .before .before .before .before .before .before .before .before .before .pre .0, c .before .before .before .before .before .before .before .before .before .good .0)
+put-ended-requires-2 : tie.Need-put-ended-requires-2 Inv-loop μ-loop
+put-ended-requires-2 c κs = let g = c .before .before .loop .inv in
+    (g .behind, omega (arith, g .inside, g .long, c .before .before .before .before .before .before .before .before .pre .0), (g .model .edge, chain-edge (g .is)))
 
-put-requires-2 : tie.Need-put-requires-2 Inv-loop μ-loop
-put-requires-2 c κs = (omega (arith, c .before .before .before .loop .inv .behind, c .before .before .before .loop .inv .inside, c .before .before .before .loop .inv .long, c .before .before .before .before .before .before .before .before .before .pre .0), (c .before .before .before .loop .inv .model .edge, chain-edge (c .before .before .before .loop .inv .is)))
-
-add-t28 : tie.Need-add-t28 Inv-loop μ-loop
-add-t28 c = omega (arith, c .before .before .before .before .before .before .loop .inv .behind, c .before .before .before .before .before .before .loop .inv .inside, c .before .before .before .before .before .before .before .before .before .before .before .before .fits .n)
+add-t25 : tie.Need-add-t25 Inv-loop μ-loop
+add-t25 c = omega (arith, c .before .before .before .before .before .loop .inv .behind, c .before .before .before .before .before .loop .inv .inside, c .before .before .before .before .before .before .before .before .before .before .before .fits .n)
 
 same-length-2 : tie.Need-same-length-2 Inv-loop μ-loop
-same-length-2 c = let g = c .before .before .before .before .before .before .loop .inv in put-long (c .before .before .before .before .before .before .loop .list) _ (recordBytes (g .model .edge)) (g .long) (c .before .before .put2 .ensures _ (chain-edge (g .is)))
+same-length-2 c = c .before .before .put-ended2 .kept .0 ∙ c .before .before .before .before .before .loop .inv .long
 
 returns-3 : tie.Need-returns-3 Inv-loop μ-loop
-returns-3 c = let g = c .before .before .before .before .before .before .loop .inv in finishes _ _ _ _ _ _ _ g (c .before .before .before .before .before .loop-test .left) (c .before .before .before .before .before .before .before .before .before .before .before .before .pre .0) _ (c .before .before .put2 .ensures _ (chain-edge (g .is)))
+returns-3 c = let g = c .before .before .before .before .before .loop .inv in finishes _ _ _ _ _ _ _ g (c .before .before .before .before .loop-test .left) _ (c .before .before .put-ended2 .ensures _ (chain-edge (g .is)) (g .stands))
 
 pub run-pass-spec : {M : Type 1} → statement M
 run-pass-spec =
@@ -117,23 +117,22 @@ run-pass-spec =
     loop-holds
     mul-get
     get-requires-2
-    add-i
     next-requires
     enum-known-c
+    add-i
     loop-less
     loop-again
     enum-told
-    mul-put
-    put-requires
+    put-ended-requires
     begin-requires-2
     add-k
+    add-i-2
     loop-less-2
     loop-again-2
     enum-told-2
     same-length
     returns-2
-    mul-put-2
-    put-requires-2
-    add-t28
+    put-ended-requires-2
+    add-t25
     same-length-2
     returns-3)
