@@ -26,7 +26,7 @@ use Rattle.pass_list.specs.Item.{Item, nil, cons, AllSmall, Fits, EdgeIs}
 use Rattle.pass_list.specs.Stored.{recordBytes, itemAt, itemsAt}
 use Rattle.pass_list.specs.ItemPass.{ItemChain, begin, touches, g1Rule, g3Rule, rule, counted, kindOf, joins, joinedValue, longer, next, over, chainsOf, edgesOf, joinedOf, after, added, firstAbove}
 use Rattle.pass_list.specs.Answers.{passChain, ChainIs, answer, PassedIs}
-use Rattle.pass_run.specs.Ended.{Ended}
+use Rattle.pass_loop.specs.Ended.{Ended}
 use Rattle.pass_list.proofs.NextLaws.{joins-of-next}
 use Rattle.pass_chain.proofs.ChainLaws.{counted-fits}
 use Rattle.pass_list.proofs.StoredLaws.{item-behind, items-cons, items-first, items-none, items-snoc, length-items, items-put, behind-put, behind-next}

@@ -1,9 +1,9 @@
 -- `put_ended` meets its contract: with as many chains as edges nothing is written. Assumes nothing.
 use native.Mathlib.Omega.{arith}
-use Rattle.pass_run.proofs.RunLaws.{ended-stands, ended-put}
+use Rattle.pass_loop.proofs.RunLaws.{ended-stands, ended-put}
 use borrow.Author.Needs.{needs}
-use Rattle.pass_run.proofs.put_ended.Statement.{statement}
-use Rattle.pass_run.proofs.put_ended.Tie as tie
+use Rattle.pass_loop.proofs.put_ended.Statement.{statement}
+use Rattle.pass_loop.proofs.put_ended.Tie as tie
 
 add-if1 : tie.Need-add-if1
 add-if1 c = search needs

@@ -7,10 +7,10 @@ use Rattle.pass_list.specs.Stored.{itemAt}
 use Rattle.pass_list.specs.Answers.{passOf, answer}
 use Rattle.pass_chain.proofs.ChainLaws.{chain-edge}
 use Rattle.pass_list.proofs.StoredLaws.{small-in}
-use Rattle.pass_run.proofs.RunLaws.{Going, passed-none, begins, reads, takes, ends, above, finishes}
+use Rattle.pass_loop.proofs.RunLaws.{Going, passed-none, begins, reads, takes, ends, above, finishes}
 use borrow.Author.Needs.{needs}
-use Rattle.pass_run.proofs.run_pass.Statement.{statement}
-use Rattle.pass_run.proofs.run_pass.Tie as tie
+use Rattle.pass_loop.proofs.run_pass.Statement.{statement}
+use Rattle.pass_loop.proofs.run_pass.Tie as tie
 
 abbrev Inv-loop : tie.InvT-loop
 Inv-loop list₀ n pass chain₀ i₀ k₀ list chain i k = Going (passOf pass) list₀ n list chain i k
