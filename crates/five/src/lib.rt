@@ -66,10 +66,14 @@ fn one_pass(
 {
     match pass_behind(w, n, i) {
         Passed::Above(p) => Passes::Above(p),
-        Passed::Edges(k) => Passes::Added(
-            item_stage::add_of_kind(w, l, line, offs, table, k, (i + 1) as u16),
-            k,
-        ),
+        Passed::Edges(k) => {
+            // as many edges as before: none is joined
+            if k == n {
+                return Passes::Added(l, k);
+            }
+            let m = item_stage::add_of_kind(w, l, line, offs, table, k, (i + 1) as u16);
+            Passes::Added(m, k)
+        }
     }
 }
 
