@@ -23,6 +23,7 @@ use Rattle.pass_list.proofs.StoredLaws.{length-items}
 use Rattle.pass_edges.specs.InTurn.{through, addedBy, ofKind}
 use Rattle.pass_edges.proofs.InTurnLaws.{above-here, above-later}
 use Rattle.pass_edges.proofs.KindLaws.{added-of-kind, after-kind}
+use Rattle.pass_nth.specs.Nth.{nth}
 use Rattle.edge.specs.Edge.{Edge}
 use Rattle.lattice.specs.declared.Lattice.{Lattice}
 use Rattle.lattice.specs.Lattice.{add, addAll}
@@ -32,7 +33,6 @@ use Rattle.items.specs.Sound.{Sound, Sounds}
 use Rattle.numbers.specs.Listed.{listedEdge}
 use Rattle.five.specs.declared.Passes.{Passes}
 use Rattle.five.specs.declared.Passes.the-variants.{Added, Above}
-use Rattle.five.specs.Nth.{nth}
 use Rattle.five.specs.Five.{listedItems, behind, PassList, OneDone, OneIs, FiveDone, FiveIs}
 use Rattle.five.proofs.FrontLaws.{holds-front}
 use Rattle.five.proofs.KeptLaws.{added-none}

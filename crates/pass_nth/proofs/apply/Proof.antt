@@ -1,8 +1,8 @@
--- `five::apply` meets its contract. Assumes nothing.
+-- `pass_nth::apply` meets its contract. Assumes nothing.
 use borrow.Author.Needs.{needs}
-use Rattle.five.proofs.FrontLaws.{passed-nth, passed-last}
-use Rattle.five.proofs.apply.Statement.{statement}
-use Rattle.five.proofs.apply.Tie as tie
+use Rattle.pass_nth.proofs.BehindLaws.{passed-nth, passed-last}
+use Rattle.pass_nth.proofs.apply.Statement.{statement}
+use Rattle.pass_nth.proofs.apply.Tie as tie
 
 apply-d1-digits-requires : tie.Need-apply-d1-digits-requires
 apply-d1-digits-requires c κs = search needs

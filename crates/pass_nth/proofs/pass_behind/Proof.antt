@@ -1,12 +1,12 @@
--- `five::pass_behind` meets its contract: the part of the work space is lent to the pass, and comes back. Assumes nothing.
+-- `pass_nth::pass_behind` meets its contract: the part of the work space is lent to the pass, and comes back. Assumes nothing.
 use borrow.Author.Needs.{needs}
 use Prim.Native.Nat.{_-_, _≤_}
 use native.Mathlib.Omega.{arith}
 use lib.ListN.{length, length-drop}
 use borrow.Rule.Slice.PartMut.{take-put}
-use Rattle.five.proofs.FrontLaws.{lent-behind, passed-behind}
-use Rattle.five.proofs.pass_behind.Statement.{statement}
-use Rattle.five.proofs.pass_behind.Tie as tie
+use Rattle.pass_nth.proofs.BehindLaws.{lent-behind, passed-behind}
+use Rattle.pass_nth.proofs.pass_behind.Statement.{statement}
+use Rattle.pass_nth.proofs.pass_behind.Tie as tie
 
 sub-apply : tie.Need-sub-apply
 sub-apply c = search needs
