@@ -24,7 +24,7 @@ use crate::lookup::find_char;
 use crate::lookup::index_records;
 use dicts::layout::NumProp;
 use dicts::shape::Shape;
-use pass_list::record::put;
+use pass_record::put;
 use text::Offset;
 use text::Seq;
 

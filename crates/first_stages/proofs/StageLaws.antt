@@ -42,7 +42,8 @@ use Rattle.given.proofs.GivenLaws.{given-call}
 use Rattle.five.specs.declared.Passes.{Passes}
 use Rattle.five.specs.declared.Passes.the-variants.{Added, Above}
 use Rattle.five.specs.Five.{listedItems, behind, PassList, FiveDone, FiveIs}
-use Rattle.five.proofs.FrontLaws.{holds-front, back-behind}
+use Rattle.five.proofs.FrontLaws.{holds-front}
+use Rattle.pass_nth.proofs.BehindLaws.{back-behind}
 use Rattle.five.proofs.FiveLaws.{add-all-append, listed-append}
 use Rattle.five.proofs.RootLaws.{sounds-of}
 use Rattle.numbers.specs.Listed.{listedEdge}

@@ -23,6 +23,7 @@ use Rattle.pass_list.proofs.StoredLaws.{length-items}
 use Rattle.pass_edges.specs.InTurn.{through, addedBy, ofKind}
 use Rattle.pass_edges.proofs.InTurnLaws.{above-here, above-later}
 use Rattle.pass_edges.proofs.KindLaws.{added-of-kind, after-kind}
+use Rattle.pass_nth.specs.Nth.{nth}
 use Rattle.edge.specs.Edge.{Edge}
 use Rattle.lattice.specs.declared.Lattice.{Lattice}
 use Rattle.lattice.specs.Lattice.{add, addAll}
@@ -32,9 +33,9 @@ use Rattle.items.specs.Sound.{Sound, Sounds}
 use Rattle.numbers.specs.Listed.{listedEdge}
 use Rattle.five.specs.declared.Passes.{Passes}
 use Rattle.five.specs.declared.Passes.the-variants.{Added, Above}
-use Rattle.five.specs.Nth.{nth}
 use Rattle.five.specs.Five.{listedItems, behind, PassList, OneDone, OneIs, FiveDone, FiveIs}
 use Rattle.five.proofs.FrontLaws.{holds-front}
+use Rattle.five.proofs.KeptLaws.{added-none}
 use Rattle.five.proofs.RootLaws.{after-rooted, every-of-kind, sounds-of, sounds-made, sounds-small, sounds-rooted}
 
 -- ---- the i-th pass
@@ -94,20 +95,29 @@ module _ {w t : List ℕ} {i : ℕ} {s : List ℕ} {n : ℕ} (scalars : Scalars 
           go [] nil = nil
           go (x ∷ l) (cons a b) = cons (let y = nth-kind i h in let z : x .kind < suc (suc i) = omega arith in z) (go l b)
 
+      new-items : ofKind (i + 1) (behind v k) ≡ added (nth i) (behind s n)
+      new-items = ap (λ (j : ℕ). ofKind j (behind v k)) (add-one i) ∙ ap (ofKind (suc i)) after-is ∙ ap (λ (j : ℕ). ofKind j (after (nth i) (behind s n))) (sym (nth-kind i h)) ∙ sym (added-of-kind (nth i) (behind s n) earlier)
+
       -- then the joined edges were added, from v to u
       pub one-added : (l : Lattice) (u : List ℕ) (m : Lattice) → take 39424 v ≡ take 39424 s → length v ≡ length s → drop 39424 u ≡ drop 39424 v
           → ((es : List Edge) → Holds v l es → Holds u m (addAll es (listedItems w t (ofKind (i + 1) (behind v k))))) → OneIs w t i s l n u (Added m k)
       unfolding OneIs
       one-added l u m front long frame g =
           let same : behind u k ≡ behind v k = ap (λ (b : List ℕ). itemsAt b 0 k) frame in
-          let new : ofKind (i + 1) (behind v k) ≡ added (nth i) (behind s n) = ap (λ (j : ℕ). ofKind j (behind v k)) (add-one i) ∙ ap (ofKind (suc i)) after-is ∙ ap (λ (j : ℕ). ofKind j (after (nth i) (behind s n))) (sym (nth-kind i h)) ∙ sym (added-of-kind (nth i) (behind s n) earlier) in
           record {
             below = not-above .0;
             list = same ∙ after-is;
             next = record { sounds = rw same pass-sounds; kinds = rw (same, after-is) kinds-after; few = pass-few };
             joined = rw (added-of-kind (nth i) (behind s n) earlier) (every-of-kind (kindOf (nth i)) (rw after-is at pass-sounds));
-            holds = λ es x. rw (← new) (g es (holds-front s v front long x));
+            holds = λ es x. rw (← new-items) (g es (holds-front s v front long x));
           }
+
+      -- or there are none to add: as many edges as before
+      pub one-kept : (l : Lattice) → take 39424 v ≡ take 39424 s → length v ≡ length s → k ≡ n → OneIs w t i s l n v (Added l k)
+      unfolding addAll
+      one-kept l front long kept =
+          let none-new : ofKind (i + 1) (behind v k) ≡ [] = new-items ∙ added-none (nth i) (behind s n) (sym (not-above .1) ∙ kept ∙ sym (length-items (drop 39424 s) 0 n)) in
+          one-added l v l front long refl (λ es x. rw none-new x)
 
 -- ---- all five in turn
 pub add-all-append : (es cs ds : List Edge) → addAll es (cs ++ ds) ≡ addAll (addAll es cs) ds

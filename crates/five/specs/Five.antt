@@ -14,6 +14,7 @@ use Rattle.pass_list.specs.ItemPass.{after, added, firstAbove}
 use Rattle.pass_list.specs.Stored.{itemsAt}
 use Rattle.pass_list.specs.Edges.{edgeOf}
 use Rattle.pass_edges.specs.InTurn.{through, addedBy}
+use Rattle.pass_nth.specs.Nth.{nth}
 use Rattle.edge.specs.Edge.{Edge}
 use Rattle.lattice.specs.declared.Lattice.{Lattice}
 use Rattle.lattice.specs.Lattice.{addAll}
@@ -22,7 +23,6 @@ use Rattle.items.specs.Sound.{Sounds}
 use Rattle.numbers.specs.Listed.{listedEdge}
 use Rattle.five.specs.declared.Passes.{Passes}
 use Rattle.five.specs.declared.Passes.the-variants.{Added, Above}
-use Rattle.five.specs.Nth.{nth}
 
 abbrev pub listedItems : List ℕ → List ℕ → List Item → List Edge
 listedItems w t l = map listedEdge (map (edgeOf w t) l)

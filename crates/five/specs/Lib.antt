@@ -1,3 +1,2 @@
 -- The passes in the work space.
-pub mod Nth
 pub mod Five

@@ -50,7 +50,7 @@ fn add_if(
     requires { ⌜ ((es : List Edge) × Holds (now w) l es) × Offsets (now line) (now offs) × (length (chars (now line)) ≤ 256) × Sound (chars (now line)) (now table) (itemAt (drop 39424 (now w)) (i * 56)) × (39424 + i * 56 + 56 ≤ length (now w)) ⌝ }
     ensures { λ r. ⌜ (drop 39424 (now (w .exit)) ≡ drop 39424 (now (w .entry))) × ((es : List Edge) → Holds (now (w .entry)) l es → Holds (now (w .exit)) r (addIf (chars (now (line .entry))) (now (table .entry)) kind es (itemAt (drop 39424 (now (w .entry))) (i * 56)))) ⌝ }
 {
-    let x = pass_list::record::get(w, 39424 + i * 56);
+    let x = pass_record::get(w, 39424 + i * 56);
     if x.kind == kind {
         return add_item(w, l, line, offs, table, x);
     }

@@ -1,3 +1,3 @@
--- Laws of the definitions in specs/, for this crate's proofs and its callers'.
+-- Laws of the definitions in specs/, for the proofs of the crates above.
 pub mod NextLaws
 pub mod StoredLaws

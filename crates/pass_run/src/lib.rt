@@ -1,49 +1,13 @@
-// The five passes (01, "Five passes, D1 to G4"; the Rust's numbers.rs), each over the whole list, in place: the chains that ended stand at the list's front, those to come behind the edge that is read.
+// The five passes (01, "Five passes, D1 to G4"; the Rust's numbers.rs), each over the whole list, in place.
 ghost use Prim.Native.Nat.{_*_, _≤_};
 ghost use lib.ListN.{length};
 ghost use Rattle.passes.specs.Passes as passes;
 ghost use Rattle.pass_list.specs.Item.{AllSmall};
 ghost use Rattle.pass_list.specs.Stored.{itemsAt};
-ghost use Rattle.pass_list.specs.Answers.{passOf, PassedIs};
-use pass_chain::next;
-use pass_list::chain::Chain;
-use pass_list::chain::Next;
+ghost use Rattle.pass_list.specs.Answers.{PassedIs};
 use pass_list::chain::Pass;
-use pass_list::record::get;
-use pass_list::record::put;
 use pass_list::run::Passed;
-
-fn run_pass(list: &mut [u8], n: usize, pass: Pass) -> Passed
-    requires { ⌜ (n * 56 ≤ length (now list)) × AllSmall (itemsAt (now list) 0 n) ⌝ }
-    ensures { λ r. ⌜ PassedIs (passOf pass) (itemsAt (now (list .entry)) 0 n) (now (list .exit)) r ⌝ }
-{
-    if n == 0 {
-        return Passed::Edges(0);
-    }
-    let mut chain = Chain::begin(get(list, 0));
-    let mut i: usize = 1;
-    let mut k: usize = 0;
-    while i < n {
-        let e = get(list, i * 56);
-        i += 1;
-        match next(chain, pass, e) {
-            Next::Longer(c) => chain = c,
-            Next::Ends => {
-                let edge = chain.edge;
-                put(list, k * 56, edge);
-                chain = Chain::begin(e);
-                k += 1;
-            }
-            Next::Above => {
-                let start = chain.edge.start;
-                return Passed::Above(start);
-            }
-        }
-    }
-    let edge = chain.edge;
-    put(list, k * 56, edge);
-    Passed::Edges(k + 1)
-}
+use pass_loop::run_pass;
 
 // D1: joins touching digits.
 pub fn apply_d1_digits(list: &mut [u8], n: usize) -> Passed

@@ -215,7 +215,7 @@ pub fn add_signs(
     let mut grown = l;
     let mut i = 0;
     while i < n {
-        let x = pass_list::record::get(&w[list..], i * 56);
+        let x = pass_record::get(&w[list..], i * 56);
         grown = add_item_signs(w, grown, line, offs, table, h, x);
         i += 1;
     }

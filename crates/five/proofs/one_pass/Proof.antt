@@ -1,10 +1,10 @@
--- `five::one_pass` meets its contract: the pass leaves the lattice as it is, and then the items of its kind are added. Assumes nothing.
+-- `five::one_pass` meets its contract: the pass leaves the lattice as it is, and then the items of its kind are added, where there are any. Assumes nothing.
 use borrow.Author.Needs.{needs}
 use mathlib.Core.Path.{_≡_}
 use native.Mathlib.Omega.{arith}
 use Rattle.text.proofs.TextLaws.{chars-scalars}
 use Rattle.five.proofs.FrontLaws.{holds-front}
-use Rattle.five.proofs.FiveLaws.{pass-small, pass-sounds, pass-few, one-above, one-added}
+use Rattle.five.proofs.FiveLaws.{pass-small, pass-sounds, pass-few, one-above, one-added, one-kept}
 use Rattle.five.proofs.one_pass.Statement.{statement}
 use Rattle.five.proofs.one_pass.Tie as tie
 
@@ -20,6 +20,16 @@ enum-known-p c = search needs
 enum-known-k : tie.Need-enum-known-k
 enum-known-k c = search needs
 
+same-length : tie.Need-same-length
+same-length c = search needs
+
+returns : tie.Need-returns
+returns c = let k = c .before .before in
+    let b = k .before .before .before .before in
+    let s = start b in
+    let r = b .pass-behind in
+    one-kept (chars-scalars _) (s .pre .5) (s .pre .4) (r .last .0) (r .ensures .1) (k .k .given .1) (s .args .l) (r .ensures .0) (r .kept .0) (c .if1 .taken)
+
 add-add-of-kind : tie.Need-add-add-of-kind
 add-add-of-kind c = search needs
 
@@ -27,7 +37,7 @@ cast-add-of-kind : tie.Need-cast-add-of-kind
 cast-add-of-kind c = search needs
 
 add-of-kind-requires : tie.Need-add-of-kind-requires
-add-of-kind-requires c κs = let k = c .before .before in
+add-of-kind-requires c κs = let k = c .before .before .before in
     let b = k .before .before .before .before in
     let s = start b in
     let r = b .pass-behind in (
@@ -38,20 +48,20 @@ add-of-kind-requires c κs = let k = c .before .before in
       omega (arith, pass-few (chars-scalars _) (s .pre .5) (s .pre .4) (r .last .0) (r .ensures .1) (k .k .given .1), r .kept .0, s .pre .3),
     )
 
-same-length : tie.Need-same-length
-same-length c = search needs
-
-returns : tie.Need-returns
-returns c = let b = c .before .before .before .before .before in
-    let s = start b in
-    one-above (chars-scalars _) (s .pre .5) (s .pre .4) (b .pass-behind .last .0) (b .pass-behind .ensures .1) _ _ (c .before .p .given .1)
-
 same-length-2 : tie.Need-same-length-2
 same-length-2 c = search needs
 
 returns-2 : tie.Need-returns-2
-returns-2 c = let a = c .before .before in
-    let k = a .before .before .before in
+returns-2 c = let b = c .before .before .before .before .before in
+    let s = start b in
+    one-above (chars-scalars _) (s .pre .5) (s .pre .4) (b .pass-behind .last .0) (b .pass-behind .ensures .1) _ _ (c .before .p .given .1)
+
+same-length-3 : tie.Need-same-length-3
+same-length-3 c = search needs
+
+returns-3 : tie.Need-returns-3
+returns-3 c = let a = c .before .before in
+    let k = a .before .before .before .before in
     let b = k .before .before .before .before in
     let s = start b in
     let r = b .pass-behind in
@@ -64,10 +74,12 @@ one-pass-spec =
     pass-behind-requires
     enum-known-p
     enum-known-k
+    same-length
+    returns
     add-add-of-kind
     cast-add-of-kind
     add-of-kind-requires
-    same-length
-    returns
     same-length-2
-    returns-2)
+    returns-2
+    same-length-3
+    returns-3)

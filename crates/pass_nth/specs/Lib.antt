@@ -1,0 +1,2 @@
+-- The passes by their number.
+pub mod Nth

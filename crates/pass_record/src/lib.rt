@@ -1,0 +1,93 @@
+// The 56 bytes of an edge in the pass list, read and stored. The definitions are those of `pass_list`, specs/Item.antt and specs/Stored.antt.
+ghost use mathlib.Core.Path.{_≡_};
+ghost use Prim.Native.Nat.{_+_, _*_, _≤_};
+ghost use lib.ListN.{length};
+ghost use lib.Seq.{sets};
+ghost use Rattle.pass_list.specs.Item.{Item, numData, EdgeIs, NumIs, Small};
+ghost use Rattle.pass_list.specs.Stored.{digitOf, mapOf, numBytes, recordBytes, itemAt};
+use pass_list::record::NumData;
+use pass_list::record::PassEdge;
+use text::Offset;
+use text::Place;
+
+// The map's bits are the listing's for the fields, and three more for the marks.
+fn num_at(s: &[u8], at: usize) -> NumData
+    requires { ⌜ (at + 56 ≤ length (now s)) × Small (itemAt (now s) at) ⌝ }
+    ensures { λ r. ⌜ r ≡ numData (itemAt (now (s .entry)) at) ⌝ }
+{
+    let map = fields::u16_at(s, at + 6);
+    NumData {
+        value: whole::of_u64(fields::u64_at(s, at + 8)),
+        base_multiplier: whole::of_u64(fields::u64_at(s, at + 24)),
+        base: fields::u64_at(s, at + 16),
+        has_value: map / 2 % 2 == 1,
+        has_base: map / 8 % 2 == 1,
+        has_mult: map / 16 % 2 == 1,
+        has_script: map / 32 % 2 == 1,
+        large_power: map / 64 % 2 == 1,
+        digit: map / 256 % 2 == 1,
+        gap: map / 512 % 2 == 1,
+        cjk: map / 1024 % 2 == 1,
+        script: Offset(fields::u64_at(s, at + 40) as usize),
+        script_len: fields::u64_at(s, at + 48) as usize,
+    }
+}
+
+// The edge that stands at an offset.
+pub fn get(s: &[u8], at: usize) -> PassEdge
+    requires { ⌜ (at + 56 ≤ length (now s)) × Small (itemAt (now s) at) ⌝ }
+    ensures { λ r. ⌜ EdgeIs r (itemAt (now (s .entry)) at) ⌝ }
+{
+    PassEdge {
+        start: Place(fields::u16_at(s, at) as usize),
+        end: Place(fields::u16_at(s, at + 2) as usize),
+        kind: fields::u16_at(s, at + 4),
+        record_at: Offset(fields::u64_at(s, at + 32) as usize),
+        num: num_at(s, at),
+    }
+}
+
+// What a mark adds to the map.
+fn worth(b: bool, of: u16) -> u16
+    ensures { λ r. ⌜ (r ≡ of * digitOf b) × (r ≤ of) ⌝ }
+{
+    if b { of } else { 0 }
+}
+
+fn map_of(n: NumData) -> u16
+    ensures { λ r. ⌜ r ≡ mapOf n ⌝ }
+{
+    worth(n.has_value, 2)
+        + worth(n.has_base, 8)
+        + worth(n.has_mult, 16)
+        + worth(n.has_script, 32)
+        + worth(n.large_power, 64)
+        + worth(n.digit, 256)
+        + worth(n.gap, 512)
+        + worth(n.cjk, 1024)
+}
+
+// The numbers from the value on.
+fn put_num(out: &mut [u8], at: usize, record_at: u64, n: NumData)
+    requires { ⌜ (at + 48 ≤ length (now out)) × ((x : Item) × NumIs n x) ⌝ }
+    ensures { λ _. ⌜ ((x : Item) → NumIs n x → «record_at» ≡ x .record-at → now (out .exit) ≡ sets (now (out .entry)) at (numBytes x)) ⌝ }
+{
+    fields::put_u64(out, at, whole::to_u64(n.value));
+    fields::put_u64(out, at + 8, n.base);
+    fields::put_u64(out, at + 16, whole::to_u64(n.base_multiplier));
+    fields::put_u64(out, at + 24, record_at);
+    fields::put_u64(out, at + 32, n.script.0 as u64);
+    fields::put_u64(out, at + 40, n.script_len as u64);
+}
+
+// Stores an edge at an offset.
+pub fn put(out: &mut [u8], at: usize, e: PassEdge)
+    requires { ⌜ (at + 56 ≤ length (now out)) × ((x : Item) × EdgeIs e x) ⌝ }
+    ensures { λ _. ⌜ ((x : Item) → EdgeIs e x → now (out .exit) ≡ sets (now (out .entry)) at (recordBytes x)) ⌝ }
+{
+    fields::put_u16(out, at, e.start.0 as u16);
+    fields::put_u16(out, at + 2, e.end.0 as u16);
+    fields::put_u16(out, at + 4, e.kind);
+    fields::put_u16(out, at + 6, map_of(e.num));
+    put_num(out, at + 8, e.record_at.0 as u64, e.num);
+}
