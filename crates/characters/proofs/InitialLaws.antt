@@ -24,7 +24,7 @@ use Rattle.pass_edges.proofs.EveryLaws.{every-append}
 use Rattle.pass_edges.proofs.FirstItemsLaws.{first-items-none, first-items-skip, first-items-more}
 use Rattle.items.specs.Sound.{Rooted}
 use Rattle.characters.specs.CharItem.{charItem}
-use Rattle.characters.specs.Index.{FoundAt}
+use Rattle.char_index.specs.Index.{FoundAt}
 use Rattle.characters.specs.Initial.{Checked, SoFar, Initial}
 use Rattle.characters.proofs.CharLaws.{legal-parts, char-edge-is, char-made, char-kind, char-small}
 use Rattle.characters.proofs.LegalLaws.{table-lawful, found-lawful}

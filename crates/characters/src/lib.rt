@@ -1,8 +1,6 @@
 // The edges of a line's characters before the passes (01, "From characters to edges"; the Rust's numbers.rs): the pass list before D1, one edge for each
 // character of the line that has a record, in line order.
 mod character; // character.rt: the edge of one character, from its record
-mod lookup; // lookup.rt: the record of a character, by an index over the records
-mod walk; // walk.rt: the offset behind a record
 
 ghost use mathlib.Core.Path.{_≡_};
 ghost use mathlib.Core.List.{List};
@@ -11,17 +9,17 @@ ghost use lib.ListN.{length, getD};
 ghost use lib.Seq.{sets};
 ghost use Rattle.text.specs.Text.{chars, Scalars};
 ghost use Rattle.dicts.specs.Answers.{tableOf, Inside};
+ghost use Rattle.char_index.specs.Index.{Indexed};
 ghost use Rattle.pass_list.specs.Item.{Small, Fits};
 ghost use Rattle.pass_list.specs.Stored.{recordBytes};
 ghost use Rattle.stages.specs.Ready.{Ready};
 ghost use Rattle.characters.specs.CharItem.{charItem};
-ghost use Rattle.characters.specs.Index.{Indexed};
 ghost use Rattle.characters.specs.Initial.{Checked, SoFar, Initial};
 use crate::character::char_edge;
-use crate::lookup::CharRecord;
-use crate::lookup::Rest;
-use crate::lookup::find_char;
-use crate::lookup::index_records;
+use char_index::CharRecord;
+use char_index::Rest;
+use char_index::find_char;
+use char_index::index_records;
 use dicts::layout::NumProp;
 use dicts::shape::Shape;
 use pass_list::record::put;

@@ -1,7 +1,7 @@
 -- `add_char` meets its contract: a character with a record has its item behind the others, one without has none.
 use native.Mathlib.Omega.{arith}
 use Rattle.dicts.specs.Answers.{tableOf}
-use Rattle.characters.proofs.IndexLaws.{found-told, nothing-told}
+use Rattle.char_index.proofs.IndexLaws.{found-told, nothing-told}
 use Rattle.characters.proofs.InitialLaws.{records-rise, found-small, so-far-skip, so-far-more}
 use borrow.Author.Needs.{needs}
 use Rattle.characters.proofs.add_char.Statement.{statement}
