@@ -16,7 +16,7 @@ use borrow.Author.Tests.{leb-true, eq-eqb, ne-eqb}
 use Rattle.fields.specs.Fields.{leAt}
 use Rattle.text.proofs.RowLaws.{and-true}
 use Rattle.dicts.specs.Table.{Record, find}
-use Rattle.dicts.specs.Layout.{Field, Is, Fault, thenField, number, text, optional, bit, recordWith, readNumbers, readFields, readRecord, recordsAt}
+use Rattle.dicts.specs.Layout.{Field, Is, Fault, readRecord, recordsAt}
 use Rattle.dicts.specs.Check.{rising}
 use Rattle.dicts.specs.Answers.{recordOf, recordField, RecordWithin, Inside}
 use Rattle.dicts.specs.declared.layout.NumProp.{NumProp}
@@ -24,7 +24,9 @@ use Rattle.dicts.specs.declared.layout.RecordAt.{RecordAt}
 use Rattle.dicts.specs.declared.layout.RecordAt.the-variants as RecordAt
 use Rattle.dicts.proofs.LayoutLaws.{many-nil, many-fault, many-cons}
 use Rattle.dicts.proofs.LookupLaws.{rising-lower, drop-stops, found-other}
-use Rattle.char_index.specs.Index.{FoundAt, FoundIs, Tail, Ahead, Entry, strideOf, Indexed, Growing}
+use Rattle.char_index.specs.Walk.{Stands}
+use Rattle.char_index.proofs.WalkLaws.{record-begins}
+use Rattle.char_index.specs.Index.{FoundAt, FoundIs, Whole, Tail, Ahead, Entry, strideOf, Indexed, Growing}
 use Rattle.char_index.specs.declared.Index.{Index}
 use Rattle.char_index.specs.declared.CharRecord.{CharRecord}
 use Rattle.char_index.specs.declared.CharRecord.the-variants.{At, Nothing}
@@ -57,43 +59,6 @@ module _ (t : List ℕ) (at : ℕ) {x : RecordAt} (is : recordField t x ≡ read
 pub record-inside : (t : List ℕ) {x : RecordAt} {p : NumProp} → RecordWithin t x → x ≡ RecordAt.Record p → Inside t p
 record-inside t h e = rw e at h
 
--- ---- a record begins with its code point
-record ThenIs {A B : Type 0} (f : Field A) (k : A → ℕ → Field B) (b : B) (end : ℕ) : Type 0 where
-  value : A
-  next : ℕ
-  first : f ≡ Is value next
-  rest : k value next ≡ Is b end
-
-then-is : {A B : Type 0} (f : Field A) (k : A → ℕ → Field B) {b : B} {end : ℕ} → thenField f k ≡ Is b end → ThenIs f k b end
-then-is (Is a next) k e = record { value = a; next = next; first = refl; rest = e }
-then-is Fault k e = let z : _≡_ {A = ℕ} 0 1 = cc in absurd (omega arith)
-
-fields-code : (code m : ℕ) (s : List ℕ) (at : ℕ) {r : Record} {end : ℕ} → readFields code m s at ≡ Is r end → r .code-point ≡ code
-unfolding readFields
-fields-code code m s at {r} {end} e =
-    let type = then-is (text s at) _ e in
-    let rom = then-is (optional (bit m 0) text s (type .next)) _ (type .rest) in
-    let numbers = then-is (readNumbers m s (rom .next)) _ (rom .rest) in
-    let script = then-is (optional (bit m 5) text s (numbers .next)) _ (numbers .rest) in
-    let q : recordWith code m (type .value) (rom .value) (numbers .value) (script .value) ≡ r = cc in
-    ap (λ (x : Record). x .code-point) (sym q)
-
-with-map : (code m : ℕ) (s : List ℕ) (at : ℕ) (b : Bool) {r : Record} {end : ℕ} → cond b (readFields code m s at) Fault ≡ Is r end → r .code-point ≡ code
-with-map code m s at true e = fields-code code m s at e
-with-map code m s at false e = let z : _≡_ {A = ℕ} 0 1 = cc in absurd (omega arith)
-
-record-begins : (s : List ℕ) (at : ℕ) {r : Record} {end : ℕ} → readRecord s at ≡ Is r end → (at + 4 ≤ length s) × (r .code-point ≡ leAt s at 4)
-unfolding readRecord number
-record-begins s from {r} {end} e = go (leb (from + 4) (length s)) refl e
-  where
-    go : (b : Bool) → leb (from + 4) (length s) ≡ b
-        → thenField (cond b (Is (leAt s from 4) (from + 4)) Fault) (λ code at. thenField (number 1 s at) (λ m at. cond (ltb m 128) (readFields code m s at) Fault)) ≡ Is r end
-        → (from + 4 ≤ length s) × (r .code-point ≡ leAt s from 4)
-    go true h f =
-        let map = then-is (number 1 s (from + 4)) (λ m at. cond (ltb m 128) (readFields (leAt s from 4) m s at) Fault) f in
-        (leb-true _ _ h, with-map (leAt s from 4) (map .value) s (map .next) (ltb (map .value) 128) (map .rest))
-    go false h f = let z : _≡_ {A = ℕ} 0 1 = cc in absurd (omega arith)
-
 -- ---- the records from an offset on
 module _ (t : List ℕ) (left at : ℕ) where
   pub rest-none : left ≤ 0 → recordsAt left t at ≡ []
@@ -104,6 +69,22 @@ module _ (t : List ℕ) (left at : ℕ) where
 
   rest-cons : {r : Record} {next : ℕ} → readRecord t at ≡ Is r next → 0 < left → recordsAt left t at ≡ r ∷ recordsAt (left - 1) t next
   rest-cons reads h = sym (many-cons readRecord t at left (λ e. omega arith) reads)
+
+  module _ (full : length (recordsAt left t at) ≡ left) (some-left : 0 < left) where
+    -- none of so many records is at fault
+    pub full-stands : (next : ℕ) × Stands t at next
+    full-stands = go (readRecord t at) refl
+      where
+        go : (f : Field Record) → readRecord t at ≡ f → (next : ℕ) × Stands t at next
+        go (Is r next) e = (next, record { prop = r; reads = e })
+        go Fault e = absurd (omega (arith, ap length (rest-fault e)))
+
+    -- its code point is there
+    pub full-begins : at + 4 ≤ length t
+    full-begins = record-begins t at (full-stands .1 .reads) .0
+
+    full-next : {r : Record} {next : ℕ} → readRecord t at ≡ Is r next → length (recordsAt (left - 1) t next) ≡ left - 1
+    full-next reads = omega (arith, ap length (rest-cons reads some-left))
 
 -- ---- a turn of `find_from`
 module _ (t : List ℕ) (rs : List Record) (c at left : ℕ) (a : Ahead t rs c at left) where
@@ -119,7 +100,7 @@ module _ (t : List ℕ) (rs : List Record) (c at left : ℕ) (a : Ahead t rs c a
       behind = recordsAt (left - 1) t next
 
       rises-here : rising 0 (r ∷ behind) ≡ true
-      rises-here = rw (← rest-cons t left at reads some-left) (a .rises)
+      rises-here = rw (← rest-cons t left at reads some-left) (a .whole .rises)
 
       finds-here : find (r ∷ behind) c ≡ find rs c
       finds-here = rw (← rest-cons t left at reads some-left) (a .finds)
@@ -132,7 +113,10 @@ module _ (t : List ℕ) (rs : List Record) (c at left : ℕ) (a : Ahead t rs c a
 
       pub turn-next : (leAt t at 4 ≡ c → ⊥) → Ahead t rs c next (left - 1)
       turn-next n = record {
-        rises = rising-lower 0 (r .code-point + 1) behind (omega arith) (rising-parts 0 r behind rises-here .1);
+        whole = record {
+          full = full-next t left at (a .whole .full) some-left reads;
+          rises = rising-lower 0 (r .code-point + 1) behind (omega arith) (rising-parts 0 r behind rises-here .1);
+        };
         finds = sym (find-behind c r behind (λ e. n (sym (record-begins t at reads .1) ∙ e))) ∙ finds-here;
       }
 
@@ -154,6 +138,7 @@ module _ (t : List ℕ) (rs : List Record) (at left least : ℕ) (a : Tail t rs 
 
   pub tail-next : Tail t rs next (left - 1) (r .code-point + 1)
   tail-next = record {
+    full = full-next t left at (a .full) some-left reads;
     rises = rises-from .1;
     finds = λ c h.
         let low = rises-from .0 in
@@ -167,8 +152,8 @@ module _ (t : List ℕ) (rs : List Record) (at left least : ℕ) (a : Tail t rs 
       let begins = record-begins t at reads in
       record { least = least; tail = a; there = begins .0; low = rw (← begins .1) (rises-from .0) }
 
-pub tail-all : (t : List ℕ) (at left : ℕ) → rising 0 (recordsAt left t at) ≡ true → Tail t (recordsAt left t at) at left 0
-tail-all t at left h = record { rises = h; finds = λ c k. refl }
+pub tail-all : (t : List ℕ) (at left : ℕ) → Whole t at left → Tail t (recordsAt left t at) at left 0
+tail-all t at left h = record { full = h .full; rises = h .rises; finds = λ c k. refl }
 
 -- ---- the index
 pub index-none : (t : List ℕ) (rs : List Record) (os : List ℕ) (all : ℕ) → length os ≡ 256 → Growing t rs os all (record { n = 0; due = all })
@@ -222,10 +207,10 @@ pub index-ahead : (t : List ℕ) (rs : List Record) (os : List ℕ) (all n : ℕ
 index-ahead t rs os all n x i c at h a k =
     let e : Entry t rs at (all - i * strideOf all) = rw a (x .entries i h) in
     let low = e .low in
-    record { rises = rising-lower 0 (e .least) _ (omega arith) (e .tail .rises); finds = e .tail .finds c (omega arith) }
+    record { whole = record { full = e .tail .full; rises = rising-lower 0 (e .least) _ (omega arith) (e .tail .rises) }; finds = e .tail .finds c (omega arith) }
 
-pub ahead-all : (t : List ℕ) (c at left : ℕ) → rising 0 (recordsAt left t at) ≡ true → Ahead t (recordsAt left t at) c at left
-ahead-all t c at left h = record { rises = h; finds = refl }
+pub ahead-all : (t : List ℕ) (c at left : ℕ) → Whole t at left → Ahead t (recordsAt left t at) c at left
+ahead-all t c at left h = record { whole = h; finds = refl }
 
 -- what is found from there on is found among all
 pub found-ahead : (t : List ℕ) (rs : List Record) (c at left : ℕ) (r : CharRecord) → Ahead t rs c at left → FoundIs t (recordsAt left t at) c r → FoundIs t rs c r

@@ -1,8 +1,9 @@
 -- The record of a character among the records rs of the table t, and an index over them. Definitions only.
 --     FoundAt t rs c p at      the code point c has a record in rs, which is p and stands at the offset at
 --     FoundIs t rs c r         the answer r says which record c has, or that it has none
---     Tail t rs at left least  the records from the offset at on, left of them, rise from least on, and have the records of rs for code points from least on
---     Ahead t rs c at left     c has among the records from at on the record that it has in rs
+--     Whole t at left          from the offset at on there are left records, and they rise
+--     Tail t rs at left least  there are left records from the offset at on; they rise from least on, and have the records of rs for code points from least on
+--     Ahead t rs c at left     a Whole begins at the offset at, and c has there the record that it has in rs
 --     Entry t rs at left       an entry of the index: a record stands at the offset at, and a Tail begins there, for code points from this record's on
 --     strideOf all             from one entry of the index to the next there are so many of all records
 --     Indexed t rs os all n    the index over rs, which are all records, has n entries: their offsets os; the i-th is record number i * strideOf all
@@ -33,12 +34,17 @@ abbrev pub FoundIs : List ℕ → List Record → ℕ → CharRecord → Type 0
 FoundIs t rs c (At p at) = FoundAt t rs c p at
 FoundIs t rs c Nothing = find rs c ≡ none
 
+pub record Whole (t : List ℕ) (at left : ℕ) : Type 0 where
+  pub full : length (recordsAt left t at) ≡ left
+  pub rises : rising 0 (recordsAt left t at) ≡ true
+
 pub record Tail (t : List ℕ) (rs : List Record) (at left least : ℕ) : Type 0 where
+  pub full : length (recordsAt left t at) ≡ left
   pub rises : rising least (recordsAt left t at) ≡ true
   pub finds : (c : ℕ) → least ≤ c → find (recordsAt left t at) c ≡ find rs c
 
 pub record Ahead (t : List ℕ) (rs : List Record) (c at left : ℕ) : Type 0 where
-  pub rises : rising 0 (recordsAt left t at) ≡ true
+  pub whole : Whole t at left
   pub finds : find (recordsAt left t at) c ≡ find rs c
 
 pub record Entry (t : List ℕ) (rs : List Record) (at left : ℕ) : Type 0 where

@@ -4,15 +4,12 @@
 mod walk; // walk.rt: the offset behind a record
 
 ghost use mathlib.Core.Path.{_≡_};
-ghost use mathlib.Core.Bool.{true};
 ghost use mathlib.Core.List.{List};
 ghost use Prim.Native.Nat.{ℕ, _-_, _<_};
 ghost use lib.ListN.{length};
 ghost use Rattle.dicts.specs.Table.{Record};
 ghost use Rattle.dicts.specs.Layout.{recordsAt};
-ghost use Rattle.dicts.specs.Check.{rising};
-ghost use Rattle.char_index.specs.Index.{FoundIs, Entry, strideOf, Indexed, Growing, Ahead};
-use crate::walk::Next;
+ghost use Rattle.char_index.specs.Index.{FoundIs, Entry, strideOf, Indexed, Growing, Whole, Ahead};
 use crate::walk::record_end;
 use dicts::layout::NumProp;
 use dicts::layout::RecordAt;
@@ -38,18 +35,12 @@ pub enum CharRecord {
 
 // The record of a character, by a walk that ends at the first code point above it. Only the character's own record is read whole.
 fn find_from(table: &[u8], from: Rest, c: u32) -> CharRecord
-    requires { ⌜ rising 0 (recordsAt (from .left) (now table) (from .at)) ≡ true ⌝ }
+    requires { ⌜ Whole (now table) (from .at) (from .left) ⌝ }
     ensures { λ r. ⌜ FoundIs (now (table .entry)) (recordsAt (from .left) (now (table .entry)) (from .at)) c r ⌝ }
 {
     let mut at = from.at;
     let mut left = from.left;
     while 0 < left {
-        if table.len() <= at {
-            return CharRecord::Nothing;
-        }
-        if table.len() - at < 4 {
-            return CharRecord::Nothing;
-        }
         let code = fields::u32_at(table, at);
         if code == c {
             let RecordAt::Record(p) = record_at(table, at) else {
@@ -60,10 +51,7 @@ fn find_from(table: &[u8], from: Rest, c: u32) -> CharRecord
         if c < code {
             return CharRecord::Nothing;
         }
-        let Next::At(next) = record_end(table, at) else {
-            return CharRecord::Nothing;
-        };
-        at = next;
+        at = record_end(table, at);
         left -= 1;
     }
     CharRecord::Nothing
@@ -106,7 +94,7 @@ fn enter(offs: &mut [u32; 256], index: Index, stride: usize, here: Rest) -> Inde
 
 // Makes the index: the offset of every stride-th record. Gives the index's length. An offset that takes more than 32 bits ends it.
 pub fn index_records(table: &[u8], all: Rest, offs: &mut [u32; 256]) -> usize
-    requires { ⌜ (rising 0 (recordsAt (all .left) (now table) (all .at)) ≡ true) × (length (now offs) ≡ 256) ⌝ }
+    requires { ⌜ Whole (now table) (all .at) (all .left) × (length (now offs) ≡ 256) ⌝ }
     ensures { λ r. ⌜ Indexed (now (table .entry)) (recordsAt (all .left) (now (table .entry)) (all .at)) (now (offs .exit)) (all .left) r ⌝ }
 {
     let stride = stride_of(all.left);
@@ -117,14 +105,11 @@ pub fn index_records(table: &[u8], all: Rest, offs: &mut [u32; 256]) -> usize
         due: all.left,
     };
     while 0 < left {
-        let Next::At(next) = record_end(table, at) else {
-            return index.n;
-        };
         if 0xFFFF_FFFF < at {
             return index.n;
         }
         index = enter(offs, index, stride, Rest { at: at, left: left });
-        at = next;
+        at = record_end(table, at);
         left -= 1;
     }
     index.n
@@ -132,7 +117,7 @@ pub fn index_records(table: &[u8], all: Rest, offs: &mut [u32; 256]) -> usize
 
 // From where to look for a character: the last record of the index that is not above it, by halving; all records where there is none.
 fn indexed(table: &[u8], all: Rest, offs: &[u32; 256], n: usize, c: u32) -> Rest
-    requires { ⌜ (rising 0 (recordsAt (all .left) (now table) (all .at)) ≡ true) × Indexed (now table) (recordsAt (all .left) (now table) (all .at)) (now offs) (all .left) n ⌝ }
+    requires { ⌜ Whole (now table) (all .at) (all .left) × Indexed (now table) (recordsAt (all .left) (now table) (all .at)) (now offs) (all .left) n ⌝ }
     ensures { λ r. ⌜ Ahead (now (table .entry)) (recordsAt (all .left) (now (table .entry)) (all .at)) c (r .at) (r .left) ⌝ }
 {
     let stride = stride_of(all.left);
@@ -157,7 +142,7 @@ fn indexed(table: &[u8], all: Rest, offs: &[u32; 256], n: usize, c: u32) -> Rest
 
 // The record of a character among all records, whose index has n entries.
 pub fn find_char(table: &[u8], all: Rest, offs: &[u32; 256], n: usize, c: u32) -> CharRecord
-    requires { ⌜ (rising 0 (recordsAt (all .left) (now table) (all .at)) ≡ true) × Indexed (now table) (recordsAt (all .left) (now table) (all .at)) (now offs) (all .left) n ⌝ }
+    requires { ⌜ Whole (now table) (all .at) (all .left) × Indexed (now table) (recordsAt (all .left) (now table) (all .at)) (now offs) (all .left) n ⌝ }
     ensures { λ r. ⌜ FoundIs (now (table .entry)) (recordsAt (all .left) (now (table .entry)) (all .at)) c r ⌝ }
 {
     let from = indexed(table, all, offs, n, c);

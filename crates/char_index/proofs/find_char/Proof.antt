@@ -8,7 +8,7 @@ indexed-requires : tie.Need-indexed-requires
 indexed-requires c κs = search needs
 
 find-from-requires : tie.Need-find-from-requires
-find-from-requires c κs = c .indexed .ensures .rises
+find-from-requires c κs = c .indexed .ensures .whole
 
 returns : tie.Need-returns
 returns c = found-ahead _ _ _ _ _ (c .find-from .result) (c .before .indexed .ensures) (c .find-from .ensures)

@@ -1,12 +1,11 @@
 -- `index_records` meets its contract. The loop's invariant: the index is being made, and the records that are left are a tail of all. The measure is how
 -- many are left.
-use mathlib.Core.Path.{sym, _∙_}
+use mathlib.Core.Path.{sym}
 use native.Mathlib.Omega.{arith}
 use Prim.Native.Nat.{ℕ}
-use Rattle.dicts.specs.Layout.{readRecord, recordsAt}
+use Rattle.dicts.specs.Layout.{recordsAt}
 use Rattle.char_index.specs.Index.{Growing, Tail}
-use Rattle.char_index.proofs.WalkLaws.{read-next}
-use Rattle.char_index.proofs.IndexLaws.{index-none, due-room, tail-all, tail-next, tail-entry}
+use Rattle.char_index.proofs.IndexLaws.{index-none, due-room, full-stands, tail-all, tail-next, tail-entry}
 use borrow.Author.Needs.{needs}
 use Rattle.char_index.proofs.index_records.Statement.{statement}
 use Rattle.char_index.proofs.index_records.Tie as tie
@@ -24,25 +23,16 @@ stride-of-requires c κs = search needs
 loop-holds : tie.Need-loop-holds Inv-loop μ-loop
 loop-holds c = let pre = c .before .before .pre in (index-none _ _ _ _ (pre .1), (0, tail-all _ _ _ (pre .0)))
 
-record-end-requires : tie.Need-record-end-requires Inv-loop μ-loop
-record-end-requires c κs = search needs
-
-enum-known-next : tie.Need-enum-known-next Inv-loop μ-loop
-enum-known-next c = search needs
-
-enum-told : tie.Need-enum-told Inv-loop μ-loop
-enum-told c = search needs
-
 returns : tie.Need-returns Inv-loop μ-loop
-returns c = c .before .before .before .before .loop .inv .0 .made
-
-returns-2 : tie.Need-returns-2 Inv-loop μ-loop
-returns-2 c = c .before .before .before .before .before .before .loop .inv .0 .made
+returns c = c .before .before .loop .inv .0 .made
 
 enter-requires : tie.Need-enter-requires Inv-loop μ-loop
 enter-requires c κs =
-    let l = c .before .before .before .before .before .before in
+    let l = c .before .before in
     (omega arith, λ due. due-room _ _ _ _ _ (l .before .loop .inv .0) _ due (l .loop-test .taken))
+
+record-end-requires : tie.Need-record-end-requires Inv-loop μ-loop
+record-end-requires c κs = let l = c .before .before .before in full-stands _ _ _ (l .before .loop .inv .1 .1 .full) (l .loop-test .taken)
 
 sub-left : tie.Need-sub-left Inv-loop μ-loop
 sub-left c = search needs
@@ -52,16 +42,17 @@ loop-less c = search needs
 
 loop-again : tie.Need-loop-again Inv-loop μ-loop
 loop-again c =
-    let k = c .before .before .before in
-    let a = k .before .before .before in
-    let l = a .before .before in
-    let reads = read-next (readRecord (l .before .before .before .args .table .now) (l .loop .at)) (sym (k .before .next .given .1) ∙ a .record-end .ensures) in
-    let some-left = a .before .loop-test .taken in
-    let entry = tail-entry _ _ _ _ _ (l .loop .inv .1 .1) _ _ (reads .1) some-left in
-    (c .enter .ensures _ _ _ (sym (l .before .stride-of .ensures)) some-left entry (l .loop .inv .0), (_, tail-next _ _ _ _ _ (l .loop .inv .1 .1) _ _ (reads .1) some-left))
+    let e = c .before in
+    let i = e .before .before .before in
+    let l = i .before in
+    let reads = c .record-end .ensures .reads in
+    let entry = tail-entry _ _ _ _ _ (l .loop .inv .1 .1) _ _ reads (i .loop-test .taken) in (
+      e .enter .ensures _ _ _ (sym (l .before .stride-of .ensures)) (i .loop-test .taken) entry (l .loop .inv .0),
+      (_, tail-next _ _ _ _ _ (l .loop .inv .1 .1) _ _ reads (i .loop-test .taken)),
+    )
 
-returns-3 : tie.Need-returns-3 Inv-loop μ-loop
-returns-3 c = c .before .loop .inv .0 .made
+returns-2 : tie.Need-returns-2 Inv-loop μ-loop
+returns-2 c = c .before .loop .inv .0 .made
 
 pub index-records-spec : {M : Type 1} → statement M
 index-records-spec =
@@ -71,13 +62,10 @@ index-records-spec =
     μ-loop
     stride-of-requires
     loop-holds
-    record-end-requires
-    enum-known-next
-    enum-told
     returns
-    returns-2
     enter-requires
+    record-end-requires
     sub-left
     loop-less
     loop-again
-    returns-3)
+    returns-2)
