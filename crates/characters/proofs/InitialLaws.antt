@@ -1,6 +1,6 @@
 -- Laws of the pass list before D1 (`specs/Initial.antt`), for a loop over the line. No contract cites this file.
--- In order: what the table's check gives; no character; one character more, without and with a record; the end of the line.
-use mathlib.Core.Path.{_≡_, ap, _∙_}
+-- In order: the records by the table's count; what the table's check gives; no character; one character more, without and with a record; the end of the line.
+use mathlib.Core.Path.{_≡_, sym, ap, _∙_}
 use mathlib.Core.Bool.{true}
 use mathlib.Core.List.{List, [], _∷_, _++_}
 use mathlib.Core.Option.{none}
@@ -10,71 +10,91 @@ use lib.ListN.{length, getD, drop}
 use lib.Seq.{sets}
 use Rattle.text.specs.Text.{chars, Scalars}
 use Rattle.text.proofs.PlaceLaws.{Reached, reached-count}
-use Rattle.dicts.specs.Table.{find}
+use Rattle.fields.specs.Fields.{leAt}
+use Rattle.dicts.specs.Table.{Record, find}
 use Rattle.dicts.specs.Layout.{numbersIn, recordsAt}
-use Rattle.dicts.specs.Check.{rising, legalNumbers, digitRule}
+use Rattle.dicts.specs.Check.{Fine, readTable, legalNumbers, digitRule}
 use Rattle.dicts.specs.Answers.{recordOf, tableOf}
 use Rattle.dicts.specs.declared.shape.Shape.{Shape}
 use Rattle.dicts.specs.declared.layout.NumProp.{NumProp}
 use Rattle.dicts.proofs.LookupLaws.{table-rises}
-use Rattle.pass_list.specs.Item.{Small, Fits, nil, cons}
+use Rattle.char_index.specs.Index.{FoundAt, Whole}
+use Rattle.char_index.specs.declared.Rest.{Rest}
+use Rattle.pass_list.specs.Item.{Every, Small, Fits, nil, cons}
 use Rattle.pass_list.specs.Stored.{recordBytes, itemsAt}
 use Rattle.pass_list.proofs.StoredLaws.{items-put}
 use Rattle.pass_edges.proofs.EveryLaws.{every-append}
 use Rattle.pass_edges.proofs.FirstItemsLaws.{first-items-none, first-items-skip, first-items-more}
 use Rattle.items.specs.Sound.{Rooted}
 use Rattle.characters.specs.CharItem.{charItem}
-use Rattle.characters.specs.Index.{FoundAt}
-use Rattle.characters.specs.Initial.{Checked, SoFar, Initial}
+use Rattle.characters.specs.Initial.{recordsIn, Records, SoFar, Initial}
 use Rattle.characters.proofs.CharLaws.{legal-parts, char-edge-is, char-made, char-kind, char-small}
-use Rattle.characters.proofs.LegalLaws.{table-lawful, found-lawful}
+use Rattle.characters.proofs.LegalLaws.{Lawful, table-told, records-first, found-lawful}
 use Rattle.characters.proofs.RootLaws.{char-rooted}
 
--- ---- what the table's check gives
-module _ (t : List ℕ) (h : Shape) (ok : Checked t h) where
-  pub records-rise : rising 0 (recordsAt (h .count) t (h .records)) ≡ true
-  unfolding tableOf
-  records-rise = table-rises t ok
+-- ---- the records of a checked table, by the count that it begins with
+module _ (t : List ℕ) (h : Shape) (ok : readTable t ≡ Fine (tableOf t h) (length t)) {left : ℕ} (count : left ≡ leAt t 0 2) where
+  said-count : length (tableOf t h .records) ≡ left
+  said-count = table-told t ok .counted ∙ sym count
 
-  module _ (c : ℕ) (p : NumProp) (at : ℕ) (f : FoundAt t (tableOf t h .records) c p at) where
+  said-same : recordsAt left t (h .records) ≡ tableOf t h .records
+  unfolding tableOf
+  said-same = rw (← said-count) (records-first (h .count) t (h .records))
+
+  pub said-records : Records t (record { at = h .records; left = left })
+  said-records = record { table = tableOf t h; checked = ok; these = sym said-same; full = ap length said-same ∙ said-count }
+
+  pub said-initial : (line : List ℕ) {s : List ℕ} {n : ℕ} → SoFar (chars line) t (recordsAt left t (h .records)) (length (chars line)) s n → Initial line t h s n
+  said-initial line so = rw (← said-same) so
+
+-- ---- what the table's check gives
+module _ (t : List ℕ) (all : Rest) (ok : Records t all) where
+  pub records-whole : Whole t (all .at) (all .left)
+  records-whole = record { full = ok .full; rises = rw (← (ok .these)) (table-rises t (ok .checked)) }
+
+  each-lawful : Every Lawful (recordsIn t all)
+  each-lawful = rw (← (ok .these)) (table-told t (ok .checked) .lawful)
+
+  module _ (c : ℕ) (p : NumProp) (at : ℕ) (f : FoundAt t (recordsIn t all) c p at) where
     legal : (legalNumbers (numbersIn (recordOf t p)) ≡ true) × (digitRule (recordOf t p) ≡ true)
-    legal = let l = found-lawful (tableOf t h .records) c (table-lawful t ok) (f .found) in legal-parts (l .0) (recordOf t p) (l .1)
+    legal = let l = found-lawful (recordsIn t all) c each-lawful (f .found) in legal-parts (l .0) (recordOf t p) (l .1)
 
     found-rooted : (i : ℕ) → Rooted t (charItem t p at i c)
     found-rooted i =
-        let l = found-lawful (tableOf t h .records) c (table-lawful t ok) (f .found) in
-        char-rooted t (tableOf t h .records) c p at (l .0) f (l .1) (legal .0) i
+        let l = found-lawful (recordsIn t all) c each-lawful (f .found) in
+        char-rooted t (recordsIn t all) c p at (l .0) f (l .1) (legal .0) i
 
     pub found-small : (i : ℕ) → Small (charItem t p at i c)
     found-small i = char-small t p at i c (legal .0)
 
   -- ---- a turn: s begins with the n items of the characters before place k, where c stands
-  module _ (w : List ℕ) (scalars : Scalars w) (k c n : ℕ) (s : List ℕ) (inside : k < length w) (here : getD w k 0 ≡ c) (so : SoFar w t h k s n) where
-    pub so-far-skip : find (tableOf t h .records) c ≡ none → SoFar w t h (k + 1) s n
+  module _ (w : List ℕ) (scalars : Scalars w) (k c n : ℕ) (s : List ℕ) (inside : k < length w) (here : getD w k 0 ≡ c) (so : SoFar w t (recordsIn t all) k s n) where
+    pub so-far-skip : find (recordsIn t all) c ≡ none → SoFar w t (recordsIn t all) (k + 1) s n
     so-far-skip e =
         let few = so .few in
-        record { items = first-items-skip w t (tableOf t h .records) k c (itemsAt s 0 n) inside here (so .items) e; few = omega arith; small = so .small; rooted = so .rooted }
+        record { items = first-items-skip w t (recordsIn t all) k c (itemsAt s 0 n) inside here (so .items) e; few = omega arith; small = so .small; rooted = so .rooted }
 
-    pub so-far-more : (p : NumProp) (at : ℕ) (u : List ℕ) → FoundAt t (tableOf t h .records) c p at → Fits (charItem t p at k c) → n * 56 + 56 ≤ length s
-        → u ≡ sets s (n * 56) (recordBytes (charItem t p at k c)) → SoFar w t h (k + 1) u (n + 1)
+    pub so-far-more : (p : NumProp) (at : ℕ) (u : List ℕ) → FoundAt t (recordsIn t all) c p at → Fits (charItem t p at k c) → n * 56 + 56 ≤ length s
+        → u ≡ sets s (n * 56) (recordBytes (charItem t p at k c)) → SoFar w t (recordsIn t all) (k + 1) u (n + 1)
     so-far-more p at u f fits long e =
         let few = so .few in
         let x = charItem t p at k c in
         let put : itemsAt u 0 (n + 1) ≡ itemsAt s 0 n ++ (x ∷ []) = ap (λ (l : List ℕ). itemsAt l 0 (n + 1)) e ∙ items-put s n x fits long in
         record {
-          items = rw put (first-items-more w t (tableOf t h .records) k c (itemsAt s 0 n) inside here (so .items) (recordOf t p) x (f .found)
+          items = rw put (first-items-more w t (recordsIn t all) k c (itemsAt s 0 n) inside here (so .items) (recordOf t p) x (f .found)
               (char-edge-is w t p at k c inside here (f .reads)) (char-made w t p at k c inside here (f .reads) scalars (legal c p at f .1)) (char-kind t p at k c));
           few = omega arith;
           small = rw put (every-append Small (itemsAt s 0 n) (x ∷ []) (so .small) (cons (fits .small) nil));
           rooted = rw put (every-append (Rooted t) (itemsAt s 0 n) (x ∷ []) (so .rooted) (cons (found-rooted c p at f k) nil));
         }
 
-pub so-far-none : (w t : List ℕ) (h : Shape) (s : List ℕ) → SoFar w t h 0 s 0
+pub so-far-none : (w t : List ℕ) (rs : List Record) (s : List ℕ) → SoFar w t rs 0 s 0
 unfolding itemsAt
-so-far-none w t h s = record { items = first-items-none w t (tableOf t h .records); few = omega arith; small = nil; rooted = nil }
+so-far-none w t rs s = record { items = first-items-none w t rs; few = omega arith; small = nil; rooted = nil }
 
 -- the line ends at place k
-pub so-far-all : (line t : List ℕ) (h : Shape) (k at n : ℕ) (s : List ℕ) → Reached line k at → chars (drop at line) ≡ [] → SoFar (chars line) t h k s n → Initial line t h s n
-so-far-all line t h k at n s r e so =
+pub so-far-all : (line t : List ℕ) (rs : List Record) (k at n : ℕ) (s : List ℕ) → Reached line k at → chars (drop at line) ≡ [] → SoFar (chars line) t rs k s n
+    → SoFar (chars line) t rs (length (chars line)) s n
+so-far-all line t rs k at n s r e so =
     let all : length (chars line) ≡ k = omega (arith, reached-count line k at r, ap length e) in
     rw all so

@@ -1,16 +1,19 @@
 -- What the table's check (dicts/specs/Check.antt) says of each record, and so of the one that is found for a character. No contract cites this file.
--- In order: one item; the records one by one; the table; the record of a character.
+-- In order: one item; the records one by one; the table and its count; a count that is too high; the record of a character.
 use mathlib.Core.Path.{_≡_, refl, sym, ap, _∙_}
 use mathlib.Core.Bool.{Bool, true, false, cond}
 use mathlib.Core.List.{List, [], _∷_}
 use mathlib.Core.Option.{some}
-use Prim.Native.Nat.{ℕ, zero, suc, _+_}
+use Prim.Native.Nat.{ℕ, zero, suc, _+_, _≤_}
 use native.Mathlib.Omega.{arith}
+use native.Mathlib.Decide.{decLe}
 use lib.ListN.{length}
 use lib.Dec.{eqb}
+use Rattle.fields.specs.Fields.{leAt}
 use Rattle.dicts.specs.Table.{Text, Record, Table, find}
-use Rattle.dicts.specs.Layout.{Field, Is, Fault, number, readRecord}
+use Rattle.dicts.specs.Layout.{Field, Is, Fault, onField, number, readRecord, manyAt, recordsAt}
 use Rattle.dicts.specs.Check.{Fine, Refused, item, legalRecord, readList, readRecords, readTable}
+use Rattle.dicts.proofs.LayoutLaws.{number-is, number-cut}
 use Rattle.dicts.proofs.LookupLaws.{then-fine}
 use Rattle.pass_list.specs.Item.{Every, nil, cons}
 
@@ -26,32 +29,60 @@ item-legal at legal (Is b m) {a} {next} e = go (legal b) refl e
     go true t f = let q : b ≡ a = cc in ap legal (sym q) ∙ t
     go false t f = let z : _≡_ {A = ℕ} 0 1 = cc in absurd (omega arith)
 
-records-lawful : (n least : ℕ) (s : List ℕ) (at : ℕ) {rs : List Record} {end : ℕ} → readRecords n least s at ≡ Fine rs end → Every Lawful rs
+-- records that were read: each is lawful, and there are as many as were asked for
+records-told : (n least : ℕ) (s : List ℕ) (at : ℕ) {rs : List Record} {end : ℕ} → readRecords n least s at ≡ Fine rs end → Every Lawful rs × (length rs ≡ n)
 unfolding readRecords
-records-lawful zero least s at {rs} e = let q : [] ≡ rs = cc in rw (← q) nil
-records-lawful (suc n) least s at {rs} e =
+records-told zero least s at {rs} e = let q : [] ≡ rs = cc in rw (← q) (nil, refl)
+records-told (suc n) least s at {rs} e =
     let one = then-fine (item at (legalRecord least) (readRecord s at)) _ e in
     let r = one .value in
     let more = then-fine (readRecords n (r .code-point + 1) s (one .next)) _ (one .rest) in
     let q : r ∷ more .value ≡ rs = cc in
-    rw (← q) (cons (least, item-legal at (legalRecord least) (readRecord s at) (one .first)) (records-lawful n (r .code-point + 1) s (one .next) (more .first)))
+    let told = records-told n (r .code-point + 1) s (one .next) (more .first) in
+    rw (← q) (cons (least, item-legal at (legalRecord least) (readRecord s at) (one .first)) (told .0), ap suc (told .1))
 
-pub table-lawful : (s : List ℕ) {t : Table} {end : ℕ} → readTable s ≡ Fine t end → Every Lawful (t .records)
+-- a table begins with the count of its records
+head-told : (s : List ℕ) {n next : ℕ} → item 0 (λ n. true) (number 2 s 0) ≡ Fine n next → (2 ≤ length s) × (n ≡ leAt s 0 2)
+unfolding item
+head-told s {n} {next} e = go (decLe 2 (length s))
+  where
+    go : Dec (2 ≤ length s) → (2 ≤ length s) × (n ≡ leAt s 0 2)
+    go (yes h) = let q = rw (number-is s 0 2 h) at e in (h, cc)
+    go (no h) = let q = rw (number-cut s 0 2 (omega arith)) at e in let z : _≡_ {A = ℕ} 0 1 = cc in absurd (omega arith)
+
+pub record Told (s : List ℕ) (rs : List Record) : Type 0 where
+  pub long : 2 ≤ length s
+  pub lawful : Every Lawful rs
+  pub counted : length rs ≡ leAt s 0 2
+
+pub table-told : (s : List ℕ) {t : Table} {end : ℕ} → readTable s ≡ Fine t end → Told s (t .records)
 unfolding readTable
-table-lawful s {t} {end} e =
+table-told s {t} {end} e =
     let count = then-fine (item 0 (λ n. true) (number 2 s 0)) _ e in
     let p = then-fine (readList s (count .next)) _ (count .rest) in
     let f = then-fine (readList s (p .next)) _ (p .rest) in
     let u = then-fine (readList s (f .next)) _ (f .rest) in
     let m = then-fine (readList s (u .next)) _ (u .rest) in
     let rs = then-fine (readRecords (count .value) 0 s (m .next)) _ (m .rest) in
-    go (p .value) (f .value) (u .value) (m .value) (rs .value) (rs .next) (eqb (rs .next) (length s)) (rs .rest) (records-lawful (count .value) 0 s (m .next) (rs .first))
+    let head = head-told s (count .first) in
+    let told = records-told (count .value) 0 s (m .next) (rs .first) in
+    go (p .value) (f .value) (u .value) (m .value) (rs .value) (rs .next) (eqb (rs .next) (length s)) (rs .rest) (record { long = head .0; lawful = told .0; counted = told .1 ∙ head .1 })
   where
     go : (p f u m : List Text) (rs : List Record) (k : ℕ) (b : Bool)
         → cond b (Fine (record { percentage-markers = p; fraction-connectors = f; plus-signs = u; minus-signs = m; records = rs }) k) (Refused 4 k) ≡ Fine t end
-        → Every Lawful rs → Every Lawful (t .records)
+        → Told s rs → Told s (t .records)
     go p f u m rs k true g h = let q : record { percentage-markers = p; fraction-connectors = f; plus-signs = u; minus-signs = m; records = rs } ≡ t = cc in rw (← q) h
     go p f u m rs k false g h = let z : _≡_ {A = ℕ} 0 1 = cc in absurd (omega arith)
+
+-- a higher count gives no more records than there are
+pub records-first : (n : ℕ) (s : List ℕ) (at : ℕ) → recordsAt (length (recordsAt n s at)) s at ≡ recordsAt n s at
+unfolding manyAt
+records-first zero s at = refl
+records-first (suc n) s at = go (λ next. records-first n s next) (readRecord s at) refl
+  where
+    go : ((next : ℕ) → recordsAt (length (recordsAt n s next)) s next ≡ recordsAt n s next) → (f : Field Record) → readRecord s at ≡ f → recordsAt (length (onField f (λ r next. r ∷ recordsAt n s next) [])) s at ≡ onField f (λ r next. r ∷ recordsAt n s next) []
+    go behind (Is r next) e = rw e (ap (λ (l : List Record). r ∷ l) (behind next))
+    go behind Fault e = refl
 
 pub found-lawful : (rs : List Record) (c : ℕ) {r : Record} → Every Lawful rs → find rs c ≡ some r → Lawful r
 unfolding find

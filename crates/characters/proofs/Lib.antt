@@ -2,7 +2,5 @@
 pub mod CharLaws
 pub mod LegalLaws
 pub mod RootLaws
-pub mod WalkLaws
-pub mod IndexLaws
 pub mod InitialLaws
 pub mod Theorems

@@ -20,7 +20,7 @@ use Rattle.dicts.specs.declared.layout.NumProp.{NumProp}
 use Rattle.items.specs.Sound.{ScriptAt, Rooted}
 use Rattle.items.proofs.TextLaws.{record-short, at-most}
 use Rattle.characters.specs.CharItem.{charItem}
-use Rattle.characters.specs.Index.{FoundAt}
+use Rattle.char_index.specs.Index.{FoundAt}
 
 -- ---- texts of a record that may stand
 legal-texts : (least : ℕ) (r : Record) → legalRecord least r ≡ true → legalTexts r ≡ true

@@ -1,29 +1,39 @@
 -- The pass list before D1 (01, "From characters to edges"). Definitions only.
---     Checked t h            the table t passed its check, with the shape h
---     SoFar w t h k s n      s begins with n items: those of the first k characters of the line w (code points), by the table t of shape h
---     Initial line t h s n   the same of the whole line: what `initialize_num_edges` leaves
+--     recordsIn t all        the records of the table t that all says: where they begin, and how many
+--     Records t all          the table t passed its check, and these are its records, so many
+--     SoFar w t rs k s n     s begins with n items: those of the first k characters of the line w (code points), by the records rs of the table t
+--     Initial line t h s n   the same of the whole line, by the table t of shape h: what `initialize_num_edges` leaves
 -- Assumes nothing.
 use mathlib.Core.Path.{_≡_}
 use mathlib.Core.List.{List}
 use Prim.Native.Nat.{ℕ, _≤_}
 use lib.ListN.{length}
 use Rattle.text.specs.Text.{chars}
+use Rattle.dicts.specs.Table.{Record, Table}
+use Rattle.dicts.specs.Layout.{recordsAt}
 use Rattle.dicts.specs.Check.{Fine, readTable}
 use Rattle.dicts.specs.Answers.{tableOf}
 use Rattle.dicts.specs.declared.shape.Shape.{Shape}
+use Rattle.char_index.specs.declared.Rest.{Rest}
 use Rattle.pass_list.specs.Item.{Every, AllSmall}
 use Rattle.pass_list.specs.Stored.{itemsAt}
 use Rattle.pass_edges.specs.FirstItems.{FirstItems}
 use Rattle.items.specs.Sound.{Rooted}
 
-abbrev pub Checked : List ℕ → Shape → Type 0
-Checked t h = readTable t ≡ Fine (tableOf t h) (length t)
+abbrev pub recordsIn : List ℕ → Rest → List Record
+recordsIn t all = recordsAt (all .left) t (all .at)
 
-pub record SoFar (w t : List ℕ) (h : Shape) (k : ℕ) (s : List ℕ) (n : ℕ) : Type 0 where
-  pub items : FirstItems w t (tableOf t h .records) k (itemsAt s 0 n)
+pub record Records (t : List ℕ) (all : Rest) : Type 0 where
+  pub table : Table
+  pub checked : readTable t ≡ Fine table (length t)
+  pub these : table .records ≡ recordsIn t all
+  pub full : length (recordsIn t all) ≡ all .left
+
+pub record SoFar (w t : List ℕ) (rs : List Record) (k : ℕ) (s : List ℕ) (n : ℕ) : Type 0 where
+  pub items : FirstItems w t rs k (itemsAt s 0 n)
   pub few : n ≤ k
   pub small : AllSmall (itemsAt s 0 n)
   pub rooted : Every (Rooted t) (itemsAt s 0 n)
 
 abbrev pub Initial : List ℕ → List ℕ → Shape → List ℕ → ℕ → Type 0
-Initial line t h s n = SoFar (chars line) t h (length (chars line)) s n
+Initial line t h s n = SoFar (chars line) t (tableOf t h .records) (length (chars line)) s n

@@ -1,5 +1,3 @@
 -- The definitions that the contracts of `characters` cite.
 pub mod CharItem
-pub mod Walk
-pub mod Index
 pub mod Initial

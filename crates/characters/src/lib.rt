@@ -1,8 +1,6 @@
 // The edges of a line's characters before the passes (01, "From characters to edges"; the Rust's numbers.rs): the pass list before D1, one edge for each
 // character of the line that has a record, in line order.
 mod character; // character.rt: the edge of one character, from its record
-mod lookup; // lookup.rt: the record of a character, by an index over the records
-mod walk; // walk.rt: the offset behind a record
 
 ghost use mathlib.Core.Path.{_≡_};
 ghost use mathlib.Core.List.{List};
@@ -10,18 +8,18 @@ ghost use Prim.Native.Nat.{ℕ, _+_, _*_, _<_, _≤_};
 ghost use lib.ListN.{length, getD};
 ghost use lib.Seq.{sets};
 ghost use Rattle.text.specs.Text.{chars, Scalars};
-ghost use Rattle.dicts.specs.Answers.{tableOf, Inside};
+ghost use Rattle.dicts.specs.Answers.{Inside};
+ghost use Rattle.char_index.specs.Index.{Indexed};
 ghost use Rattle.pass_list.specs.Item.{Small, Fits};
 ghost use Rattle.pass_list.specs.Stored.{recordBytes};
 ghost use Rattle.stages.specs.Ready.{Ready};
 ghost use Rattle.characters.specs.CharItem.{charItem};
-ghost use Rattle.characters.specs.Index.{Indexed};
-ghost use Rattle.characters.specs.Initial.{Checked, SoFar, Initial};
+ghost use Rattle.characters.specs.Initial.{recordsIn, Records, SoFar, Initial};
 use crate::character::char_edge;
-use crate::lookup::CharRecord;
-use crate::lookup::Rest;
-use crate::lookup::find_char;
-use crate::lookup::index_records;
+use char_index::CharRecord;
+use char_index::Rest;
+use char_index::find_char;
+use char_index::index_records;
 use dicts::layout::NumProp;
 use dicts::shape::Shape;
 use pass_record::put;
@@ -50,19 +48,15 @@ fn add_char(
     list: &mut [u8],
     n: usize,
     table: &[u8],
-    h: Shape,
+    all: Rest,
     offs: &[u32; 256],
     entries: usize,
     place: usize,
     c: u32,
 ) -> usize
-    requires { ⌜ (n ≤ place) × (14336 ≤ length (now list)) × (place < 256) × Checked (now table) h × Indexed (now table) (tableOf (now table) h .records) (now offs) (h .count) entries ⌝ }
-    ensures { λ r. ⌜ ((w : List ℕ) → Scalars w → place < length w → getD w place 0 ≡ c → SoFar w (now (table .entry)) h place (now (list .entry)) n → SoFar w (now (table .entry)) h (place + 1) (now (list .exit)) r) ⌝ }
+    requires { ⌜ (n ≤ place) × (14336 ≤ length (now list)) × (place < 256) × Records (now table) all × Indexed (now table) (recordsIn (now table) all) (now offs) (all .left) entries ⌝ }
+    ensures { λ r. ⌜ ((w : List ℕ) → Scalars w → place < length w → getD w place 0 ≡ c → SoFar w (now (table .entry)) (recordsIn (now (table .entry)) all) place (now (list .entry)) n → SoFar w (now (table .entry)) (recordsIn (now (table .entry)) all) (place + 1) (now (list .exit)) r) ⌝ }
 {
-    let all = Rest {
-        at: h.records,
-        left: h.count,
-    };
     match find_char(table, all, offs, entries, c) {
         CharRecord::At(p, at) => {
             put_char(list, n, table, p, at, place, c);
@@ -77,12 +71,12 @@ fn add_chars(
     list: &mut [u8],
     line: &[u8],
     table: &[u8],
-    h: Shape,
+    all: Rest,
     offs: &[u32; 256],
     entries: usize,
 ) -> usize
-    requires { ⌜ (14336 ≤ length (now list)) × (length (chars (now line)) ≤ 256) × Checked (now table) h × Indexed (now table) (tableOf (now table) h .records) (now offs) (h .count) entries ⌝ }
-    ensures { λ r. ⌜ Initial (now (line .entry)) (now (table .entry)) h (now (list .exit)) r ⌝ }
+    requires { ⌜ (14336 ≤ length (now list)) × (length (chars (now line)) ≤ 256) × Records (now table) all × Indexed (now table) (recordsIn (now table) all) (now offs) (all .left) entries ⌝ }
+    ensures { λ r. ⌜ SoFar (chars (now (line .entry))) (now (table .entry)) (recordsIn (now (table .entry)) all) (length (chars (now (line .entry)))) (now (list .exit)) r ⌝ }
 {
     let mut n: usize = 0;
     let mut place: usize = 0;
@@ -90,7 +84,7 @@ fn add_chars(
     loop {
         match text::seq_at(line, Offset(at)) {
             Seq::Char(c, len) => {
-                n = add_char(list, n, table, h, offs, entries, place, c);
+                n = add_char(list, n, table, all, offs, entries, place, c);
                 place += 1;
                 at += len;
             }
@@ -110,10 +104,12 @@ pub fn initialize_num_edges(list: &mut [u8], line: &[u8], table: &[u8], h: Shape
     ensures { λ r. ⌜ Initial (now (line .entry)) (now (table .entry)) h (now (list .exit)) r ⌝ }
 {
     let mut offs: [u32; 256] = [0; 256];
+    // the table begins with the count of its records
+    let count = fields::u16_at(table, 0) as usize;
     let all = Rest {
         at: h.records,
-        left: h.count,
+        left: count,
     };
     let entries = index_records(table, all, &mut offs);
-    add_chars(list, line, table, h, &offs, entries)
+    add_chars(list, line, table, all, &offs, entries)
 }

@@ -1,16 +1,17 @@
 -- A copy inside a list, and the bytes of an edge with a longer txt. No contract cites this file.
--- In order: a turn of the copying loop; the copy's bytes in four steps; where the items of an edge stand; the copy's bytes; the copy in the lattice. Assumes nothing.
+-- In order: a turn of a copying loop, by bytes and by words; the copy's bytes in four steps; where the items of an edge stand; the copy's bytes; the copy in the lattice. Assumes nothing.
 use mathlib.Core.Path.{_≡_, refl, sym, ap, _∙_}
 use mathlib.Core.Logic.{inl, inr}
 use mathlib.Core.List.{List, _++_, append-assoc}
-use Prim.Native.Nat.{ℕ, _+_, _-_, _≤_, _<_}
+use Prim.Native.Nat.{ℕ, _+_, _-_, _*_, _/_, _%_, _≤_, _<_}
 use native.Mathlib.Omega.{arith}
 use lib.ListN.{length, take, drop, getD, set, length-append}
 use lib.Seq.{sets, length-sets, take-at}
+use Rattle.whole.proofs.SetsLaws.{sets-then}
 use Rattle.fields.specs.Fields.{leAt, bytesOf}
 use Rattle.fields.specs.Part.{part}
 use Rattle.fields.proofs.FieldsLaws.{length-bytesOf}
-use Rattle.fields.proofs.PartLaws.{length-part, part-at, part-sets, part-sets-other, drop-sets, copy-turn, copy-ends}
+use Rattle.fields.proofs.PartLaws.{length-part, part-at, part-sets, part-sets-other, part-add, drop-sets, copy-turn, copy-ends}
 use Rattle.edge.specs.Edge.{Edge, Text, mapOf, str, headBytes, edgeBytes, EdgeFits}
 use Rattle.edge.specs.Layout.{mapAt, txtAt, headEnd, nextAt, stringEnd}
 use Rattle.edge.specs.declared.EdgeView.{EdgeView}
@@ -23,6 +24,7 @@ use Rattle.lattice.specs.Kept.{key, Fits, Stands, Holds, END}
 use Rattle.lattice.proofs.KeyLaws.{length-key}
 use Rattle.lattice.proofs.KeptLaws.{fieldsBytes, length-edge, begins}
 use Rattle.lattice.proofs.HoldsLaws.{holds-beside}
+use Rattle.lattice_add.proofs.GivenLaws.{number-there as word-there}
 use Rattle.copies.specs.Copy.{prefixed, prefixedBytes, Source}
 
 -- ---- a turn of the loop that copies inside a list
@@ -36,6 +38,32 @@ module _ (s : List ℕ) (from to n : ℕ) (apart : from + n ≤ to) (room : to +
 
   pub inside-ends : {now : List ℕ} (i : ℕ) → n ≤ i → now ≡ sets s to (take i (part s from n)) → now ≡ sets s to (part s from n)
   inside-ends i h e = let l = length-part s from n (omega arith) in copy-ends s (part s from n) to i (omega arith) e
+
+-- ---- the bytes behind those that are copied
+module _ (s : List ℕ) (from to k m : ℕ) {t : List ℕ} (fits : from + k ≤ length s) (first : t ≡ sets s to (part s from k)) where
+  pub inside-more : {u : List ℕ} → u ≡ sets t (to + k) (part s (from + k) m) → u ≡ sets s to (part s from (k + m))
+  inside-more then = rw part-add (sets-then s to (to + k) (part s from k) (part s (from + k) m) first (rw (length-part s from k fits)) then)
+
+  -- what is copied next is as it was
+  pub inside-kept : from + k + m ≤ to → part t (from + k) m ≡ part s (from + k) m
+  inside-kept h = ap (λ (z : List ℕ). part z (from + k) m) first ∙ part-sets-other s to (part s from k) (from + k) m (inr h)
+
+-- ---- a turn of the loop that copies words
+pub words-turn : (s : List ℕ) (from to n i v : ℕ) {now next : List ℕ} → from + 8 * n ≤ to → to + 8 * n ≤ length s → i < n → length now ≡ length s → ((k : ℕ) → getD now k 0 < 256)
+    → now ≡ sets s to (part s from (8 * i)) → v ≡ leAt now (from + 8 * i) 8 → next ≡ sets now (to + 8 * i) (bytesOf 8 v) → next ≡ sets s to (part s from (8 * (i + 1)))
+words-turn s from to n i v {now} {next} apart room h long bytes e read wrote =
+    let word : bytesOf 8 v ≡ part s (from + 8 * i) 8 =
+    ap (bytesOf 8) read ∙ sym (word-there now bytes (from + 8 * i) 8 (omega arith)) ∙ inside-kept s from to (8 * i) 8 (omega arith) e (omega arith) in
+    let m : 8 * (i + 1) ≡ 8 * i + 8 = omega arith in
+    rw m (inside-more s from to (8 * i) 8 (omega arith) e (wrote ∙ ap (sets now (to + 8 * i)) word))
+
+-- the words, and then the rest
+pub inside-whole : (s : List ℕ) (from to n : ℕ) {t u : List ℕ} → from + n ≤ to → to + n ≤ length s → t ≡ sets s to (part s from (8 * (n / 8)))
+    → u ≡ sets t (to + 8 * (n / 8)) (part t (from + 8 * (n / 8)) (n % 8)) → u ≡ sets s to (part s from n)
+inside-whole s from to n {t} apart room first then =
+    let kept = inside-kept s from to (8 * (n / 8)) (n % 8) (omega arith) first (omega arith) in
+    let m : 8 * (n / 8) + n % 8 ≡ n = omega arith in
+    inside-more s from to (8 * (n / 8)) (n % 8) (omega arith) first (then ∙ ap (sets t (to + 8 * (n / 8))) kept) ∙ ap (λ (k : ℕ). sets s to (part s from k)) m
 
 -- ---- the copy's bytes in four steps
 module _ (s x : List ℕ) (len at txt n to head behind : ℕ) (a : at + 2 ≤ txt) (b : txt ≤ to) (d : to ≤ len) (room : len + (to - at) + length x ≤ length s) (is-head : head ≡ txt - 2 - at) (is-behind : behind ≡ len + head + 2) {t u v z : List ℕ} (first : t ≡ sets s len (part s at head)) (second : u ≡ sets t (len + head) (bytesOf 2 (length x + n))) (third : v ≡ sets u behind x) (fourth : z ≡ sets v (behind + length x) (part v txt (to - txt))) where

@@ -1,7 +1,7 @@
 // A copy of an edge that stands in the lattice, with a text before its txt (01, F1). It is composed behind the listing, where 2,048 bytes are free.
 ghost use mathlib.Core.Path.{_≡_};
 ghost use mathlib.Core.List.{List};
-ghost use Prim.Native.Nat.{_+_, _-_, _≤_, _<_};
+ghost use Prim.Native.Nat.{_+_, _-_, _*_, _≤_, _<_};
 ghost use lib.ListN.{length, drop};
 ghost use lib.Seq.{sets};
 ghost use Rattle.fields.specs.Part.{part};
@@ -12,8 +12,21 @@ ghost use Rattle.lattice.specs.Kept.{Holds};
 ghost use Rattle.copies.specs.Copy.{prefixed, prefixedBytes, Source};
 use lattice::Lattice;
 
-// Copies n bytes of w from one offset to a later one, behind them.
-fn copy_inside(w: &mut [u8], from: usize, to: usize, n: usize)
+// Copies n words of eight bytes of w from one offset to a later one, behind them.
+fn copy_words(w: &mut [u8], from: usize, to: usize, n: usize)
+    requires { ⌜ (from + 8 * n ≤ to) × (to + 8 * n ≤ length (now w)) ⌝ }
+    ensures { λ _. ⌜ now (w .exit) ≡ sets (now (w .entry)) to (part (now (w .entry)) from (8 * n)) ⌝ }
+{
+    let mut i = 0;
+    while i < n {
+        let v = fields::u64_at(w, from + 8 * i);
+        fields::put_u64(w, to + 8 * i, v);
+        i += 1;
+    }
+}
+
+// The same of n bytes, one by one.
+fn copy_bytes(w: &mut [u8], from: usize, to: usize, n: usize)
     requires { ⌜ (from + n ≤ to) × (to + n ≤ length (now w)) ⌝ }
     ensures { λ _. ⌜ now (w .exit) ≡ sets (now (w .entry)) to (part (now (w .entry)) from n) ⌝ }
 {
@@ -22,6 +35,16 @@ fn copy_inside(w: &mut [u8], from: usize, to: usize, n: usize)
         w[to + i] = w[from + i];
         i += 1;
     }
+}
+
+// The same of n bytes: the words that are in them, then the rest.
+fn copy_inside(w: &mut [u8], from: usize, to: usize, n: usize)
+    requires { ⌜ (from + n ≤ to) × (to + n ≤ length (now w)) ⌝ }
+    ensures { λ _. ⌜ now (w .exit) ≡ sets (now (w .entry)) to (part (now (w .entry)) from n) ⌝ }
+{
+    let words = n / 8;
+    copy_words(w, from, to, words);
+    copy_bytes(w, from + 8 * words, to + 8 * words, n % 8);
 }
 
 // Composes from len on the bytes from at to the offset to, with sep before the n bytes of the string at txt. The string's length stands before it.

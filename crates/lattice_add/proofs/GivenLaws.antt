@@ -35,7 +35,7 @@ join : (s : List ℕ) (at n k m : ℕ) {a b : List ℕ} → k ≡ at + n → par
 join s at n k m e p q = part-add s at n m ∙ rw (← e, p, q)
 
 module _ (s : List ℕ) (bytes : (i : ℕ) → getD s i 0 < 256) where
-  number-there : (at w : ℕ) → at + w ≤ length s → part s at w ≡ bytesOf w (leAt s at w)
+  pub number-there : (at w : ℕ) → at + w ≤ length s → part s at w ≡ bytesOf w (leAt s at w)
   unfolding leAt
   number-there at w h =
       let l = length-part s at w h in

@@ -1,21 +1,18 @@
 -- `add_char` meets its contract: a character with a record has its item behind the others, one without has none.
 use native.Mathlib.Omega.{arith}
-use Rattle.dicts.specs.Answers.{tableOf}
-use Rattle.characters.proofs.IndexLaws.{found-told, nothing-told}
-use Rattle.characters.proofs.InitialLaws.{records-rise, found-small, so-far-skip, so-far-more}
+use Rattle.char_index.proofs.IndexLaws.{found-told, nothing-told}
+use Rattle.characters.proofs.InitialLaws.{records-whole, found-small, so-far-skip, so-far-more}
 use borrow.Author.Needs.{needs}
 use Rattle.characters.proofs.add_char.Statement.{statement}
 use Rattle.characters.proofs.add_char.Tie as tie
 
 find-char-requires : tie.Need-find-char-requires
-unfolding tableOf
-find-char-requires c κs = let pre = c .before .before .pre in (records-rise _ _ (pre .3), pre .4)
+find-char-requires c κs = let pre = c .before .before .pre in (records-whole _ _ (pre .3), pre .4)
 
 enum-known-p : tie.Need-enum-known-p
 enum-known-p c = search needs
 
 put-char-requires : tie.Need-put-char-requires
-unfolding tableOf
 put-char-requires c κs =
     let k = c .before .before in
     let pre = k .before .before .before .before .before .pre in
@@ -32,7 +29,6 @@ same-length : tie.Need-same-length
 same-length c = search needs
 
 returns : tie.Need-returns
-unfolding tableOf
 returns c = λ w scalars inside here so.
     let k = c .before .before .before .before .before in
     let pre = k .before .before .before .before .before .pre in
@@ -41,7 +37,6 @@ returns c = λ w scalars inside here so.
     so-far-more _ _ (pre .3) w scalars _ _ _ _ inside here so _ _ _ f (put .1) (omega arith) (put .0)
 
 returns-2 : tie.Need-returns-2
-unfolding tableOf
 returns-2 c = λ w scalars inside here so.
     let k = c .before .before in
     so-far-skip _ _ (k .before .before .before .pre .3) w scalars _ _ _ _ inside here so (nothing-told _ _ _ (k .find-char .ensures) (c .enum-told .given .1))

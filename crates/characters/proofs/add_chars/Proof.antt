@@ -9,17 +9,17 @@ use Rattle.text.specs.Sequence.{seq}
 use Rattle.text.specs.Text.{chars}
 use Rattle.text.proofs.TextLaws.{chars-ill, chars-end, chars-scalars}
 use Rattle.text.proofs.PlaceLaws.{Reached, reached-start, reached-char, reached-here, char-fits}
-use Rattle.characters.specs.Initial.{SoFar}
+use Rattle.characters.specs.Initial.{recordsIn, SoFar}
 use Rattle.characters.proofs.InitialLaws.{so-far-none, so-far-all}
 use borrow.Author.Needs.{needs}
 use Rattle.characters.proofs.add_chars.Statement.{statement}
 use Rattle.characters.proofs.add_chars.Tie as tie
 
 abbrev Inv-loop : tie.InvT-loop
-Inv-loop list₀ line table h offs entries n₀ place₀ at₀ list n place at = SoFar (chars line) table h place list n × Reached line place at × (length list ≡ length list₀)
+Inv-loop list₀ line table all offs entries n₀ place₀ at₀ list n place at = SoFar (chars line) table (recordsIn table all) place list n × Reached line place at × (length list ≡ length list₀)
 
 abbrev μ-loop : tie.MeasureT-loop
-μ-loop list₀ line table h offs entries n₀ place₀ at₀ list n place at = length (chars line) - place
+μ-loop list₀ line table all offs entries n₀ place₀ at₀ list n place at = length (chars line) - place
 
 -- a character stands at the offset
 told : (c : tie.After-known-told Inv-loop μ-loop) → let l = c .before .before .before .before in

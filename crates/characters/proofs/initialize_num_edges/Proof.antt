@@ -1,32 +1,44 @@
--- `initialize_num_edges` meets its contract: the records rise, as the table's check has it, so that they can be indexed; the loop over the line does the rest.
+-- `initialize_num_edges` meets its contract: the table was checked, so that there are as many records as it says, and they rise; so they can be indexed.
+-- The loop over the line does the rest.
 use native.Mathlib.Omega.{arith}
 use Prim.Native.Nat.{ℕ}
 use lib.ListN.{length-replicate}
-use Rattle.dicts.specs.Answers.{tableOf}
-use Rattle.characters.proofs.InitialLaws.{records-rise}
+use Rattle.characters.proofs.LegalLaws.{table-told}
+use Rattle.characters.proofs.InitialLaws.{said-records, said-initial, records-whole}
 use borrow.Author.Needs.{needs}
 use Rattle.characters.proofs.initialize_num_edges.Statement.{statement}
 use Rattle.characters.proofs.initialize_num_edges.Tie as tie
 
+u16-at-requires : tie.Need-u16-at-requires
+u16-at-requires c κs = table-told _ (c .before .before .before .pre .1 .1 .checked) .long
+
+cast-count : tie.Need-cast-count
+cast-count c = search needs
+
 index-records-requires : tie.Need-index-records-requires
 index-records-requires c κs =
-    let ready = c .before .before .before .before .pre .1 .1 in
-    (records-rise _ _ (ready .checked), length-replicate {A = ℕ} 256 0)
+    let s = c .before .before .before .before .before in
+    (records-whole _ _ (said-records _ (s .args .h) (s .pre .1 .1 .checked) (c .before .u16-at .ensures)), length-replicate {A = ℕ} 256 0)
 
 add-chars-requires : tie.Need-add-chars-requires
-unfolding tableOf
 add-chars-requires c κs =
     let i = c .before .before in
-    let pre = i .before .before .before .before .before .pre in
-    let ready = pre .1 .1 in
-    (pre .0, omega (arith, ready .count, ready .few), ready .checked, i .index-records .ensures)
+    let u = i .before .before in
+    let s = u .before .before .before .before in
+    let ready = s .pre .1 .1 in
+    (s .pre .0, omega (arith, ready .count, ready .few), said-records _ (s .args .h) (ready .checked) (u .u16-at .ensures), i .index-records .ensures)
 
 same-length : tie.Need-same-length
 same-length c = search needs
 
 returns : tie.Need-returns
-returns c = search needs
+returns c =
+    let a = c .before .before in
+    let u = a .before .before .before .before .before in
+    let s = u .before .before .before .before in
+    said-initial _ (s .args .h) (s .pre .1 .1 .checked) (u .u16-at .ensures) (s .args .line .now) (a .add-chars .ensures)
 
 pub initialize-num-edges-spec : {M : Type 1} → statement M
 initialize-num-edges-spec =
-    tie.close (tie.spec index-records-requires add-chars-requires same-length returns)
+    tie.close
+    (tie.spec u16-at-requires cast-count index-records-requires add-chars-requires same-length returns)

@@ -1,64 +1,46 @@
--- `copies::copy_inside` meets its contract. The loop's invariant: i bytes are copied, and the length is as it was. The measure is what is left of
--- the bytes. The mathematics of a turn is in `proofs/CopyLaws.antt`. Assumes nothing.
+-- `copies::copy_inside` meets its contract: the words are copied, and then the rest behind them. Assumes nothing.
 use borrow.Author.Needs.{needs}
-use Prim.Native.Nat.{_≤_, _-_}
-use mathlib.Core.Path.{_≡_}
-use lib.ListN.{length, take, length-set}
-use lib.Seq.{sets}
-use Rattle.fields.specs.Part.{part}
-use Rattle.copies.proofs.CopyLaws.{inside-turn, inside-ends}
+use Rattle.copies.proofs.CopyLaws.{inside-whole}
 use Rattle.copies.proofs.copy_inside.Statement.{statement}
 use Rattle.copies.proofs.copy_inside.Tie as tie
 
-abbrev Inv-loop : tie.InvT-loop
-Inv-loop w₀ from to n i₀ w i = (i ≤ n) × (length w ≡ length w₀) × (w ≡ sets w₀ to (take i (part w₀ from n)))
+copy-words-requires : tie.Need-copy-words-requires
+copy-words-requires c κs = search needs
 
-abbrev μ-loop : tie.MeasureT-loop
-μ-loop w₀ from to n i₀ w i = n - i
+mul-copy-bytes : tie.Need-mul-copy-bytes
+mul-copy-bytes c = search needs
 
-loop-holds : tie.Need-loop-holds Inv-loop μ-loop
-loop-holds c = search needs
+add-copy-bytes : tie.Need-add-copy-bytes
+add-copy-bytes c = search needs
 
-add-w : tie.Need-add-w Inv-loop μ-loop
-add-w c = search needs
+mul-copy-bytes-2 : tie.Need-mul-copy-bytes-2
+mul-copy-bytes-2 c = search needs
 
-slice-read-w : tie.Need-slice-read-w Inv-loop μ-loop
-slice-read-w c = search needs
+add-copy-bytes-2 : tie.Need-add-copy-bytes-2
+add-copy-bytes-2 c = search needs
 
-add-w-2 : tie.Need-add-w-2 Inv-loop μ-loop
-add-w-2 c = search needs
+copy-bytes-requires : tie.Need-copy-bytes-requires
+copy-bytes-requires c κs = search needs
 
-slice-write-w : tie.Need-slice-write-w Inv-loop μ-loop
-slice-write-w c = search needs
-
-add-i : tie.Need-add-i Inv-loop μ-loop
-add-i c = search needs
-
-loop-less : tie.Need-loop-less Inv-loop μ-loop
-loop-less c = search needs
-
-loop-again : tie.Need-loop-again Inv-loop μ-loop
-loop-again c = let a = c .before .before in (search needs, simp length-set (a .loop .inv .1), inside-turn _ _ _ _ (a .before .pre .0) (a .before .pre .1) _ (c .before .loop-test .taken) (a .loop .inv .2))
-
-same-length : tie.Need-same-length Inv-loop μ-loop
+same-length : tie.Need-same-length
 same-length c = search needs
 
-returns : tie.Need-returns Inv-loop μ-loop
-returns c = let a = c .before in inside-ends _ _ _ _ (a .before .pre .0) (a .before .pre .1) _ (c .loop-test .left) (a .loop .inv .2)
+returns : tie.Need-returns
+returns c =
+    let rest = c .before .before in
+    let words = rest .before .before .before .before in
+    let p = words .before .before .before .pre in
+    inside-whole _ _ _ _ (p .0) (p .1) (words .copy-words .ensures) (rest .copy-bytes .ensures)
 
 pub copy-inside-spec : {M : Type 1} → statement M
 copy-inside-spec =
     tie.close
     (tie.spec
-    Inv-loop
-    μ-loop
-    loop-holds
-    add-w
-    slice-read-w
-    add-w-2
-    slice-write-w
-    add-i
-    loop-less
-    loop-again
+    copy-words-requires
+    mul-copy-bytes
+    add-copy-bytes
+    mul-copy-bytes-2
+    add-copy-bytes-2
+    copy-bytes-requires
     same-length
     returns)

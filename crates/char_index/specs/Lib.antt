@@ -1,0 +1,3 @@
+-- The definitions that the contracts of `char_index` cite.
+pub mod Walk
+pub mod Index
