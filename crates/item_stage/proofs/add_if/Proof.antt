@@ -30,7 +30,7 @@ add-item-requires c κs =
     let start = at-get .before .before .before .before .before in
     let a = start .args in
     let is = item-behind (a .line .now) (a .table .now) (a .w .now) (a .i * 56) (at-get .get .result) (start .pre .3) (at-get .get .ensures) in
-    (start .pre .0, start .pre .1, (itemAt (drop 39424 (a .w .now)) (a .i * 56), is), start .pre .2)
+    record { holds = start .pre .0; offsets = start .pre .1; item = (itemAt (drop 39424 (a .w .now)) (a .i * 56), is); few = start .pre .2 }
 
 same-length : tie.Need-same-length
 same-length c = search needs
@@ -46,7 +46,7 @@ returns c =
     let is = item-behind (a .line .now) (a .table .now) (a .w .now) (a .i * 56) (at-get .get .result) (start .pre .3) (at-get .get .ensures) in
     let kind = sym (kind-is [] [] (at-get .get .result) x (is .is)) ∙ at-then .if1 .taken in
     let added = at-add .add-item .ensures in
-    (added .0, λ es h. subst (Holds _ _) (adds (chars (a .line .now)) (a .table .now) (a .kind) es x kind) (added .1 es x h is))
+    (added .frame, λ es h. subst (Holds _ _) (adds (chars (a .line .now)) (a .table .now) (a .kind) es x kind) (added .holds es x h is))
 
 same-length-2 : tie.Need-same-length-2
 same-length-2 c = search needs
