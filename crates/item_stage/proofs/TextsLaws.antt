@@ -28,9 +28,9 @@ use Rattle.numbers.specs.Listed.{listedEdge}
 use Rattle.items.specs.Sound.{ItemIs}
 use Rattle.items.specs.Texts.{typeOf, TextsAre, Front}
 use Rattle.items.specs.Fields.{itemFraction, recordFraction}
+use Rattle.items.specs.Adding.{Asks, Adds}
 use Rattle.items.proofs.TextLaws.{fault-told, txt-rom, txt-own, type-record, part-to, part-places, places-of, front-take, name-d1, txt-char, txt-digits, txt-value, type-char, type-kind, value-is}
 use Rattle.item_fields.proofs.FieldLaws.{fraction-record, ratio-legal, legal-there}
-use Rattle.item_stage.specs.Adds.{Asks, Adds}
 
 -- ---- an item with its texts is added
 module _ {line t : List ℕ} {e : PassEdge} {ty tx : Text} (are : (x : Item) → ItemIs line t e x → TextsAre line t e ty tx x) where

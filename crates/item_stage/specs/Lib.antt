@@ -1,2 +1,0 @@
--- The definitions that the contracts of `item_stage` cite.
-pub mod Adds
