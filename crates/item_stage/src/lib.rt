@@ -152,27 +152,6 @@ fn add_joined(
     )
 }
 
-// An item is added to the lattice.
-fn add_item(
-    w: &mut [u8],
-    l: Lattice,
-    line: &[u8],
-    offs: &[usize; 257],
-    table: &[u8],
-    x: PassEdge,
-) -> Lattice
-    requires { ⌜ Asks (now w) l (now line) (now offs) (now table) x ⌝ }
-    ensures { λ r. ⌜ Adds (now (line .entry)) (now (table .entry)) x (now (w .entry)) l (now (w .exit)) r ⌝ }
-{
-    if x.kind == 0 {
-        return add_char(w, l, line, offs, table, x);
-    }
-    if x.kind == 1 {
-        return add_run(w, l, line, offs, table, x);
-    }
-    add_joined(w, l, line, offs, table, x)
-}
-
 // The i-th item of the list behind the lattice is added, if it is of this kind.
 fn add_if(
     w: &mut [u8],
@@ -187,10 +166,16 @@ fn add_if(
     ensures { λ r. ⌜ (drop 39424 (now (w .exit)) ≡ drop 39424 (now (w .entry))) × ((es : List Edge) → Holds (now (w .entry)) l es → Holds (now (w .exit)) r (addIf (chars (now (line .entry))) (now (table .entry)) kind es (itemAt (drop 39424 (now (w .entry))) (i * 56)))) ⌝ }
 {
     let x = pass_list::record::get(w, 39424 + i * 56);
-    if x.kind == kind {
-        return add_item(w, l, line, offs, table, x);
+    if x.kind != kind {
+        return l;
     }
-    l
+    if kind == 0 {
+        return add_char(w, l, line, offs, table, x);
+    }
+    if kind == 1 {
+        return add_run(w, l, line, offs, table, x);
+    }
+    add_joined(w, l, line, offs, table, x)
 }
 
 // The stage: of the n items of the list behind the lattice, those of a kind are added in turn.
