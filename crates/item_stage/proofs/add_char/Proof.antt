@@ -82,7 +82,7 @@ add-texts-requires c κs =
     (p .holds, p .offsets, texts-there are p, p .few, with-rom at-rom .fraction-of .ensures ∙ fraction)
 
 same-length : tie.Need-same-length
-same-length c = search needs
+same-length c = c .before .before .add-texts .kept .0
 
 returns : tie.Need-returns
 returns c =
@@ -135,7 +135,7 @@ enum-told : tie.Need-enum-told
 enum-told c = search needs
 
 same-length-2 : tie.Need-same-length-2
-same-length-2 c = search needs
+same-length-2 c = c .before .before .add-texts2 .kept .0
 
 returns-2 : tie.Need-returns-2
 returns-2 c =

@@ -64,7 +64,7 @@ add-texts-requires c κs =
     (p .holds, p .offsets, texts-there (texts at-txt) p, p .few, fraction-joined (s .args .table .now) (s .args .x .kind) (s .args .x .«record_at» .0) (λ z. omega (arith, s .pre .1)))
 
 same-length : tie.Need-same-length
-same-length c = search needs
+same-length c = c .before .before .add-texts .kept .0
 
 returns : tie.Need-returns
 returns c = texts-added (texts (c .before .before .before .before .before .before .before)) (c .before .before .add-texts .ensures)

@@ -51,7 +51,7 @@ add-signs-of-requires-2 c κs =
     (record { holds = (addAll (p .0 .0) (minus a (p .2 .0)), held); offsets = p .1; item = p .2; few = few a }, plus-formed a)
 
 same-length : tie.Need-same-length
-same-length c = search needs
+same-length c = c .before .before .add-signs-of2 .kept .0 ∙ c .before .before .before .before .before .before .add-signs-of .kept .0
 
 returns : tie.Need-returns
 returns c =

@@ -79,7 +79,7 @@ add-regular-requires c κs =
     (p .holds, omega (arith, s .pre .1), omega (arith, places .1, p .few), short)
 
 same-length : tie.Need-same-length
-same-length c = search needs
+same-length c = c .before .before .add-regular .kept .0
 
 returns : tie.Need-returns
 returns c =
