@@ -2,6 +2,7 @@
 use borrow.Author.Needs.{needs}
 use mathlib.Core.Path.{_≡_, _∙_}
 use Prim.Native.Nat.{_≤_}
+use native.Mathlib.Nat.{le-add-right}
 use native.Mathlib.Omega.{arith}
 use Rattle.dicts.specs.Answers.{Inside}
 use Rattle.items.proofs.TextLaws.{inside-told, places-of, spans, Spans}
@@ -54,19 +55,19 @@ add-rom-end : tie.Need-add-rom-end
 add-rom-end c = let at-p = with-rom (c .before) .before .before in omega (arith, inside at-p .rom-within, start at-p .good)
 
 sub-add-texts : tie.Need-sub-add-texts
-sub-add-texts c = search needs
+sub-add-texts c = le-add-right _ _
 
 part-add-texts-start : tie.Need-part-add-texts-start
-part-add-texts-start c = search needs
+part-add-texts-start c = le-add-right _ _
 
 part-add-texts-end : tie.Need-part-add-texts-end
 part-add-texts-end c = inside (with-rom (c .before .before) .before .before) .type-within
 
 sub-add-texts-2 : tie.Need-sub-add-texts-2
-sub-add-texts-2 c = search needs
+sub-add-texts-2 c = le-add-right _ _
 
 part-add-texts-start-2 : tie.Need-part-add-texts-start-2
-part-add-texts-start-2 c = search needs
+part-add-texts-start-2 c = le-add-right _ _
 
 part-add-texts-end-2 : tie.Need-part-add-texts-end-2
 part-add-texts-end-2 c = inside (with-rom (c .before .before .before) .before .before) .rom-within
@@ -104,10 +105,10 @@ element-copy-out-to : tie.Need-element-copy-out-to
 element-copy-out-to c = omega (arith, places (start (without (c .before) .before .before)) .1)
 
 sub-add-texts-3 : tie.Need-sub-add-texts-3
-sub-add-texts-3 c = search needs
+sub-add-texts-3 c = le-add-right _ _
 
 part-add-texts-start-3 : tie.Need-part-add-texts-start-3
-part-add-texts-start-3 c = search needs
+part-add-texts-start-3 c = le-add-right _ _
 
 part-add-texts-end-3 : tie.Need-part-add-texts-end-3
 part-add-texts-end-3 c = inside (without (c .before .before .before) .before .before) .type-within
@@ -116,10 +117,10 @@ sub-add-texts-4 : tie.Need-sub-add-texts-4
 sub-add-texts-4 c = own (start (without (c .before .before .before .before) .before .before)) .rises
 
 part-add-texts-start-4 : tie.Need-part-add-texts-start-4
-part-add-texts-start-4 c = let o = own (start (without (c .before .before .before .before) .before .before)) in omega (arith, o .rises, o .within)
+part-add-texts-start-4 c = own (start (without (c .before .before .before .before) .before .before)) .rises
 
 part-add-texts-end-4 : tie.Need-part-add-texts-end-4
-part-add-texts-end-4 c = let o = own (start (without (c .before .before .before .before) .before .before)) in omega (arith, o .rises, o .within)
+part-add-texts-end-4 c = own (start (without (c .before .before .before .before) .before .before)) .within
 
 add-texts-requires-2 : tie.Need-add-texts-requires-2
 add-texts-requires-2 c κs =

@@ -2,6 +2,7 @@
 use borrow.Author.Needs.{needs}
 use mathlib.Core.Path.{_≡_, refl, ap, _∙_}
 use Prim.Native.Nat.{_+_, _-_, _≤_}
+use native.Mathlib.Nat.{le-add-right}
 use native.Mathlib.Omega.{arith}
 use lib.ListN.{length, take, drop}
 use Rattle.text.specs.Text.{chars, wellFormed}
@@ -37,13 +38,13 @@ add-to : tie.Need-add-to
 add-to c = let a = c .before .before .before .before in omega (arith, a .pre .1, a .good)
 
 sub-sign-before : tie.Need-sub-sign-before
-sub-sign-before c = omega arith
+sub-sign-before c = le-add-right _ _
 
 part-sign-before-start : tie.Need-part-sign-before-start
-part-sign-before-start c = search needs
+part-sign-before-start c = le-add-right _ _
 
 part-sign-before-end : tie.Need-part-sign-before-end
-part-sign-before-end c = search needs
+part-sign-before-end c = c .before .before .before .before .pre .1
 
 sign-before-requires : tie.Need-sign-before-requires
 sign-before-requires c κs = let a = start c in (a .pre .0 .few, a .pre .0 .offsets, inside a, ap wellFormed (sign-is a) ∙ a .pre .2)
