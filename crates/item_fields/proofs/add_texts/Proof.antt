@@ -25,7 +25,7 @@ add-numeric-requires c κs =
     (start .pre .0, omega (arith, places .0, places .1, start .pre .3), omega (arith, places .1, start .pre .3), write, all .all)
 
 same-length : tie.Need-same-length
-same-length c = search needs
+same-length c = c .before .before .add-numeric .kept .0
 
 returns : tie.Need-returns
 returns c =
