@@ -38,27 +38,25 @@ use Rattle.numbers.specs.Listed.{listedEdge}
 use Rattle.items.specs.declared.Fraction.{Fraction}
 use Rattle.items.specs.Sound.{LegalAt, Sound, ItemIs}
 use Rattle.items.specs.Texts.{charType, typeOf, TextsAre}
-use Rattle.items.specs.Fields.{itemFraction, FractionIs, itemMap, partOr, itemFields, Listable}
-use Rattle.items.proofs.TextLaws.{fault-told, record-told, part-places, spans, Spans, between-short, txt-short, type-short, places-of}
+use Rattle.items.specs.Fields.{itemFraction, recordFraction, FractionIs, itemMap, partOr, itemFields, Listable}
+use Rattle.items.proofs.TextLaws.{record-told, part-places, spans, Spans, between-short, txt-short, type-short, places-of}
 
 -- ---- the fraction
 pub fraction-joined : (t : List ℕ) (k at : ℕ) → (k ≡ 0 → ⊥) → none ≡ itemFraction t k at
 unfolding itemFraction
 fraction-joined t k at h = rw (ne-eqb k 0 h)
 
-module _ (s : List ℕ) (k at : ℕ) {r : RecordAt} (is : recordField s r ≡ readRecord s at) (z : k ≡ 0) where
-  pub fraction-fault : r ≡ RecordAt.Fault → none ≡ itemFraction s k at
-  unfolding itemFraction
-  fraction-fault e = rw (eq-eqb k 0 z, fault-told s at is e)
+module _ (p : NumProp) where
+  pub fraction-there : p .map / 4 % 2 ≡ 1 → some (lowest (p .numbers .numerator, p .numbers .denominator)) ≡ recordFraction p
+  fraction-there h = rw (eq-eqb (p .map / 4 % 2) 1 h)
 
-  module _ (p : NumProp) (e : r ≡ RecordAt.Record p) where
-    pub fraction-absent : (p .map / 4 % 2 ≡ 1 → ⊥) → none ≡ itemFraction s k at
-    unfolding itemFraction recordOf
-    fraction-absent h = rw (eq-eqb k 0 z, record-told s at is p e, ne-eqb (p .map / 4 % 2) 1 h)
+  pub fraction-absent : (p .map / 4 % 2 ≡ 1 → ⊥) → none ≡ recordFraction p
+  fraction-absent h = rw (ne-eqb (p .map / 4 % 2) 1 h)
 
-    pub fraction-there : p .map / 4 % 2 ≡ 1 → some (lowest (p .numbers .numerator, p .numbers .denominator)) ≡ itemFraction s k at
+  module _ (s : List ℕ) (at : ℕ) {r : RecordAt} (is : recordField s r ≡ readRecord s at) (e : r ≡ RecordAt.Record p) where
+    pub fraction-record : (k : ℕ) → k ≡ 0 → recordFraction p ≡ itemFraction s k at
     unfolding itemFraction recordOf
-    fraction-there h = rw (eq-eqb k 0 z, record-told s at is p e, eq-eqb (p .map / 4 % 2) 1 h)
+    fraction-record k z = rw (eq-eqb k 0 z, record-told s at is p e)
 
     -- a record that passed the check has no 0 below
     pub ratio-legal : LegalAt s at → p .map / 4 % 2 ≡ 1 → 0 < p .numbers .denominator

@@ -1,8 +1,7 @@
 // An item of the pass list with its texts as an edge of the lattice (01, "From characters to edges"): the fields that it is listed with.
 ghost use mathlib.Core.Path.{_≡_};
-ghost use Prim.Native.Nat.{_*_, _≤_};
+ghost use Prim.Native.Nat.{_*_, _/_, _%_, _≤_, _<_};
 ghost use mathlib.Core.List.{List};
-ghost use mathlib.Core.Option.{none};
 ghost use lib.ListN.{length, drop};
 ghost use Rattle.text.specs.Text.{chars};
 ghost use Rattle.pass_list.specs.Item.{Item};
@@ -12,10 +11,9 @@ ghost use Rattle.edge.specs.Edge.{Edge, flag};
 ghost use Rattle.lattice.specs.Lattice.{add};
 ghost use Rattle.lattice.specs.Kept.{Holds};
 ghost use Rattle.numbers.specs.Listed.{listedEdge};
-ghost use Rattle.items.specs.Sound.{LegalAt};
 ghost use Rattle.items.specs.Texts.{TextsAre};
-ghost use Rattle.items.specs.Fields.{itemFraction, FractionIs, itemMap, partOr, itemFields, Listable};
-use dicts::layout::RecordAt;
+ghost use Rattle.items.specs.Fields.{itemFraction, recordFraction, FractionIs, itemMap, partOr, itemFields, Listable};
+use dicts::layout::NumProp;
 use edge::NumData;
 use edge::NumFields;
 use edge::Part;
@@ -23,37 +21,23 @@ use items::Fraction;
 use lattice::Lattice;
 use pass_list::record::PassEdge;
 
-fn no_fraction() -> Fraction
-    ensures { λ r. ⌜ FractionIs r none ⌝ }
+// The fraction of a record, in lowest terms.
+pub fn fraction_of(p: NumProp) -> Fraction
+    requires { ⌜ (p .map / 4 % 2 ≡ 1 → 0 < p .numbers .denominator) ⌝ }
+    ensures { λ r. ⌜ FractionIs r (recordFraction p) ⌝ }
 {
+    if p.map / 4 % 2 == 1 {
+        let r = ratio::lowest(p.numbers.numerator, p.numbers.denominator);
+        return Fraction {
+            there: true,
+            numerator: r.numerator,
+            denominator: r.denominator,
+        };
+    }
     Fraction {
         there: false,
         numerator: 0,
         denominator: 0,
-    }
-}
-
-// A character's fraction is its record's, in lowest terms.
-fn fraction_of(table: &[u8], kind: u16, at: usize) -> Fraction
-    requires { ⌜ (kind ≡ 0 → LegalAt (now table) at) ⌝ }
-    ensures { λ r. ⌜ FractionIs r (itemFraction (now (table .entry)) kind at) ⌝ }
-{
-    if kind != 0 {
-        return no_fraction();
-    }
-    match dicts::layout::record_at(table, at) {
-        RecordAt::Record(p) => {
-            if p.map / 4 % 2 != 1 {
-                return no_fraction();
-            }
-            let r = ratio::lowest(p.numbers.numerator, p.numbers.denominator);
-            Fraction {
-                there: true,
-                numerator: r.numerator,
-                denominator: r.denominator,
-            }
-        }
-        RecordAt::Fault => no_fraction(),
     }
 }
 
@@ -117,7 +101,7 @@ fn fields_of(offs: &[usize; 257], x: PassEdge, f: Fraction, len: usize) -> NumFi
     })
 }
 
-// An item with these texts is added to the lattice.
+// An item with this fraction and these texts is added to the lattice.
 pub fn add_texts(
     w: &mut [u8],
     l: Lattice,
@@ -125,13 +109,13 @@ pub fn add_texts(
     offs: &[usize; 257],
     table: &[u8],
     x: PassEdge,
+    f: Fraction,
     ty: &[u8],
     txt: &[u8],
 ) -> Lattice
-    requires { ⌜ ((es : List Edge) × Holds (now w) l es) × Offsets (now line) (now offs) × ((i : Item) × TextsAre (now line) (now table) x (now ty) (now txt) i) × (length (chars (now line)) ≤ 256) ⌝ }
+    requires { ⌜ ((es : List Edge) × Holds (now w) l es) × Offsets (now line) (now offs) × ((i : Item) × TextsAre (now line) (now table) x (now ty) (now txt) i) × (length (chars (now line)) ≤ 256) × FractionIs f (itemFraction (now table) (x .kind) (x .«record_at» .0)) ⌝ }
     ensures { λ r. ⌜ (drop 39424 (now (w .exit)) ≡ drop 39424 (now (w .entry))) × ((es : List Edge) (i : Item) → Holds (now (w .entry)) l es → TextsAre (now (line .entry)) (now (table .entry)) x (now (ty .entry)) (now (txt .entry)) i → Holds (now (w .exit)) r (add es (listedEdge (edgeOf (chars (now (line .entry))) (now (table .entry)) i)))) ⌝ }
 {
-    let f = fraction_of(table, x.kind, x.record_at.0);
     let d = fields_of(offs, x, f, txt.len());
     lattice_write::add_numeric(w, l, x.start, x.end, ty, txt, d, line, table, txt)
 }

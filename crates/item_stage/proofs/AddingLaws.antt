@@ -23,7 +23,8 @@ use Rattle.lattice.specs.declared.Lattice.{Lattice}
 use Rattle.lattice.specs.Kept.{Holds}
 use Rattle.numbers.specs.Listed.{listedEdge}
 use Rattle.items.specs.Sound.{Sound, ItemIs}
-use Rattle.items.specs.Adding.{kindEdges, addIf}
+use Rattle.items.specs.Adding.{Adds, kindEdges, addIf}
+use Rattle.items.proofs.TextLaws.{kind-is}
 
 -- ---- an item behind the lattice
 pub item-behind-is : (w : List ℕ) (at : ℕ) → itemAt w (39424 + at) ≡ itemAt (drop 39424 w) at
@@ -45,13 +46,18 @@ item-of P s n j e h = rw zero-add at (every-items P s 0 n j e h)
 
 -- ---- one item
 module _ (w t : List ℕ) (k : ℕ) (es : List Edge) (x : Item) where
-  pub adds : x .kind ≡ k → add es (listedEdge (edgeOf w t x)) ≡ addIf w t k es x
+  adds : x .kind ≡ k → add es (listedEdge (edgeOf w t x)) ≡ addIf w t k es x
   unfolding addIf
   adds h = rw (eq-eqb (x .kind) k h)
 
   pub passes-over : (x .kind ≡ k → ⊥) → es ≡ addIf w t k es x
   unfolding addIf
   passes-over h = rw (ne-eqb (x .kind) k h)
+
+-- the code's edge e is of kind k, and was added
+pub added-if : (line t : List ℕ) (k : ℕ) (e : PassEdge) (x : Item) → ItemIs line t e x → e .kind ≡ k → {s u : List ℕ} {l r : Lattice} → Adds line t e s l u r → (es : List Edge) → Holds s l es
+    → Holds u r (addIf (chars line) t k es x)
+added-if line t k e x is z a es h = rw (← adds (chars line) t k es x (sym (kind-is [] [] e x (is .is)) ∙ z)) (a .holds es x h is)
 
 -- ---- one item more
 add-all-append : (es cs ds : List Edge) → addAll es (cs ++ ds) ≡ addAll (addAll es cs) ds

@@ -1,2 +1,3 @@
--- Laws of adding items in turn.
+-- Laws of an item's texts, and of adding items in turn.
 pub mod AddingLaws
+pub mod TextsLaws

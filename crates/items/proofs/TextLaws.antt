@@ -7,7 +7,6 @@ use mathlib.Core.Option.{Option, none, some, Option·getD}
 use Prim.Native.Nat.{ℕ, zero, suc, _+_, _*_, _-_, _/_, _%_, _≤_, _<_}
 use native.Mathlib.Omega.{arith}
 use lib.ListN.{length, take, drop, getD, length-append}
-use lib.Seq.{length-sets, length-take-le}
 use lib.Dec.{eqb, ltb, leb}
 use borrow.Author.Tests.{leb-true, eqb-true, eq-eqb, ne-eqb}
 use Rattle.fields.specs.Part.{part}
@@ -144,12 +143,6 @@ front-none s e = front-is (sym e) (record { wrote = refl; long = refl })
 
 -- it can be taken from there again
 module _ {s u : List ℕ} {r : ℕ} {t : Text} (h : Front s u r t) (k : length t ≤ length s) where
-  pub front-fits : r ≤ length u
-  front-fits = omega (arith, h .long, ap length (h .wrote), length-sets s 0 t)
-
-  pub front-long : r ≡ length (take r u)
-  front-long = sym (length-take-le r u front-fits)
-
   pub front-take : take r u ≡ t
   unfolding part
   front-take = rw (h .wrote, h .long) (part-sets s 0 t (length t) refl (omega arith))
@@ -311,31 +304,3 @@ type-short w t x s = go (eqb (x .kind) 0) refl
     go : (b : Bool) → eqb (x .kind) 0 ≡ b → length (cond b (charType t (x .record-at)) (kindName (x .kind))) ≤ 60
     go true e = let l = s .rooted .legal (eqb-true (x .kind) 0 e) in rw (l .reads) (record-short t (x .record-at) (l .reads) .type)
     go false e = name-short (x .kind)
-
--- ---- in buffers of 256 and of 60 bytes
-module _ (line t : List ℕ) (x : Item) (sound : Sound (chars line) t x) where
-  module _ (few : length (chars line) ≤ 256) {s u : List ℕ} {r : ℕ} (h : Front s u r (txtOf (chars line) t x)) (k : length s ≡ 256) where
-    txt-room : length (txtOf (chars line) t x) ≤ length s
-    txt-room = omega (arith, txt-short (chars line) t x sound few, k)
-
-    pub txt-fits : r ≤ length u
-    txt-fits = front-fits h txt-room
-
-    pub txt-long : r ≡ length (take r u)
-    txt-long = front-long h txt-room
-
-    pub txt-taken : take r u ≡ txtOf (chars line) t x
-    txt-taken = front-take h txt-room
-
-  module _ {s u : List ℕ} {r : ℕ} (h : Front s u r (typeOf t x)) (k : length s ≡ 60) where
-    type-room : length (typeOf t x) ≤ length s
-    type-room = omega (arith, type-short (chars line) t x sound, k)
-
-    pub type-fits : r ≤ length u
-    type-fits = front-fits h type-room
-
-    pub type-long : r ≡ length (take r u)
-    type-long = front-long h type-room
-
-    pub type-taken : take r u ≡ typeOf t x
-    type-taken = front-take h type-room

@@ -1,5 +1,6 @@
 -- The fields that an item is listed with. Definitions only.
 --     itemFraction t k at   the fraction of an item of kind k whose record stands at an offset of the table, in lowest terms, where it has one
+--     recordFraction p      the fraction of the record that a NumProp stands for, in lowest terms, where it has one
 --     FractionIs f o        the code's f is the fraction o, where there is one
 --     Listable offs e       the places of e have offsets that rise, and its floats are no NaN
 --     itemMap e f           the listing's map for the edge e; f: it has a fraction
@@ -13,7 +14,9 @@ use Prim.Native.Nat.{ℕ, _+_, _*_, _-_, _≤_}
 use lib.Dec.{T, eqb}
 use lib.Ieee.{isNan}
 use lib.ListN.{getD}
+use Rattle.dicts.specs.Layout.{bit}
 use Rattle.dicts.specs.Answers.{optionally}
+use Rattle.dicts.specs.declared.layout.NumProp.{NumProp}
 use Rattle.passes.specs.Characters.{lowest}
 use Rattle.pass_list.specs.declared.record.PassEdge.{PassEdge}
 use Rattle.pass_list.specs.Edges.{ofRecord}
@@ -27,6 +30,9 @@ use Rattle.items.specs.declared.Fraction.{Fraction}
 -- as `edgeOf` has it
 unfoldable pub itemFraction : List ℕ → ℕ → ℕ → Option (ℕ × ℕ)
 itemFraction t k at = cond (eqb k 0) (ofRecord t at (λ r. Option·map lowest (r .fraction)) none) none
+
+abbrev pub recordFraction : NumProp → Option (ℕ × ℕ)
+recordFraction p = Option·map lowest (optionally (bit (p .map) 2) (p .numbers .numerator, p .numbers .denominator))
 
 abbrev pub FractionIs : Fraction → Option (ℕ × ℕ) → Type 0
 FractionIs f o = optionally (f .there) (f .numerator, f .denominator) ≡ o

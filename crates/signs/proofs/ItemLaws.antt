@@ -1,5 +1,5 @@
 -- Laws of G6 for an item of the pass list, and for the whole list (`specs/SignEdges.antt`). No contract cites this file.
--- In order: texts at the front of a buffer; what the sign's edges of an item are; both lists; the items one at a time. Assumes nothing.
+-- In order: texts at the front of a buffer; the edge for a sign; both lists; the items one at a time. Assumes nothing.
 use mathlib.Core.Path.{_≡_, refl, sym, ap, _∙_}
 use mathlib.Core.Bool.{Bool, true, false, cond}
 use mathlib.Core.List.{List, [], _∷_, _++_, map, append-assoc}
@@ -8,7 +8,7 @@ use native.Mathlib.Nat.{sub-zero}
 use native.Mathlib.Numerals.{add-one}
 use native.Mathlib.Omega.{arith}
 use lib.ListN.{length, take, drop, set, length-append, length-set, length-drop}
-use lib.Seq.{sets-eq, length-sets, take-append-seam, take-append-le, take-suc-set, take-length}
+use lib.Seq.{length-sets, take-append-le, take-suc-set, take-length}
 use borrow.Rule.Slice.PartAt.{part-to-end}
 use borrow.Rule.Slice.PartMut.{putMid}
 use Rattle.text.specs.Text.{chars}
@@ -16,7 +16,6 @@ use Rattle.dicts.specs.Table.{Text, Table}
 use Rattle.dicts.specs.Layout.{listAt}
 use Rattle.dicts.specs.Answers.{tableOf}
 use Rattle.dicts.specs.declared.shape.Shape.{Shape}
-use Rattle.passes.specs.NumEdge.{NumEdge}
 use Rattle.pass_list.specs.declared.record.PassEdge.{PassEdge}
 use Rattle.pass_list.specs.Item.{Item, EdgeIs, cons}
 use Rattle.pass_list.specs.Stored.{itemAt, itemsAt}
@@ -25,23 +24,16 @@ use Rattle.pass_list.proofs.StoredLaws.{items-cons, items-none}
 use Rattle.edge.specs.Edge.{Edge}
 use Rattle.edge.specs.Write.{regular}
 use Rattle.lattice.specs.declared.Lattice.{Lattice}
-use Rattle.lattice.specs.Lattice.{addAll}
+use Rattle.lattice.specs.Lattice.{add, addAll}
 use Rattle.lattice.specs.Kept.{Holds}
-use Rattle.stages.specs.Ready.{Offsets}
 use Rattle.items.specs.Sound.{Sound, Sounds, ItemIs}
 use Rattle.items.specs.Texts.{typeOf, Front}
-use Rattle.items.proofs.TextLaws.{txt-short, type-short, type-of-edge, places-of}
-use Rattle.numbers.specs.Signs.{endsAt, signed, signs}
-use Rattle.signs.specs.SignEdges.{signEdge, signEdges, Spot, Begins, signsOf}
+use Rattle.items.proofs.TextLaws.{front-take, txt-short, type-short, type-of-edge}
+use Rattle.numbers.specs.Signs.{signed, signs}
+use Rattle.signs.specs.SignEdges.{signEdgeAt, Begins, signsOf}
 use Rattle.signs.proofs.TowardLaws.{add-all-append}
 
 -- ---- texts at the front of a buffer
-front-take : {s u : List ℕ} {n : ℕ} {t : Text} → Front s u n t → n ≤ length s → take n u ≡ t
-front-take {s} {u} {n} {t} f h =
-    ap (λ (m : ℕ). take m u) (f .long)
-    ∙ ap (take (length t)) (f .wrote ∙ sets-eq t s 0 (omega (arith, f .long)))
-    ∙ take-append-seam t _
-
 pub front-length : {s u : List ℕ} {n : ℕ} {t : Text} → Front s u n t → length u ≡ length s
 front-length {s} {u} {n} {t} f = ap length (f .wrote) ∙ length-sets s 0 t
 
@@ -56,7 +48,7 @@ begins-type {s} {u} {n} {t} f h k c =
       is =
           ap (λ (m : ℕ). take m (set v (n + 1) c)) two
           ∙ take-suc-set v (n + 1) c (omega arith)
-          ∙ ap (λ (x : List ℕ). x ++ (c ∷ [])) (ap (λ (m : ℕ). take m v) (add-one n) ∙ take-suc-set u n 32 (omega arith) ∙ ap (λ (x : List ℕ). x ++ (32 ∷ [])) (front-take f (omega arith)))
+          ∙ ap (λ (x : List ℕ). x ++ (c ∷ [])) (ap (λ (m : ℕ). take m v) (add-one n) ∙ take-suc-set u n 32 (omega arith) ∙ ap (λ (x : List ℕ). x ++ (32 ∷ [])) (front-take f (omega (arith, f .long))))
           ∙ append-assoc t (32 ∷ []) (c ∷ []);
       inside = omega (arith, length-set v (n + 1) c);
     }
@@ -73,43 +65,29 @@ begins-txt (a ∷ s) c {v} {n} {t} h k f =
     let m : suc (length s) - 1 ≡ length s = omega arith in
     let long : length v ≡ length s = front-length f ∙ ap (λ (x : ℕ). length (take x s)) m ∙ ap length (take-length s) in
     record {
-      is = rw (add-one n) (ap (λ (x : List ℕ). c ∷ x) (take-append-le n v _ (omega arith) ∙ front-take f (rw (← front-length f) (omega arith))));
+      is = rw (add-one n) (ap (λ (x : List ℕ). c ∷ x) (take-append-le n v _ (omega arith) ∙ front-take f (rw (← front-length f) (omega (arith, f .long)))));
       inside = omega (arith, length-append v (drop (suc (length s) - 1) s));
     }
 
--- ---- the edges for the signs of a list
-pub signed-is : (w : List ℕ) (c : ℕ) (e : NumEdge) (ms : List Text) → signEdges w (e .start) (e .end) (e .type ++ (32 ∷ c ∷ [])) (c ∷ e .txt) ms ≡ signed w c e ms
-unfolding signEdges signEdge signed
-signed-is w c e [] = refl
-signed-is w c e (m ∷ ms) = rw (signed-is w c e ms) (go (endsAt w (e .start) m) (regular (e .start - length (chars m)) (e .end) (e .type ++ (32 ∷ c ∷ [])) (c ∷ e .txt)) (signed w c e ms))
-  where
-    go : (b : Bool) (x : Edge) (r : List Edge) → cond b (x ∷ []) [] ++ r ≡ cond b (x ∷ r) r
-    go true x r = refl
-    go false x r = refl
-
-module _ (w table : List ℕ) {x : PassEdge} {i : Item} (h : EdgeIs x i) (c : ℕ) {ty tx : Text} (p : ty ≡ typeOf table i ++ (32 ∷ c ∷ [])) (q : tx ≡ c ∷ txtOf w table i) where
-  item-signed : (ms : List Text) → signEdges w (x .start .0) (x .end .0) ty tx ms ≡ signed w c (edgeOf w table i) ms
+-- ---- the edge for a sign
+module _ (w table : List ℕ) {x : PassEdge} {i : Item} (h : EdgeIs x i) where
+  pub start-is : x .start .0 ≡ edgeOf w table i .start
   unfolding edgeOf
-  item-signed ms =
-      let a : x .start .0 ≡ i .start = ap (λ (e : PassEdge). e .start .0) (h .is) in
-      let b : x .end .0 ≡ i .end = ap (λ (e : PassEdge). e .end .0) (h .is) in
-      rw (a, b, p, q, ← type-of-edge w table i) (signed-is w c (edgeOf w table i) ms)
+  start-is = ap (λ (e : PassEdge). e .start .0) (h .is)
 
-  pub item-holds : (ms : List Text) {v : List ℕ} {l : Lattice} (es : List Edge) → Holds v l (addAll es (signEdges w (x .start .0) (x .end .0) ty tx ms)) → Holds v l (addAll es (signed w c (edgeOf w table i) ms))
-  item-holds ms es k = rw (item-signed ms) at k
+  module _ (a c : ℕ) {ty tx : Text} (p : ty ≡ typeOf table i ++ (32 ∷ c ∷ [])) (q : tx ≡ c ∷ txtOf w table i) where
+    edge-is : regular a (x .end .0) ty tx ≡ signEdgeAt a c (edgeOf w table i)
+    unfolding edgeOf
+    edge-is = let b : x .end .0 ≡ i .end = ap (λ (e : PassEdge). e .end .0) (h .is) in rw (b, p, q, ← type-of-edge w table i)
 
-pub spot-of : (line offs table : List ℕ) {x : PassEdge} {i : Item} → ItemIs line table x i → Offsets line offs → length (chars line) ≤ 256 → (c : ℕ) {ty tx : Text}
-    → ty ≡ typeOf table i ++ (32 ∷ c ∷ []) → tx ≡ c ∷ txtOf (chars line) table i → Spot line offs (x .start .0) (x .end .0) ty tx
-spot-of line offs table {x} {i} h o k c p q =
-    let places = places-of line table x i h in
-    record {
-      few = k;
-      offsets = o;
-      start = omega arith;
-      end = omega arith;
-      short =
-          omega (arith, ap length p ∙ length-append (typeOf table i) (32 ∷ c ∷ []), ap length q, type-short (chars line) table i (h .sound), txt-short (chars line) table i (h .sound) k);
-    }
+    pub edge-added : {v : List ℕ} {l : Lattice} (es : List Edge) → Holds v l (add es (regular a (x .end .0) ty tx)) → Holds v l (add es (signEdgeAt a c (edgeOf w table i)))
+    edge-added es k = rw edge-is at k
+
+-- its texts are short
+pub sign-short : (line table : List ℕ) {x : PassEdge} {i : Item} → ItemIs line table x i → length (chars line) ≤ 256 → (c : ℕ) {ty tx : Text}
+    → ty ≡ typeOf table i ++ (32 ∷ c ∷ []) → tx ≡ c ∷ txtOf (chars line) table i → length ty + length tx ≤ 2000
+sign-short line table {x} {i} h k c p q =
+    omega (arith, ap length p ∙ length-append (typeOf table i) (32 ∷ c ∷ []), ap length q, type-short (chars line) table i (h .sound), txt-short (chars line) table i (h .sound) k)
 
 -- ---- both lists, where the item has a value
 module _ (w table : List ℕ) (h : Shape) {x : PassEdge} {i : Item} (e : EdgeIs x i) where

@@ -12,10 +12,10 @@ ghost use mathlib.Core.List.{List, _∷_, [], _++_, map};
 ghost use Prim.Native.Nat.{ℕ, _+_, _*_, _≤_};
 ghost use lib.ListN.{length, drop};
 ghost use Rattle.text.specs.Text.{chars, wellFormed};
-ghost use Rattle.dicts.specs.Layout.{textsAt, listAt};
+ghost use Rattle.dicts.specs.Layout.{listAt};
 ghost use Rattle.dicts.specs.Answers.{partOf, Within, tableOf};
 ghost use Rattle.edge.specs.Edge.{Edge};
-ghost use Rattle.lattice.specs.Lattice.{addAll};
+ghost use Rattle.lattice.specs.Lattice.{add, addAll};
 ghost use Rattle.lattice.specs.Kept.{Holds};
 ghost use Rattle.pass_list.specs.Item.{Item, EdgeIs};
 ghost use Rattle.pass_list.specs.Stored.{itemsAt};
@@ -23,100 +23,15 @@ ghost use Rattle.pass_list.specs.Edges.{txtOf, edgeOf};
 ghost use Rattle.stages.specs.Ready.{Ready, Offsets};
 ghost use Rattle.items.specs.Sound.{Sounds, ItemIs};
 ghost use Rattle.items.specs.Texts.{typeOf};
-ghost use Rattle.numbers.specs.Signs.{signed, signs};
+ghost use Rattle.items.specs.Adding.{Asks};
+ghost use Rattle.numbers.specs.Signs.{signs};
 ghost use Rattle.markers.specs.Marks.{Formed};
-ghost use Rattle.signs.specs.SignEdges.{signEdge, signEdges, Spot, Begins, signsOf};
+ghost use Rattle.signs.specs.SignEdges.{signEdgeAt, Signs, Begins, signsOf};
 
 // Where the pass list stands in the work space.
 const LIST: usize = 39424;
 
-// ---- the signs before one number, whose edge ends at place end and has the type ty and the txt txt
-
-// The edge for one sign of the table.
-fn add_sign(
-    w: &mut [u8],
-    l: Lattice,
-    line: &[u8],
-    offs: &[usize; 257],
-    start: Place,
-    end: Place,
-    ty: &[u8],
-    txt: &[u8],
-    table: &[u8],
-    m: Part,
-) -> Lattice
-    requires { ⌜ ((es : List Edge) × Holds (now w) l es) × Spot (now line) (now offs) (start .0) (end .0) (now ty) (now txt) × Within (now table) m × (wellFormed (partOf (now table) m) ≡ true) ⌝ }
-    ensures { λ r. ⌜ (drop 39424 (now (w .exit)) ≡ drop 39424 (now (w .entry))) × ((es : List Edge) → Holds (now (w .entry)) l es → Holds (now (w .exit)) r (addAll es (signEdge (chars (now (line .entry))) (start .0) (end .0) (now (ty .entry)) (now (txt .entry)) (partOf (now (table .entry)) m)))) ⌝ }
-{
-    let from = m.at;
-    let to = m.at + m.len;
-    match markers::sign_before(line, offs, start, &table[from..to]) {
-        Sign::Before(size) => {
-            lattice_write::add_regular(w, l, Place(start.0 - size), end, ty, txt)
-        }
-        Sign::NoSign => l,
-    }
-}
-
-// The edges for n signs of the table, in their order.
-fn add_signs_from(
-    w: &mut [u8],
-    l: Lattice,
-    line: &[u8],
-    offs: &[usize; 257],
-    start: Place,
-    end: Place,
-    ty: &[u8],
-    txt: &[u8],
-    table: &[u8],
-    from: usize,
-    n: usize,
-) -> Lattice
-    requires { ⌜ ((es : List Edge) × Holds (now w) l es) × Spot (now line) (now offs) (start .0) (end .0) (now ty) (now txt) × Formed (textsAt n (now table) from) ⌝ }
-    ensures { λ r. ⌜ (drop 39424 (now (w .exit)) ≡ drop 39424 (now (w .entry))) × ((es : List Edge) → Holds (now (w .entry)) l es → Holds (now (w .exit)) r (addAll es (signEdges (chars (now (line .entry))) (start .0) (end .0) (now (ty .entry)) (now (txt .entry)) (textsAt n (now (table .entry)) from)))) ⌝ }
-{
-    let mut grown = l;
-    let mut next = from;
-    let mut left = n;
-    while 0 < left {
-        match dicts::layout::text_at(table, next) {
-            TextAt::Text(m, behind) => {
-                grown = add_sign(w, grown, line, offs, start, end, ty, txt, table, m);
-                next = behind;
-                left -= 1;
-            }
-            TextAt::Fault => {
-                return grown;
-            }
-        }
-    }
-    grown
-}
-
-// The edges for the signs of a list of the table.
-fn add_signs_in(
-    w: &mut [u8],
-    l: Lattice,
-    line: &[u8],
-    offs: &[usize; 257],
-    start: Place,
-    end: Place,
-    ty: &[u8],
-    txt: &[u8],
-    table: &[u8],
-    list: usize,
-) -> Lattice
-    requires { ⌜ ((es : List Edge) × Holds (now w) l es) × Spot (now line) (now offs) (start .0) (end .0) (now ty) (now txt) × Formed (listAt (now table) list) ⌝ }
-    ensures { λ r. ⌜ (drop 39424 (now (w .exit)) ≡ drop 39424 (now (w .entry))) × ((es : List Edge) → Holds (now (w .entry)) l es → Holds (now (w .exit)) r (addAll es (signEdges (chars (now (line .entry))) (start .0) (end .0) (now (ty .entry)) (now (txt .entry)) (listAt (now (table .entry)) list)))) ⌝ }
-{
-    if table.len() <= list {
-        return l;
-    }
-    let n = table[list] as usize;
-    add_signs_from(w, l, line, offs, start, end, ty, txt, table, list + 1, n)
-}
-
-// ---- the signs before an item of the pass list
+// ---- the edge for one sign before an item of the pass list; sign is its ASCII byte
 
 // The type of a sign's edge goes to the front of a buffer: the item's, a space and the sign.
 fn sign_type(buf: &mut [u8], table: &[u8], x: PassEdge, sign: u8) -> usize
@@ -146,7 +61,52 @@ fn sign_txt(
     n + 1
 }
 
-// The edges for the signs of one list before an item: sign is their ASCII byte.
+// The edge for a sign that stands at place start: its texts are put together only here.
+fn add_signed(
+    w: &mut [u8],
+    l: Lattice,
+    line: &[u8],
+    offs: &[usize; 257],
+    table: &[u8],
+    x: PassEdge,
+    sign: u8,
+    start: Place,
+) -> Lattice
+    requires { ⌜ Asks (now w) l (now line) (now offs) (now table) x × (start .0 ≤ 256) ⌝ }
+    ensures { λ r. ⌜ (drop 39424 (now (w .exit)) ≡ drop 39424 (now (w .entry))) × ((es : List Edge) (i : Item) → Holds (now (w .entry)) l es → EdgeIs x i → Holds (now (w .exit)) r (add es (signEdgeAt (start .0) sign (edgeOf (chars (now (line .entry))) (now (table .entry)) i)))) ⌝ }
+{
+    let mut ty = [0u8; 62];
+    let mut txt = [0u8; 257];
+    let n = sign_type(&mut ty, table, x, sign);
+    let k = sign_txt(&mut txt, line, offs, table, x, sign);
+    lattice_write::add_regular(w, l, start, x.end, &ty[..n], &txt[..k])
+}
+
+// The edge for one sign of the table, where it stands directly before the item.
+fn add_sign(
+    w: &mut [u8],
+    l: Lattice,
+    line: &[u8],
+    offs: &[usize; 257],
+    table: &[u8],
+    x: PassEdge,
+    sign: u8,
+    m: Part,
+) -> Lattice
+    requires { ⌜ Asks (now w) l (now line) (now offs) (now table) x × Within (now table) m × (wellFormed (partOf (now table) m) ≡ true) ⌝ }
+    ensures { λ r. ⌜ Signs (now (line .entry)) (now (table .entry)) x sign (partOf (now (table .entry)) m ∷ []) (now (w .entry)) l (now (w .exit)) r ⌝ }
+{
+    let from = m.at;
+    let to = m.at + m.len;
+    match markers::sign_before(line, offs, x.start, &table[from..to]) {
+        Sign::Before(size) => add_signed(w, l, line, offs, table, x, sign, Place(x.start.0 - size)),
+        Sign::NoSign => l,
+    }
+}
+
+// ---- the signs before an item
+
+// The edges for the signs of a list of the table, in their order.
 fn add_signs_of(
     w: &mut [u8],
     l: Lattice,
@@ -157,25 +117,28 @@ fn add_signs_of(
     x: PassEdge,
     sign: u8,
 ) -> Lattice
-    requires { ⌜ ((es : List Edge) × Holds (now w) l es) × Offsets (now line) (now offs) × ((i : Item) × ItemIs (now line) (now table) x i) × (length (chars (now line)) ≤ 256) × Formed (listAt (now table) list) ⌝ }
-    ensures { λ r. ⌜ (drop 39424 (now (w .exit)) ≡ drop 39424 (now (w .entry))) × ((es : List Edge) (i : Item) → Holds (now (w .entry)) l es → EdgeIs x i → Holds (now (w .exit)) r (addAll es (signed (chars (now (line .entry))) sign (edgeOf (chars (now (line .entry))) (now (table .entry)) i) (listAt (now (table .entry)) list)))) ⌝ }
+    requires { ⌜ Asks (now w) l (now line) (now offs) (now table) x × Formed (listAt (now table) list) ⌝ }
+    ensures { λ r. ⌜ Signs (now (line .entry)) (now (table .entry)) x sign (listAt (now (table .entry)) list) (now (w .entry)) l (now (w .exit)) r ⌝ }
 {
-    let mut ty = [0u8; 64];
-    let mut txt = [0u8; 264];
-    let n = sign_type(&mut ty, table, x, sign);
-    let k = sign_txt(&mut txt, line, offs, table, x, sign);
-    add_signs_in(
-        w,
-        l,
-        line,
-        offs,
-        x.start,
-        x.end,
-        &ty[..n],
-        &txt[..k],
-        table,
-        list,
-    )
+    if table.len() <= list {
+        return l;
+    }
+    let mut grown = l;
+    let mut next = list + 1;
+    let mut left = table[list] as usize;
+    while 0 < left {
+        match dicts::layout::text_at(table, next) {
+            TextAt::Text(m, behind) => {
+                grown = add_sign(w, grown, line, offs, table, x, sign, m);
+                next = behind;
+                left -= 1;
+            }
+            TextAt::Fault => {
+                return grown;
+            }
+        }
+    }
+    grown
 }
 
 // The edges for the signs before an item: only where it has a value, minus before plus.

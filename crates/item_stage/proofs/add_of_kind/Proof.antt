@@ -43,7 +43,7 @@ loop-again c =
     adding-more (chars (a .line .now)) (a .table .now) (a .kind) (a .n) (a .w .now) (a .l) _ _ (at-loop .loop .i) (at-loop .loop .inv) (at-add .add-if .last .0) (at-add .add-if .result) es h (in-loop .loop-test .taken) (at-add .add-if .ensures .0) (at-add .add-if .ensures .1)
 
 same-length : tie.Need-same-length Inv-loop μ-loop
-same-length c = search needs
+same-length c = c .before .loop .inv .long
 
 returns : tie.Need-returns Inv-loop μ-loop
 returns c =

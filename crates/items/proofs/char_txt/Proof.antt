@@ -33,7 +33,7 @@ copy-part-requires c κs =
     (omega arith, within, omega (arith, fits, ap length txt, long))
 
 same-length : tie.Need-same-length
-same-length c = search needs
+same-length c = c .before .before .copy-part .kept .0
 
 returns : tie.Need-returns
 returns c =
@@ -70,7 +70,7 @@ enum-told : tie.Need-enum-told
 enum-told c = search needs
 
 same-length-2 : tie.Need-same-length-2
-same-length-2 c = search needs
+same-length-2 c = c .before .before .copy-part2 .kept .0
 
 returns-2 : tie.Need-returns-2
 returns-2 c =

@@ -25,7 +25,7 @@ sub-result : tie.Need-sub-result
 sub-result c = search needs
 
 same-length : tie.Need-same-length
-same-length c = search needs
+same-length c = c .before .before .copy-in .kept .0
 
 returns : tie.Need-returns
 unfolding part

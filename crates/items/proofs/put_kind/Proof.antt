@@ -8,7 +8,7 @@ put-name-requires : tie.Need-put-name-requires
 put-name-requires c κs = search needs
 
 same-length : tie.Need-same-length
-same-length c = search needs
+same-length c = c .before .before .put-name .kept .0
 
 returns : tie.Need-returns
 returns c = front-is (name-d1 _ (c .before .before .before .before .if1 .taken)) (c .before .before .put-name .ensures)
@@ -17,7 +17,7 @@ put-name-requires-2 : tie.Need-put-name-requires-2
 put-name-requires-2 c κs = search needs
 
 same-length-2 : tie.Need-same-length-2
-same-length-2 c = search needs
+same-length-2 c = c .before .before .put-name2 .kept .0
 
 returns-2 : tie.Need-returns-2
 returns-2 c = front-is (name-g1 _ (c .before .before .before .before .if2 .taken)) (c .before .before .put-name2 .ensures)
@@ -26,7 +26,7 @@ put-name-requires-3 : tie.Need-put-name-requires-3
 put-name-requires-3 c κs = search needs
 
 same-length-3 : tie.Need-same-length-3
-same-length-3 c = search needs
+same-length-3 c = c .before .before .put-name3 .kept .0
 
 returns-3 : tie.Need-returns-3
 returns-3 c = front-is (name-g2 _ (c .before .before .before .before .if3 .taken)) (c .before .before .put-name3 .ensures)
@@ -35,7 +35,7 @@ put-name-requires-4 : tie.Need-put-name-requires-4
 put-name-requires-4 c κs = search needs
 
 same-length-4 : tie.Need-same-length-4
-same-length-4 c = search needs
+same-length-4 c = c .before .before .put-name4 .kept .0
 
 returns-4 : tie.Need-returns-4
 returns-4 c = front-is (name-g3 _ (c .before .before .before .before .if4 .taken)) (c .before .before .put-name4 .ensures)
@@ -44,7 +44,7 @@ put-name-requires-5 : tie.Need-put-name-requires-5
 put-name-requires-5 c κs = search needs
 
 same-length-5 : tie.Need-same-length-5
-same-length-5 c = search needs
+same-length-5 c = c .before .before .put-name5 .kept .0
 
 returns-5 : tie.Need-returns-5
 returns-5 c =

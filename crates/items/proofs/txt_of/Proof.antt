@@ -19,7 +19,7 @@ char-txt-requires c κs =
     (start .pre .0, places .0, places .1, start .pre .2, omega (arith, fits, start .pre .3))
 
 same-length : tie.Need-same-length
-same-length c = search needs
+same-length c = c .before .before .char-txt .kept .0
 
 returns : tie.Need-returns
 returns c i is =
@@ -42,7 +42,7 @@ put-padded-requires c κs =
     omega (arith, places-of (start .args .line .now) (start .args .table .now) (start .args .x) i is .1, start .pre .2, start .pre .3)
 
 same-length-2 : tie.Need-same-length-2
-same-length-2 c = search needs
+same-length-2 c = c .before .before .put-padded .kept .0
 
 returns-2 : tie.Need-returns-2
 returns-2 c i is =
@@ -63,7 +63,7 @@ put-decimal-requires c κs =
     omega (arith, length-decimal-top (at-value .to-u64 .result) (omega arith), start .pre .3)
 
 same-length-3 : tie.Need-same-length-3
-same-length-3 c = search needs
+same-length-3 c = c .before .before .put-decimal .kept .0
 
 returns-3 : tie.Need-returns-3
 returns-3 c i is =

@@ -9,7 +9,7 @@ char-type-requires : tie.Need-char-type-requires
 char-type-requires c κs = search needs
 
 same-length : tie.Need-same-length
-same-length c = search needs
+same-length c = c .before .before .char-type .kept .0
 
 returns : tie.Need-returns
 returns c i is =
@@ -20,7 +20,7 @@ put-kind-requires : tie.Need-put-kind-requires
 put-kind-requires c κs = search needs
 
 same-length-2 : tie.Need-same-length-2
-same-length-2 c = search needs
+same-length-2 c = c .before .before .put-kind .kept .0
 
 returns-2 : tie.Need-returns-2
 returns-2 c i is =

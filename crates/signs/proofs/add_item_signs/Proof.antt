@@ -1,12 +1,18 @@
 -- `signs::add_item_signs` meets its contract, by whether the item has a value. Assumes nothing.
 use borrow.Author.Needs.{needs}
 use mathlib.Core.Path.{refl, _∙_}
+use mathlib.Core.List.{List}
 use Prim.Native.Nat.{_≤_}
 use native.Mathlib.Omega.{arith}
 use lib.ListN.{length}
 use Rattle.text.specs.Text.{chars}
 use Rattle.dicts.specs.Layout.{listAt}
 use Rattle.dicts.specs.Answers.{tableOf}
+use Rattle.edge.specs.Edge.{Edge}
+use Rattle.lattice.specs.Lattice.{addAll}
+use Rattle.pass_list.specs.Item.{Item}
+use Rattle.pass_list.specs.Edges.{edgeOf}
+use Rattle.numbers.specs.Signs.{signed}
 use Rattle.markers.specs.Marks.{Formed}
 use Rattle.markers.proofs.MarkLaws.{Marks, table-marks}
 use Rattle.signs.proofs.ItemLaws.{both-holds, none-holds}
@@ -28,26 +34,34 @@ plus-formed : (a : tie.Start) → Formed (listAt (a .args .table .now) (a .args 
 unfolding tableOf
 plus-formed a = marks a .plus
 
+-- the edges for the minus signs before the item i
+abbrev minus : tie.Start → Item → List Edge
+minus a i = let w = chars (a .args .line .now) in let t = a .args .table .now in signed w 45 (edgeOf w t i) (listAt t (a .args .h .minus))
+
 add-signs-of-requires : tie.Need-add-signs-of-requires
-add-signs-of-requires c κs = let a = c .before .before .before .before .before in (a .pre .0, a .pre .1, a .pre .2, few a, minus-formed a)
+add-signs-of-requires c κs =
+    let a = c .before .before .before .before .before in
+    (record { holds = a .pre .0; offsets = a .pre .1; item = a .pre .2; few = few a }, minus-formed a)
 
 add-signs-of-requires-2 : tie.Need-add-signs-of-requires-2
 add-signs-of-requires-2 c κs =
     let a = c .before .before .before .before .before .before .before .before .before in
     let p = a .pre in
-    ((_, c .before .before .before .add-signs-of .ensures .1 (p .0 .0) (p .2 .0) (p .0 .1) (p .2 .1 .is)), p .1, p .2, few a, plus-formed a)
+    let held = c .before .before .before .add-signs-of .ensures .holds (p .0 .0) (p .2 .0) (p .0 .1) (p .2 .1 .is) in
+    (record { holds = (addAll (p .0 .0) (minus a (p .2 .0)), held); offsets = p .1; item = p .2; few = few a }, plus-formed a)
 
 same-length : tie.Need-same-length
-same-length c = search needs
+same-length c = c .before .before .add-signs-of2 .kept .0 ∙ c .before .before .before .before .before .before .add-signs-of .kept .0
 
 returns : tie.Need-returns
 returns c =
-    let two = c .before .before .add-signs-of2 in
+    let two = c .before .before .add-signs-of2 .ensures in
     let k = c .before .before .before .before .before .before in
-    let one = k .add-signs-of in
+    let one = k .add-signs-of .ensures in
     let then = k .before .before in
-    let a = then .before .before .before .before .args in
-    (two .ensures .0 ∙ one .ensures .0, λ es i q e. both-holds (chars (a .line .now)) (a .table .now) (a .h) e (then .if1 .taken) es (two .ensures .1 _ i (one .ensures .1 es i q e) e))
+    let s = then .before .before .before .before in
+    let a = s .args in
+    (two .frame ∙ one .frame, λ es i q e. both-holds (chars (a .line .now)) (a .table .now) (a .h) e (then .if1 .taken) es (two .holds (addAll es (minus s i)) i (one .holds es i q e) e))
 
 returns-2 : tie.Need-returns-2
 returns-2 c = let a = c .before .before .before .before .args in (refl, λ es i q e. none-holds (chars (a .line .now)) (a .table .now) (a .h) e (c .if1 .left) es q)

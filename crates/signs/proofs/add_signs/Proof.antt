@@ -14,6 +14,7 @@ use Rattle.pass_list.specs.Stored.{itemAt, itemsAt}
 use Rattle.pass_list.specs.Edges.{edgeOf}
 use Rattle.items.specs.Sound.{Sound, Sounds}
 use Rattle.numbers.specs.Signs.{signs}
+use Rattle.signs.specs.SignEdges.{signsOf}
 use Rattle.signs.proofs.TowardLaws.{Toward, toward-start, toward-next, toward-end}
 use Rattle.signs.proofs.ItemLaws.{behind-length, rest, rest-start, rest-next, rest-end, sounds-start, sounds-next}
 use Rattle.signs.proofs.add_signs.Statement.{statement}
@@ -85,7 +86,9 @@ loop-again c =
     let l = g .before .before .before in
     let a = l .before .before .before .before .before .args in
     let i = l .before .loop .i in
-    (toward-next (l .before .loop .inv .0) _ (rest-next (tableOf (a .table .now) (a .h)) (chars (a .line .now)) (a .table .now) (drop 39424 (a .w .now)) (a .n) i (l .loop-test .taken)) (k .add-item-signs .kept .0) (k .add-item-signs .ensures .0) (λ es q. k .add-item-signs .ensures .1 es _ q (read-is g)), here l .1, omega (arith, l .loop-test .taken))
+    let w = chars (a .line .now) in
+    let edges = signsOf (tableOf (a .table .now) (a .h)) w (edgeOf w (a .table .now) (itemAt (drop 39424 (a .w .now)) (i * 56))) in
+    (toward-next (l .before .loop .inv .0) edges (rest-next (tableOf (a .table .now) (a .h)) (chars (a .line .now)) (a .table .now) (drop 39424 (a .w .now)) (a .n) i (l .loop-test .taken)) (k .add-item-signs .kept .0) (k .add-item-signs .ensures .0) (λ es q. k .add-item-signs .ensures .1 es (itemAt (drop 39424 (a .w .now)) (i * 56)) q (read-is g)), here l .1, omega (arith, l .loop-test .taken))
 
 same-length : tie.Need-same-length Inv-loop μ-loop
 same-length c = c .before .loop .inv .0 .long
