@@ -5,3 +5,4 @@ pub mod MarkerLaws
 pub mod NewLaws
 pub mod ChooseLaws
 pub mod StageLaws
+pub mod AnyMarkerLaws

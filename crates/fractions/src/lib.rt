@@ -16,10 +16,31 @@ ghost use Rattle.numbers.specs.Fractions.{madeAt, usedEdges, newEdges, fraction
 ghost use Rattle.made.specs.Choice.{madeOf, Valid};
 ghost use Rattle.made.specs.Around.{Keeps, Around};
 ghost use Rattle.fractions.specs.Mades.{madesOf, usedBy, AllValid, Decided, Planned};
+ghost use Rattle.fractions.specs.AnyMarker.{anyMarker};
 use dicts::shape::Shape;
 use lattice::Lattice;
 use made::Choice;
+use markers::Marker;
 use text::Place;
+
+// Whether a marker stands at any of the n places.
+fn any_marker(line: &[u8], offs: &[usize; 257], table: &[u8], h: Shape, n: usize) -> bool
+    requires { ⌜ Ready (now line) (now table) h n × Offsets (now line) (now offs) ⌝ }
+    ensures { λ r. ⌜ r ≡ anyMarker (tableOf (now (table .entry)) h) (chars (now (line .entry))) ⌝ }
+{
+    let mut p = 0;
+    while p < n {
+        match markers::marker_at(line, offs, table, h, Place(p)) {
+            Marker::NoMarker => {
+                p += 1;
+            }
+            _ => {
+                return true;
+            }
+        }
+    }
+    false
+}
 
 // What the marker at a place leads to. before and behind keep the left and the right neighbours of all places.
 fn choice_at(
@@ -172,7 +193,7 @@ fn add_all(
     grown
 }
 
-// The stage of fractions and percentages. A lattice that is full stays as it is.
+// The stage of fractions and percentages. A lattice that is full stays as it is, and so does one of a line without markers.
 pub fn fractions(
     w: &mut [u8],
     l: Lattice,
@@ -186,6 +207,9 @@ pub fn fractions(
     ensures { λ r. ⌜ (drop 39424 (now (w .exit)) ≡ drop 39424 (now (w .entry))) × ((es : List Edge) → Holds (now (w .entry)) l es → CallEdges n es → Holds (now (w .exit)) r (fractions (tableOf (now (table .entry)) h) (chars (now (line .entry))) es)) ⌝ }
 {
     if l.full {
+        return l;
+    }
+    if !any_marker(line, offs, table, h, n) {
         return l;
     }
     let mut forms = [0usize; 256];
