@@ -3,7 +3,6 @@
 use Prim.Native.Nat.{_-_}
 use mathlib.Core.Path.{_≡_, sym, ap, _∙_}
 use native.Mathlib.Omega.{arith}
-use borrow.Author.Needs.{needs}
 use Rattle.text.specs.Text.{chars}
 use Rattle.dicts.specs.Answers.{tableOf}
 use Rattle.markers.specs.declared.Marker.{Marker}

@@ -10,8 +10,7 @@ use Rattle.stages.specs.CallEdge.{CallEdges}
 use Rattle.fractions.specs.Mades.{Decided}
 use Rattle.new_edges.proofs.EdgeLaws.{not-true}
 use Rattle.fractions.proofs.AnyMarkerLaws.{no-marker-stage}
-use Rattle.fractions.proofs.StageLaws.{full-stage, keeps-of, planned, stage-is}
-use borrow.Author.Needs.{needs}
+use Rattle.fractions.proofs.StageLaws.{full-stage, keeps-of, planned, stage-holds}
 use Rattle.fractions.proofs.fractions.Statement.{statement}
 use Rattle.fractions.proofs.fractions.Tie as tie
 
@@ -52,7 +51,7 @@ add-all-requires c κs =
     ((_, planned _ _ (p .1 .0) _ _ _ (decided g (p .1 .1) (p .1 .2)) (p .0 .few) (p .1 .2) (f .turn-off-all .ensures .1 _ (p .1 .1) (λ q h. decided g (p .1 .1) (p .1 .2) q h .1))), p .0 .few)
 
 same-length : tie.Need-same-length
-same-length c = search needs
+same-length c = let a = c .before .before in a .add-all .kept .0 ∙ a .before .before .before .before .before .before .before .turn-off-all .kept .0
 
 returns-3 : tie.Need-returns-3
 returns-3 c =
@@ -61,10 +60,7 @@ returns-3 c =
     let g = f .before .before .before .before .before in
     let r = start g .pre .0 in (
       a .add-all .ensures .0 ∙ f .turn-off-all .ensures .0,
-      λ es h k.
-          let d = decided g h k in
-          subst (Holds (a .add-all .last .0) (a .add-all .result)) (stage-is _ _ es _ _ _ d (r .count))
-          (a .add-all .ensures .1 _ (planned _ _ es _ _ _ d (r .few) k (f .turn-off-all .ensures .1 es h (λ q x. d q x .1)))),
+      λ es h k. let d = decided g h k in stage-holds _ _ es _ _ _ d (r .count) (r .few) k (f .turn-off-all .ensures .1 es h (λ q x. d q x .1)) (a .add-all .ensures .1),
     )
 
 pub fractions-spec : {M : Type 1} → statement M
