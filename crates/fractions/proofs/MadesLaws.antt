@@ -21,8 +21,9 @@ use Rattle.stages.proofs.CallLaws.{add-all-call}
 use Rattle.numbers.specs.Fractions.{Made, made, nothing, madeAt, madeFrom, newEdges, usedEdges}
 use Rattle.made.specs.declared.Choice.{Choice}
 use Rattle.made.specs.Choice.{madeOf, formed, Two, Valid}
+use Rattle.choices.specs.Choices.{choiceAt}
 use Rattle.new_edges.specs.NewEdge.{Has, Over, addMade}
-use Rattle.fractions.specs.Mades.{choiceAt, madesOf, usedWith, usedBy, AllValid, Planned}
+use Rattle.fractions.specs.Mades.{madesOf, usedWith, usedBy, AllValid, Planned}
 use Rattle.fractions.proofs.KeepsLaws.{Keeps, keeps-turn-off, keeps-add-all, valid-keeps, made-keeps}
 
 -- ---- lists of what was made

@@ -16,7 +16,8 @@ use Rattle.stages.proofs.OverLaws.{holds-full, over-add-all, over-turn-off}
 use Rattle.stages.proofs.CallLaws.{turn-off-call}
 use Rattle.numbers.specs.Fractions.{Made, madeFrom, newEdges, usedEdges, fractions}
 use Rattle.made.specs.Around.{Keeps}
-use Rattle.fractions.specs.Mades.{madesOf, AllValid, Decided, Planned}
+use Rattle.choices.specs.Choices.{Decided}
+use Rattle.fractions.specs.Mades.{madesOf, AllValid, Planned}
 use Rattle.fractions.proofs.KeepsLaws.{keeps-turn-off, valid-keeps}
 use Rattle.fractions.proofs.MadesLaws.{mades-all, mades-keep}
 use Rattle.fractions.proofs.NewLaws.{new-call}

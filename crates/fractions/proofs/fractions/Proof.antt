@@ -7,7 +7,7 @@ use Rattle.dicts.specs.Answers.{tableOf}
 use Rattle.edge.specs.Edge.{Edge}
 use Rattle.lattice.specs.Kept.{Holds}
 use Rattle.stages.specs.CallEdge.{CallEdges}
-use Rattle.fractions.specs.Mades.{Decided}
+use Rattle.choices.specs.Choices.{Decided}
 use Rattle.new_edges.proofs.EdgeLaws.{not-true}
 use Rattle.fractions.proofs.AnyMarkerLaws.{no-marker-stage}
 use Rattle.fractions.proofs.StageLaws.{full-stage, keeps-of, planned, stage-holds}
