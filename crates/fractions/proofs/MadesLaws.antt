@@ -21,8 +21,9 @@ use Rattle.stages.proofs.CallLaws.{add-all-call}
 use Rattle.numbers.specs.Fractions.{Made, made, nothing, madeAt, madeFrom, newEdges, usedEdges}
 use Rattle.made.specs.declared.Choice.{Choice}
 use Rattle.made.specs.Choice.{madeOf, formed, Two, Valid}
+use Rattle.choices.specs.Choices.{choiceAt}
 use Rattle.new_edges.specs.NewEdge.{Has, Over, addMade}
-use Rattle.fractions.specs.Mades.{choiceAt, madesOf, usedWith, usedBy, AllValid, Planned}
+use Rattle.fractions.specs.Mades.{madesOf, usedWith, usedBy, AllValid, Planned}
 use Rattle.fractions.proofs.KeepsLaws.{Keeps, keeps-turn-off, keeps-add-all, valid-keeps, made-keeps}
 
 -- ---- lists of what was made
@@ -142,15 +143,18 @@ add-more es fs ls rs p v =
     ∙ sym (ap (λ (r : List Made). addAll es (newEdges r)) (mades-more es fs ls rs p) ∙ ap (addAll es) (new-append (madesOf es fs ls rs 0 p) (m ∷ [])))
 
 -- ---- the edges that one choice uses
-module _ {form : ℕ} (i j : ℕ) where
-  pub used-none : form ≡ 0 → usedWith form i j ≡ []
-  used-none e = rw e
+module _ {w : List ℕ} {l : Lattice} (es : List Edge) (c : Choice) where
+  pub off-none : c .form ≡ 0 → Holds w l es → Holds w l (turnOff es (usedBy c))
+  unfolding usedBy turnOff
+  off-none e h = rw e h
 
-  pub used-right : form ≡ 3 → usedWith form i j ≡ j ∷ []
-  used-right e = rw e
+  pub off-right : c .form ≡ 3 → Holds w l (turnOffAt es (c .right)) → Holds w l (turnOff es (usedBy c))
+  unfolding usedBy turnOff
+  off-right e h = rw e h
 
-  pub used-both : (form ≡ 0 → ⊥) → (form ≡ 3 → ⊥) → usedWith form i j ≡ i ∷ j ∷ []
-  used-both a b = rw (ne-eqb form 0 a, ne-eqb form 3 b)
+  pub off-both : (c .form ≡ 0 → ⊥) → (c .form ≡ 3 → ⊥) → Holds w l (turnOffAt (turnOffAt es (c .left)) (c .right)) → Holds w l (turnOff es (usedBy c))
+  unfolding usedBy turnOff
+  off-both a b h = rw (ne-eqb (c .form) 0 a, ne-eqb (c .form) 3 b) h
 
 pub two-of : {es : List Edge} {c : Choice} → Valid es c → (c .form ≡ 0 → ⊥) → (c .form ≡ 3 → ⊥) → Two es (c .left) (c .right)
 two-of {es} {c} v a b = go (c .form) refl

@@ -16,7 +16,8 @@ use Rattle.stages.proofs.OverLaws.{holds-full, over-add-all, over-turn-off}
 use Rattle.stages.proofs.CallLaws.{turn-off-call}
 use Rattle.numbers.specs.Fractions.{Made, madeFrom, newEdges, usedEdges, fractions}
 use Rattle.made.specs.Around.{Keeps}
-use Rattle.fractions.specs.Mades.{madesOf, AllValid, Decided, Planned}
+use Rattle.choices.specs.Choices.{Decided}
+use Rattle.fractions.specs.Mades.{madesOf, AllValid, Planned}
 use Rattle.fractions.proofs.KeepsLaws.{keeps-turn-off, valid-keeps}
 use Rattle.fractions.proofs.MadesLaws.{mades-all, mades-keep}
 use Rattle.fractions.proofs.NewLaws.{new-call}
@@ -52,8 +53,13 @@ module _ (t : Table) (c : List ℕ) {n : ℕ} (es : List Edge) (fs ls rs : List 
   }
 
   -- ---- what it leaves
-  pub stage-is : length c ≡ n → addAll (turnOff es (usedEdges (madesOf es fs ls rs 0 n))) (newEdges (madesOf (turnOff es (usedEdges (madesOf es fs ls rs 0 n))) fs ls rs 0 n)) ≡ fractions t c es
+  stage-is : length c ≡ n → addAll (turnOff es (usedEdges (madesOf es fs ls rs 0 n))) (newEdges (madesOf (turnOff es (usedEdges (madesOf es fs ls rs 0 n))) fs ls rs 0 n)) ≡ fractions t c es
   unfolding fractions
   stage-is e =
       ap (λ (ms : List Made). addAll (turnOff es (usedEdges (madesOf es fs ls rs 0 n))) (newEdges ms)) same-mades
       ∙ ap (λ (ms : List Made). addAll (turnOff es (usedEdges ms)) (newEdges ms)) (are-mades ∙ ap (madeFrom t c es 0) (sym e))
+
+  -- w, l: after the second loop, u, k: after the third
+  pub stage-holds : length c ≡ n → n ≤ 256 → CallEdges n es → {w u : List ℕ} {l k : Lattice} → Holds w l (turnOff es (usedEdges (madesOf es fs ls rs 0 n)))
+      → ((ds : List Edge) → Planned n w l ds fs ls rs → Holds u k (addAll ds (newEdges (madesOf ds fs ls rs 0 n)))) → Holds u k (fractions t c es)
+  stage-holds e few call {u = u} {k = k} q f = subst (Holds u k) (stage-is e) (f _ (planned few call q))

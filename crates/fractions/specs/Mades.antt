@@ -1,28 +1,21 @@
--- The choices of all places, as the arrays of the code hold them, and what they lead to. Definitions only.
---     choiceAt fs ls rs p       the choice of place p, of arrays of forms, left and right indices
+-- What the choices of all places lead to (`Choices` of `choices` has how the arrays hold them). Definitions only.
 --     madesOf es fs ls rs p k   what the choices of the k places from p on lead to over the lattice es
 --     usedBy c                  the indices of the edges that the choice c uses
 --     AllValid es fs ls rs n    each of the first n choices may stand over es
---     Decided t w es .. n       the first n choices lead to what the definition says for the table t and the line's characters w, and may stand
 --     Planned n w l es ..       besides, w and l hold the edges es of a call over n characters, and so are those that are made
 --     Assumes nothing.
-use mathlib.Core.Path.{_≡_}
 use mathlib.Core.List.{List, [], _∷_}
 use mathlib.Core.Bool.{cond}
 use Prim.Native.Nat.{ℕ, zero, suc, _<_}
 use lib.Dec.{eqb}
-use lib.ListN.{getD}
-use Rattle.dicts.specs.Table.{Table}
 use Rattle.edge.specs.Edge.{Edge}
 use Rattle.lattice.specs.declared.Lattice.{Lattice}
 use Rattle.stages.specs.CallEdge.{CallEdges}
-use Rattle.numbers.specs.Fractions.{Made, madeAt, newEdges}
+use Rattle.numbers.specs.Fractions.{Made, newEdges}
 use Rattle.made.specs.declared.Choice.{Choice}
 use Rattle.made.specs.Choice.{madeOf, Valid}
 use Rattle.new_edges.specs.NewEdge.{Has}
-
-abbrev pub choiceAt : List ℕ → List ℕ → List ℕ → ℕ → Choice
-choiceAt fs ls rs p = record { form = getD fs p 0; left = getD ls p 0; right = getD rs p 0 }
+use Rattle.choices.specs.Choices.{choiceAt}
 
 unfoldable pub madesOf : List Edge → List ℕ → List ℕ → List ℕ → ℕ → ℕ → List Made
 madesOf es fs ls rs p zero = []
@@ -37,9 +30,6 @@ usedBy c = usedWith (c .form) (c .left) (c .right)
 
 abbrev pub AllValid : List Edge → List ℕ → List ℕ → List ℕ → ℕ → Type 0
 AllValid es fs ls rs n = (p : ℕ) → p < n → Valid es (choiceAt fs ls rs p)
-
-abbrev pub Decided : Table → List ℕ → List Edge → List ℕ → List ℕ → List ℕ → ℕ → Type 0
-Decided t w es fs ls rs n = (p : ℕ) → p < n → (madeOf es p (choiceAt fs ls rs p) ≡ madeAt t w es p) × Valid es (choiceAt fs ls rs p)
 
 pub record Planned (n : ℕ) (w : List ℕ) (l : Lattice) (es : List Edge) (fs ls rs : List ℕ) : Type 0 where
   pub has : Has n w l es

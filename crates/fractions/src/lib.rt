@@ -12,96 +12,33 @@ ghost use Rattle.lattice.specs.Lattice.{addAll, turnOff};
 ghost use Rattle.lattice.specs.Kept.{Holds};
 ghost use Rattle.stages.specs.Ready.{Ready, Offsets};
 ghost use Rattle.stages.specs.CallEdge.{CallEdges};
-ghost use Rattle.numbers.specs.Fractions.{madeAt, usedEdges, newEdges, fractions};
-ghost use Rattle.made.specs.Choice.{madeOf, Valid};
-ghost use Rattle.made.specs.Around.{Keeps, Around};
-ghost use Rattle.fractions.specs.Mades.{madesOf, usedBy, AllValid, Decided, Planned};
+ghost use Rattle.numbers.specs.Fractions.{usedEdges, newEdges, fractions};
+ghost use Rattle.made.specs.Choice.{Valid};
+ghost use Rattle.fractions.specs.Mades.{madesOf, usedBy, AllValid, Planned};
+ghost use Rattle.fractions.specs.AnyMarker.{anyMarker};
 use dicts::shape::Shape;
 use lattice::Lattice;
 use made::Choice;
+use markers::Marker;
 use text::Place;
 
-// What the marker at a place leads to. before and behind keep the left and the right neighbours of all places.
-fn choice_at(
-    w: &[u8],
-    l: Lattice,
-    line: &[u8],
-    offs: &[usize; 257],
-    table: &[u8],
-    h: Shape,
-    before: &[usize; 257],
-    behind: &[usize; 257],
-    p: usize,
-) -> Choice
-    requires { ⌜ ((n : ℕ) × Ready (now line) (now table) h n) × Offsets (now line) (now offs) × ((es : List Edge) × Around (now w) l (now before) (now behind) es) × (p < length (chars (now line))) ⌝ }
-    ensures { λ r. ⌜ ((es : List Edge) → Around (now (w .entry)) l (now (before .entry)) (now (behind .entry)) es → (madeOf es p r ≡ madeAt (tableOf (now (table .entry)) h) (chars (now (line .entry))) es p) × Valid es r) ⌝ }
-{
-    let marker = markers::marker_at(line, offs, table, h, Place(p));
-    made::made_at(w, l, before, behind, marker, Place(p))
-}
-
-// The choices of all n places.
-fn choose_all(
-    w: &[u8],
-    l: Lattice,
-    line: &[u8],
-    offs: &[usize; 257],
-    table: &[u8],
-    h: Shape,
-    n: usize,
-    before: &[usize; 257],
-    behind: &[usize; 257],
-    forms: &mut [usize; 256],
-    lefts: &mut [usize; 256],
-    rights: &mut [usize; 256],
-)
-    requires { ⌜ Ready (now line) (now table) h n × Offsets (now line) (now offs) × ((es : List Edge) × Around (now w) l (now before) (now behind) es) × (length (now forms) ≡ 256) × (length (now lefts) ≡ 256) × (length (now rights) ≡ 256) ⌝ }
-    ensures { λ _. ⌜ ((es : List Edge) → Around (now (w .entry)) l (now (before .entry)) (now (behind .entry)) es → Decided (tableOf (now (table .entry)) h) (chars (now (line .entry))) es (now (forms .exit)) (now (lefts .exit)) (now (rights .exit)) n) ⌝ }
+// Whether a marker stands at any of the n places.
+fn any_marker(line: &[u8], offs: &[usize; 257], table: &[u8], h: Shape, n: usize) -> bool
+    requires { ⌜ Ready (now line) (now table) h n × Offsets (now line) (now offs) ⌝ }
+    ensures { λ r. ⌜ r ≡ anyMarker (tableOf (now (table .entry)) h) (chars (now (line .entry))) ⌝ }
 {
     let mut p = 0;
     while p < n {
-        let c = choice_at(w, l, line, offs, table, h, before, behind, p);
-        forms[p] = c.form;
-        lefts[p] = c.left;
-        rights[p] = c.right;
-        p += 1;
+        match markers::marker_at(line, offs, table, h, Place(p)) {
+            Marker::NoMarker => {
+                p += 1;
+            }
+            _ => {
+                return true;
+            }
+        }
     }
-}
-
-// The same, from the neighbours in the lattice.
-fn choose(
-    w: &[u8],
-    l: Lattice,
-    line: &[u8],
-    offs: &[usize; 257],
-    table: &[u8],
-    h: Shape,
-    n: usize,
-    forms: &mut [usize; 256],
-    lefts: &mut [usize; 256],
-    rights: &mut [usize; 256],
-)
-    requires { ⌜ Ready (now line) (now table) h n × Offsets (now line) (now offs) × ((es : List Edge) × Keeps (now w) l es) × (length (now forms) ≡ 256) × (length (now lefts) ≡ 256) × (length (now rights) ≡ 256) ⌝ }
-    ensures { λ _. ⌜ ((es : List Edge) → Keeps (now (w .entry)) l es → Decided (tableOf (now (table .entry)) h) (chars (now (line .entry))) es (now (forms .exit)) (now (lefts .exit)) (now (rights .exit)) n) ⌝ }
-{
-    let mut before = [0usize; 257];
-    let mut behind = [0usize; 257];
-    neighbors::neighbors(w, l, false, &mut before);
-    neighbors::neighbors(w, l, true, &mut behind);
-    choose_all(
-        w,
-        l,
-        line,
-        offs,
-        table,
-        h,
-        n,
-        &before,
-        &behind,
-        forms,
-        lefts,
-        rights,
-    );
+    false
 }
 
 // The edges that a choice uses turn inactive.
@@ -172,7 +109,7 @@ fn add_all(
     grown
 }
 
-// The stage of fractions and percentages. A lattice that is full stays as it is.
+// The stage of fractions and percentages. A lattice that is full stays as it is, and so does one of a line without markers.
 pub fn fractions(
     w: &mut [u8],
     l: Lattice,
@@ -188,10 +125,13 @@ pub fn fractions(
     if l.full {
         return l;
     }
+    if !any_marker(line, offs, table, h, n) {
+        return l;
+    }
     let mut forms = [0usize; 256];
     let mut lefts = [0usize; 256];
     let mut rights = [0usize; 256];
-    choose(
+    choices::choose(
         w,
         l,
         line,

@@ -18,10 +18,12 @@ use Rattle.edge.specs.declared.NumFields.{NumFields}
 use Rattle.passes.specs.Characters.{lowest}
 use Rattle.whole.specs.Decimal.{decimal}
 use Rattle.lattice.specs.declared.Lattice.{Lattice}
+use Rattle.lattice.specs.Lattice.{add}
 use Rattle.lattice.specs.Kept.{noEdge, Holds, AddingIs}
 use Rattle.lattice.proofs.HoldsLaws.{add-nothing}
 use Rattle.numbers.specs.Fractions.{Made, made, nothing, fractionType, percentEdge, fractionEdge, scriptOf}
-use Rattle.made.specs.Choice.{valueOr, formed}
+use Rattle.made.specs.declared.Choice.{Choice}
+use Rattle.made.specs.Choice.{valueOr, madeOf}
 use Rattle.new_edges.specs.declared.Script.{Script}
 use Rattle.new_edges.specs.declared.Script.the-variants.{Absent, Bytes}
 use Rattle.new_edges.specs.NewEdge.{scriptFrom, scriptLen, fractionFields, fractionWith, percentOf, fractionOf, txtPercentOf, addMade}
@@ -53,19 +55,23 @@ module _ (t c : List ℕ) (a b : ℕ) where
   fields-short Absent h = omega arith
   fields-short (Bytes k) h = omega arith
 
--- ---- what a form makes
-module _ {form : ℕ} (p i : ℕ) (l : Edge) (j : ℕ) (r : Edge) where
-  pub form-percent : form ≡ 1 → formed form p i l j r ≡ made (percentEdge (l .start) (r .end) (decimal (valueOr r))) (i ∷ j ∷ [])
-  form-percent e = rw e
+-- ---- what a choice makes, by its form
+module _ {w : List ℕ} {l : Lattice} (es : List Edge) (p : ℕ) (c : Choice) where
+  pub makes-percent : c .form ≡ 1 → Holds w l (add es (percentOf es (c .left) (c .right))) → Holds w l (addMade es (madeOf es p c))
+  unfolding madeOf
+  makes-percent e h = rw e h
 
-  pub form-fraction : form ≡ 2 → formed form p i l j r ≡ made (fractionEdge l (valueOr l) r (valueOr r)) (i ∷ j ∷ [])
-  form-fraction e = rw e
+  pub makes-fraction : c .form ≡ 2 → Holds w l (add es (fractionOf es (c .left) (c .right))) → Holds w l (addMade es (madeOf es p c))
+  unfolding madeOf
+  makes-fraction e h = rw e h
 
-  pub form-txt : form ≡ 3 → formed form p i l j r ≡ made (percentEdge p (r .end) (r .txt)) (j ∷ [])
-  form-txt e = rw e
+  pub makes-txt : c .form ≡ 3 → Holds w l (add es (txtPercentOf es p (c .right))) → Holds w l (addMade es (madeOf es p c))
+  unfolding madeOf
+  makes-txt e h = rw e h
 
-  pub form-nothing : (form ≡ 1 → ⊥) → (form ≡ 2 → ⊥) → (form ≡ 3 → ⊥) → formed form p i l j r ≡ nothing
-  form-nothing a b c = rw (ne-eqb form 1 a, ne-eqb form 2 b, ne-eqb form 3 c)
+  pub makes-nothing : (c .form ≡ 1 → ⊥) → (c .form ≡ 2 → ⊥) → (c .form ≡ 3 → ⊥) → Holds w l es → Holds w l (addMade es (madeOf es p c))
+  unfolding madeOf
+  makes-nothing x y z h = rw (ne-eqb (c .form) 1 x, ne-eqb (c .form) 2 y, ne-eqb (c .form) 3 z) h
 
 -- a lattice that is full holds whatever is added
 pub full-stays : {w : List ℕ} {l : Lattice} {es : List Edge} → Holds w l es → l .full ≡ true → (m : Made) → Holds w l (addMade es m)

@@ -47,7 +47,7 @@ loop-again : tie.Need-loop-again Inv-loop μ-loop
 loop-again c = let g = c .before .before in let i = c .before .before .before .before .before .before .before in grown-more (i .before .loop .inv) (i .loop-test .taken) (g .add-choice .kept .0) (g .add-choice .ensures .0) (g .add-choice .ensures .1)
 
 same-length : tie.Need-same-length Inv-loop μ-loop
-same-length c = search needs
+same-length c = c .before .loop .inv .long
 
 returns : tie.Need-returns Inv-loop μ-loop
 returns c = let i = c .before .loop .inv in (i .frame, grown-ends i (c .loop-test .left))

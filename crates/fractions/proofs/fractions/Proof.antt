@@ -1,5 +1,5 @@
--- `fractions::fractions` meets its contract: the three loops in a row are the stage. Assumes nothing.
-use mathlib.Core.Path.{_≡_, refl, subst, _∙_}
+-- `fractions::fractions` meets its contract: nothing changes where there is no marker, and the three loops in a row are the stage. Assumes nothing.
+use mathlib.Core.Path.{_≡_, refl, sym, subst, _∙_}
 use mathlib.Core.Bool.{false}
 use mathlib.Core.List.{List}
 use Rattle.text.specs.Text.{chars}
@@ -7,17 +7,18 @@ use Rattle.dicts.specs.Answers.{tableOf}
 use Rattle.edge.specs.Edge.{Edge}
 use Rattle.lattice.specs.Kept.{Holds}
 use Rattle.stages.specs.CallEdge.{CallEdges}
-use Rattle.fractions.specs.Mades.{Decided}
-use Rattle.fractions.proofs.StageLaws.{full-stage, keeps-of, planned, stage-is}
-use borrow.Author.Needs.{needs}
+use Rattle.choices.specs.Choices.{Decided}
+use Rattle.new_edges.proofs.EdgeLaws.{not-true}
+use Rattle.fractions.proofs.AnyMarkerLaws.{no-marker-stage}
+use Rattle.fractions.proofs.StageLaws.{full-stage, keeps-of, planned, stage-holds}
 use Rattle.fractions.proofs.fractions.Statement.{statement}
 use Rattle.fractions.proofs.fractions.Tie as tie
 
 abbrev start : tie.After-choose → tie.Start
-start c = c .before .before .before .before .before .before .before .before .before
+start c = c .before .before .before .before .before .before .before .before .before .before .before
 
 no-full : (c : tie.After-choose) → start c .args .l .full ≡ false
-no-full c = c .before .before .before .before .before .if1 .left
+no-full c = c .before .before .before .before .before .before .before .if1 .left
 
 decided : (c : tie.After-choose) {es : List Edge} → Holds (start c .args .w .now) (start c .args .l) es → CallEdges (start c .args .n) es
     → Decided (tableOf (start c .args .table .now) (start c .args .h)) (chars (start c .args .line .now)) es (c .choose .last .1 .1 .1 .1 .1 .1 .1 .0) (c .choose .last .1 .1 .1 .1 .1 .1 .1 .1 .0) (c .choose .last .1 .1 .1 .1 .1 .1 .1 .1 .1 .0) (start c .args .n)
@@ -26,8 +27,18 @@ decided c h k = c .choose .ensures _ (keeps-of (start c .pre .0 .few) (no-full c
 returns : tie.Need-returns
 returns c = let s = c .before .before .before .before in (refl, λ es h k. full-stage (tableOf (s .args .table .now) (s .args .h)) (chars (s .args .line .now)) h (c .if1 .taken))
 
+any-marker-requires : tie.Need-any-marker-requires
+any-marker-requires c κs = let p = c .before .before .before .before .pre in (p .0, p .2)
+
+returns-2 : tie.Need-returns-2
+returns-2 c =
+    let a = c .before in
+    let s = a .before .before .before .before .before in
+    let e = sym (a .any-marker .ensures) ∙ not-true _ (c .if2 .taken) in
+    (refl, λ es h k. subst (Holds (s .args .w .now) (s .args .l)) (no-marker-stage (tableOf (s .args .table .now) (s .args .h)) (chars (s .args .line .now)) es e) h)
+
 choose-requires : tie.Need-choose-requires
-choose-requires c κs = let p = c .before .before .before .before .before .before .before .before .pre in (p .0, p .2, (p .1 .0, keeps-of (p .0 .few) (c .before .before .before .before .if1 .left) (p .1 .1) (p .1 .2)), refl, refl, refl)
+choose-requires c κs = let e = c .before .before .before .before .before .before in let p = e .before .before .before .before .pre in (p .0, p .2, (p .1 .0, keeps-of (p .0 .few) (e .if1 .left) (p .1 .1) (p .1 .2)), refl, refl, refl)
 
 turn-off-all-requires : tie.Need-turn-off-all-requires
 turn-off-all-requires c κs = let g = c .before .before .before .before in let p = start g .pre in ((p .1 .0, p .1 .1, λ q h. decided g (p .1 .1) (p .1 .2) q h .1), no-full g, p .0 .few)
@@ -40,22 +51,19 @@ add-all-requires c κs =
     ((_, planned _ _ (p .1 .0) _ _ _ (decided g (p .1 .1) (p .1 .2)) (p .0 .few) (p .1 .2) (f .turn-off-all .ensures .1 _ (p .1 .1) (λ q h. decided g (p .1 .1) (p .1 .2) q h .1))), p .0 .few)
 
 same-length : tie.Need-same-length
-same-length c = search needs
+same-length c = let a = c .before .before in a .add-all .kept .0 ∙ a .before .before .before .before .before .before .before .turn-off-all .kept .0
 
-returns-2 : tie.Need-returns-2
-returns-2 c =
+returns-3 : tie.Need-returns-3
+returns-3 c =
     let a = c .before .before in
     let f = a .before .before .before .before .before .before .before in
     let g = f .before .before .before .before .before in
     let r = start g .pre .0 in (
       a .add-all .ensures .0 ∙ f .turn-off-all .ensures .0,
-      λ es h k.
-          let d = decided g h k in
-          subst (Holds (a .add-all .last .0) (a .add-all .result)) (stage-is _ _ es _ _ _ d (r .count))
-          (a .add-all .ensures .1 _ (planned _ _ es _ _ _ d (r .few) k (f .turn-off-all .ensures .1 es h (λ q x. d q x .1)))),
+      λ es h k. let d = decided g h k in stage-holds _ _ es _ _ _ d (r .count) (r .few) k (f .turn-off-all .ensures .1 es h (λ q x. d q x .1)) (a .add-all .ensures .1),
     )
 
 pub fractions-spec : {M : Type 1} → statement M
 fractions-spec =
     tie.close
-    (tie.spec returns choose-requires turn-off-all-requires add-all-requires same-length returns-2)
+    (tie.spec returns any-marker-requires returns-2 choose-requires turn-off-all-requires add-all-requires same-length returns-3)

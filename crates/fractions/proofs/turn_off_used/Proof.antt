@@ -1,25 +1,21 @@
 -- `fractions::turn_off_used` meets its contract, by the form: no edge, the right one, or both. Assumes nothing.
 use mathlib.Core.Path.{refl, _∙_}
-use Rattle.lattice.specs.Lattice.{turnOffAt, turnOff}
-use Rattle.fractions.specs.Mades.{usedBy}
-use Rattle.fractions.proofs.MadesLaws.{used-none, used-right, used-both, two-of, in-count}
-use borrow.Author.Needs.{needs}
+use Rattle.lattice.specs.Lattice.{turnOffAt}
+use Rattle.fractions.proofs.MadesLaws.{off-none, off-right, off-both, two-of, in-count}
 use Rattle.fractions.proofs.turn_off_used.Statement.{statement}
 use Rattle.fractions.proofs.turn_off_used.Tie as tie
 
 returns : tie.Need-returns
-unfolding usedBy turnOff
-returns c = (refl, λ es h. rw (used-none _ _ (c .if1 .taken)) h)
+returns c = (refl, λ es h. off-none es _ (c .if1 .taken) h)
 
 turn-off-requires : tie.Need-turn-off-requires
 turn-off-requires c κs = let p = c .before .before .before .before .before .before .pre in (((p .0 .0, p .0 .1)), p .1, in-count (p .0 .1) (p .1) (p .0 .2 .txt (c .before .if2 .taken) .right))
 
 same-length : tie.Need-same-length
-same-length c = search needs
+same-length c = c .before .before .turn-off .kept .0
 
 returns-2 : tie.Need-returns-2
-unfolding usedBy turnOff
-returns-2 c = let g = c .before .before in (g .turn-off .ensures .0, λ es h. rw (used-right _ _ (g .before .before .if2 .taken)) (g .turn-off .ensures .1 es h))
+returns-2 c = let g = c .before .before in (g .turn-off .ensures .0, λ es h. off-right es _ (g .before .before .if2 .taken) (g .turn-off .ensures .1 es h))
 
 turn-off-requires-2 : tie.Need-turn-off-requires-2
 turn-off-requires-2 c κs = let p = c .before .before .before .before .before .before .pre in ((p .0 .0, p .0 .1), p .1, in-count (p .0 .1) (p .1) (two-of (p .0 .2) (c .before .before .before .if1 .left) (c .before .if2 .left) .left))
@@ -32,15 +28,14 @@ turn-off-requires-3 c κs =
     ((turnOffAt (p .0 .0) _, g .turn-off2 .ensures .1 _ (p .0 .1)), p .1, in-count (p .0 .1) (p .1) (two-of (p .0 .2) (e .before .before .if1 .left) (e .if2 .left) .right))
 
 same-length-2 : tie.Need-same-length-2
-same-length-2 c = search needs
+same-length-2 c = let g = c .before .before in g .turn-off3 .kept .0 ∙ g .before .before .before .before .turn-off2 .kept .0
 
 returns-3 : tie.Need-returns-3
-unfolding usedBy turnOff
 returns-3 c =
     let g = c .before .before in
     let f = g .before .before .before .before in
     let e = f .before .before in
-    (g .turn-off3 .ensures .0 ∙ f .turn-off2 .ensures .0, λ es h. rw (used-both _ _ (e .before .before .if1 .left) (e .if2 .left)) (g .turn-off3 .ensures .1 _ (f .turn-off2 .ensures .1 es h)))
+    (g .turn-off3 .ensures .0 ∙ f .turn-off2 .ensures .0, λ es h. off-both es _ (e .before .before .if1 .left) (e .if2 .left) (g .turn-off3 .ensures .1 _ (f .turn-off2 .ensures .1 es h)))
 
 pub turn-off-used-spec : {M : Type 1} → statement M
 turn-off-used-spec =

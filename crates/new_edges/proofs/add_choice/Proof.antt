@@ -1,8 +1,7 @@
 -- `new_edges::add_choice` meets its contract, by the form. Assumes nothing.
 use mathlib.Core.Path.{refl}
 use Rattle.made.specs.Choice.{madeOf}
-use Rattle.new_edges.proofs.FractionLaws.{form-percent, form-fraction, form-txt, form-nothing, full-stays}
-use borrow.Author.Needs.{needs}
+use Rattle.new_edges.proofs.FractionLaws.{makes-percent, makes-fraction, makes-txt, makes-nothing, full-stays}
 use Rattle.new_edges.proofs.add_choice.Statement.{statement}
 use Rattle.new_edges.proofs.add_choice.Tie as tie
 
@@ -13,44 +12,40 @@ add-percent-requires : tie.Need-add-percent-requires
 add-percent-requires c κs = let s = c .before .before .before .before .before in let o = s .pre .0 .1 .1 in ((s .pre .0 .0, (s .pre .0 .1 .0, o .has, o .valid .percent (c .before .if2 .taken))), c .before .before .before .if1 .left)
 
 same-length : tie.Need-same-length
-same-length c = search needs
+same-length c = c .before .before .add-percent .kept .0
 
 returns-2 : tie.Need-returns-2
-unfolding madeOf
 returns-2 c =
     let g = c .before .before in
     let f = g .before .before .if2 .taken in
-    (g .add-percent .ensures .0, λ n es o. rw (form-percent _ _ _ _ _ f) (g .add-percent .ensures .1 n es (o .has) (o .valid .percent f)))
+    (g .add-percent .ensures .0, λ n es o. makes-percent es _ _ f (g .add-percent .ensures .1 n es (o .has) (o .valid .percent f)))
 
 add-fraction-requires : tie.Need-add-fraction-requires
 add-fraction-requires c κs = let s = c .before .before .before .before .before .before .before in let o = s .pre .0 .1 .1 in let f = c .before .if3 .taken in ((s .pre .0 .0, (s .pre .0 .1 .0, o .has, o .valid .fraction f, o .valid .not-zero f)), c .before .before .before .before .before .if1 .left)
 
 same-length-2 : tie.Need-same-length-2
-same-length-2 c = search needs
+same-length-2 c = c .before .before .add-fraction .kept .0
 
 returns-3 : tie.Need-returns-3
-unfolding madeOf
 returns-3 c =
     let g = c .before .before in
     let f = g .before .before .if3 .taken in
-    (g .add-fraction .ensures .0, λ n es o. rw (form-fraction _ _ _ _ _ f) (g .add-fraction .ensures .1 n es (o .has) (o .valid .fraction f)))
+    (g .add-fraction .ensures .0, λ n es o. makes-fraction es _ _ f (g .add-fraction .ensures .1 n es (o .has) (o .valid .fraction f)))
 
 add-txt-percent-requires : tie.Need-add-txt-percent-requires
 add-txt-percent-requires c κs = let s = c .before .before .before .before .before .before .before .before .before in let o = s .pre .0 .1 .1 in let f = c .before .if4 .taken in ((s .pre .0 .0, (s .pre .0 .1 .0, o .has, o .valid .txt f)), c .before .before .before .before .before .before .before .if1 .left, s .pre .1)
 
 same-length-3 : tie.Need-same-length-3
-same-length-3 c = search needs
+same-length-3 c = c .before .before .add-txt-percent .kept .0
 
 returns-4 : tie.Need-returns-4
-unfolding madeOf
 returns-4 c =
     let g = c .before .before in
     let f = g .before .before .if4 .taken in
-    (g .add-txt-percent .ensures .0, λ n es o. rw (form-txt _ _ _ _ _ f) (g .add-txt-percent .ensures .1 n es (o .has) (o .valid .txt f)))
+    (g .add-txt-percent .ensures .0, λ n es o. makes-txt es _ _ f (g .add-txt-percent .ensures .1 n es (o .has) (o .valid .txt f)))
 
 returns-5 : tie.Need-returns-5
-unfolding madeOf
-returns-5 c = (refl, λ n es o. rw (form-nothing _ _ _ _ _ (c .before .before .before .before .if2 .left) (c .before .before .if3 .left) (c .if4 .left)) (o .has .holds))
+returns-5 c = (refl, λ n es o. makes-nothing es _ _ (c .before .before .before .before .if2 .left) (c .before .before .if3 .left) (c .if4 .left) (o .has .holds))
 
 pub add-choice-spec : {M : Type 1} → statement M
 add-choice-spec =

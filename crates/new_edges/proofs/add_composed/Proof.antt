@@ -45,7 +45,7 @@ add-numeric-requires c κs =
     )
 
 same-length : tie.Need-same-length
-same-length c = search needs
+same-length c = c .before .before .add-numeric .kept .0
 
 returns : tie.Need-returns
 returns c =

@@ -91,7 +91,7 @@ add-composed-requires c κs =
     )
 
 same-length : tie.Need-same-length
-same-length c = search needs
+same-length c = c .before .before .add-composed .kept .0
 
 returns : tie.Need-returns
 returns c =

@@ -71,7 +71,7 @@ add-regular-requires c κs =
     )
 
 same-length : tie.Need-same-length
-same-length c = search needs
+same-length c = c .before .before .add-regular .kept .0
 
 returns : tie.Need-returns
 returns c =

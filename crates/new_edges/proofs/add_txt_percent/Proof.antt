@@ -62,7 +62,7 @@ add-regular-requires c κs =
     ((p .0 .1 .0, h .holds), p .2, head-small h (p .1) _ (one-in h (p .1) (p .0 .1 .2)) (head k .head-of .ensures _ _ h) .1, omega arith)
 
 same-length : tie.Need-same-length
-same-length c = search needs
+same-length c = c .before .before .add-regular .kept .0
 
 returns : tie.Need-returns
 returns c =

@@ -1,4 +1,4 @@
--- `fractions::choose_all` meets its contract. The loop's invariant: the choices of the places before p are stored (`Chosen`). The measure is what is left.
+-- `choices::choose_all` meets its contract. The loop's invariant: the choices of the places before p are stored (`Chosen`). The measure is what is left.
 -- Assumes nothing.
 use Prim.Native.Nat.{_-_}
 use native.Mathlib.Omega.{arith}
@@ -6,9 +6,9 @@ use borrow.Author.Needs.{needs}
 use Rattle.text.specs.Text.{chars}
 use Rattle.dicts.specs.Answers.{tableOf}
 use Rattle.made.specs.Around.{Around}
-use Rattle.fractions.proofs.ChooseLaws.{Chosen, chosen-start, chosen-more, chosen-ends}
-use Rattle.fractions.proofs.choose_all.Statement.{statement}
-use Rattle.fractions.proofs.choose_all.Tie as tie
+use Rattle.choices.proofs.ChooseLaws.{Chosen, chosen-start, chosen-more, chosen-ends}
+use Rattle.choices.proofs.choose_all.Statement.{statement}
+use Rattle.choices.proofs.choose_all.Tie as tie
 
 abbrev Inv-loop : tie.InvT-loop
 Inv-loop w l line offs table h n before behind forms₀ lefts₀ rights₀ p₀ forms lefts rights p =

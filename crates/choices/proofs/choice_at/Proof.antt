@@ -1,14 +1,14 @@
--- `fractions::choice_at` meets its contract: a marker ends within the line, so its neighbours are kept. Assumes nothing.
+-- `choices::choice_at` meets its contract: a marker ends within the line, so its neighbours are kept. Assumes nothing.
 use mathlib.Core.Path.{ap, _∙_}
 use native.Mathlib.Omega.{arith}
 use Rattle.text.specs.Text.{chars}
 use Rattle.dicts.specs.Answers.{tableOf}
 use Rattle.numbers.specs.Fractions.{byMarker, madeAt}
 use Rattle.made.specs.Decision.{sizeOf}
-use Rattle.fractions.proofs.MarkerLaws.{marker-fits}
+use Rattle.choices.proofs.MarkerLaws.{marker-fits}
 use borrow.Author.Needs.{needs}
-use Rattle.fractions.proofs.choice_at.Statement.{statement}
-use Rattle.fractions.proofs.choice_at.Tie as tie
+use Rattle.choices.proofs.choice_at.Statement.{statement}
+use Rattle.choices.proofs.choice_at.Tie as tie
 
 marker-at-requires : tie.Need-marker-at-requires
 marker-at-requires c κs = search needs

@@ -1,10 +1,10 @@
--- `fractions::choose` meets its contract: the tables keep the neighbours. Assumes nothing.
+-- `choices::choose` meets its contract: the tables keep the neighbours. Assumes nothing.
 use mathlib.Core.List.{List}
 use Rattle.edge.specs.Edge.{Edge}
 use Rattle.made.specs.Around.{Keeps, Around}
 use borrow.Author.Needs.{needs}
-use Rattle.fractions.proofs.choose.Statement.{statement}
-use Rattle.fractions.proofs.choose.Tie as tie
+use Rattle.choices.proofs.choose.Statement.{statement}
+use Rattle.choices.proofs.choose.Tie as tie
 
 around : (c : tie.After-neighbors2) {es : List Edge} → Keeps (c .before .before .before .before .before .before .before .args .w .now) (c .before .before .before .before .before .before .before .args .l) es
     → Around (c .before .before .before .before .before .before .before .args .w .now) (c .before .before .before .before .before .before .before .args .l) (c .before .before .neighbors .last .1 .1 .1 .0) (c .neighbors2 .last .1 .1 .1 .0) es

@@ -13,7 +13,7 @@ use Rattle.numbers.specs.Fractions.{madeAt}
 use Rattle.made.specs.declared.Choice.{Choice}
 use Rattle.made.specs.Choice.{madeOf, Valid}
 use Rattle.made.specs.Decision.{choice}
-use Rattle.fractions.specs.Mades.{choiceAt, Decided}
+use Rattle.choices.specs.Choices.{choiceAt, Decided}
 
 parts : {a b c x y z : ℕ} → a ≡ x → b ≡ y → c ≡ z → choice a b c ≡ choice x y z
 parts p q r = rw (p, q, r)

@@ -1,0 +1,3 @@
+-- The laws of `choices`.
+pub mod MarkerLaws
+pub mod ChooseLaws

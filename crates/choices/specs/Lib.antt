@@ -1,0 +1,2 @@
+-- The definitions that the contracts of `choices` cite.
+pub mod Choices
