@@ -6,16 +6,16 @@ use Rattle.table_content.proofs.plain.plain_at.Statement.{statement}
 use Rattle.table_content.proofs.plain.plain_at.Tie as tie
 
 returns : tie.Need-returns
-returns c = search needs
+returns c = tt
 
 returns-2 : tie.Need-returns-2
-returns-2 c = search needs
+returns-2 c = tt
 
 sub-if3 : tie.Need-sub-if3
 sub-if3 c = search needs
 
 returns-3 : tie.Need-returns-3
-returns-3 c = search needs
+returns-3 c = tt
 
 u32-at-requires : tie.Need-u32-at-requires
 u32-at-requires c κs = search needs
@@ -27,10 +27,10 @@ shared-slice-read-map : tie.Need-shared-slice-read-map
 shared-slice-read-map c = search needs
 
 returns-4 : tie.Need-returns-4
-returns-4 c = search needs
+returns-4 c = tt
 
 returns-5 : tie.Need-returns-5
-returns-5 c = search needs
+returns-5 c = tt
 
 mul-plain-fields : tie.Need-mul-plain-fields
 mul-plain-fields c = search needs

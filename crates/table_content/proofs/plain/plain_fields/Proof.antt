@@ -22,7 +22,7 @@ enum-told : tie.Need-enum-told
 enum-told c = search needs
 
 returns : tie.Need-returns
-returns c = search needs
+returns c = tt
 
 short-text-requires-2 : tie.Need-short-text-requires-2
 short-text-requires-2 c κs = omega (arith, type-read c .behind)
@@ -34,19 +34,19 @@ enum-told-2 : tie.Need-enum-told-2
 enum-told-2 c = search needs
 
 returns-2 : tie.Need-returns-2
-returns-2 c = search needs
+returns-2 c = tt
 
 sub-if1 : tie.Need-sub-if1
 sub-if1 c = rom-read c .ends
 
 returns-3 : tie.Need-returns-3
-returns-3 c = search needs
+returns-3 c = tt
 
 add-script-at : tie.Need-add-script-at
 add-script-at c = search needs
 
 short-text-requires-3 : tie.Need-short-text-requires-3
-short-text-requires-3 c κs = search needs
+short-text-requires-3 c κs = omega arith
 
 enum-known-script : tie.Need-enum-known-script
 enum-known-script c = search needs
@@ -55,16 +55,16 @@ enum-told-3 : tie.Need-enum-told-3
 enum-told-3 c = search needs
 
 returns-4 : tie.Need-returns-4
-returns-4 c = search needs
+returns-4 c = tt
 
 u64-at-requires : tie.Need-u64-at-requires
-u64-at-requires c κs = search needs
+u64-at-requires c κs = omega arith
 
 add-u64-at : tie.Need-add-u64-at
 add-u64-at c = search needs
 
 u64-at-requires-2 : tie.Need-u64-at-requires-2
-u64-at-requires-2 c κs = search needs
+u64-at-requires-2 c κs = omega arith
 
 returns-5 : tie.Need-returns-5
 returns-5 c =
