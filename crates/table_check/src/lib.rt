@@ -11,7 +11,10 @@ use dicts::shape::Items;
 use dicts::shape::RecordItem;
 use dicts::shape::Shape;
 use dicts::shape::TableCheck;
+use table_content::legal_besides;
 use table_content::legal_record;
+use table_content::plain::Plain;
+use table_content::plain::plain_at;
 use table_texts::legal_mark;
 
 fn mark_item(s: &[u8], at: usize) -> Items
@@ -60,7 +63,8 @@ fn list_end(s: &[u8], at: usize) -> Items
     texts_end(s, at + 1, n)
 }
 
-fn record_item(s: &[u8], at: usize, least: u64) -> RecordItem
+// A record of any form.
+fn any_item(s: &[u8], at: usize, least: u64) -> RecordItem
     ensures { λ r. ⌜ recordItem (now (s .entry)) at r ≡ item at (legalRecord least) (readRecord (now (s .entry)) at) ⌝ }
 {
     match record_at(s, at) {
@@ -72,6 +76,22 @@ fn record_item(s: &[u8], at: usize, least: u64) -> RecordItem
             }
         }
         RecordAt::Fault => RecordItem::Refused(4),
+    }
+}
+
+// A record. Most are as those of the plain table.
+fn record_item(s: &[u8], at: usize, least: u64) -> RecordItem
+    ensures { λ r. ⌜ recordItem (now (s .entry)) at r ≡ item at (legalRecord least) (readRecord (now (s .entry)) at) ⌝ }
+{
+    match plain_at(s, at) {
+        Plain::Record(p) => {
+            if legal_besides(s, p, least) {
+                RecordItem::Record(p)
+            } else {
+                RecordItem::Refused(5)
+            }
+        }
+        Plain::Other => any_item(s, at, least),
     }
 }
 

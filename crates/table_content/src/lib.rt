@@ -1,11 +1,14 @@
 // What a record may hold (01, cause 5); its strings are looked at in `table_texts`.
 ghost use mathlib.Core.Path.{_≡_};
+ghost use mathlib.Core.Bool.{true};
 ghost use Rattle.text.specs.Text.{wellFormed};
 ghost use Rattle.dicts.specs.Check.{allOf, small, positive, legalRatio, legalCodePoint, legalTexts, legalNumbers, digitRule, legalRecord};
 ghost use Rattle.dicts.specs.Answers.{partOf, optionally, numbersOf, recordOf, Within, Inside};
 use dicts::layout::NumProp;
 use dicts::layout::Numbers;
 use dicts::layout::Part;
+
+pub mod plain; // plain.rt: records as those of the plain table
 
 const TOP: u64 = 9007199254740991;
 
@@ -121,14 +124,12 @@ fn wide(x: u8) -> u64
     x as u64
 }
 
-pub fn legal_record(s: &[u8], p: NumProp, least: u64) -> bool
+// The content besides the strings. They were found well-formed.
+pub fn legal_besides(s: &[u8], p: NumProp, least: u64) -> bool
     requires { ⌜ Inside (now s) p ⌝ }
-    ensures { λ r. ⌜ r ≡ legalRecord least (recordOf (now (s .entry)) p) ⌝ }
+    ensures { λ r. ⌜ (legalTexts (recordOf (now (s .entry)) p) ≡ true → r ≡ legalRecord least (recordOf (now (s .entry)) p)) ⌝ }
 {
     if !legal_code_point(p.code_point, least) {
-        return false;
-    }
-    if !legal_texts(s, p) {
         return false;
     }
     let n = p.numbers;
@@ -136,4 +137,14 @@ pub fn legal_record(s: &[u8], p: NumProp, least: u64) -> bool
         return false;
     }
     legal_digit(s, p)
+}
+
+pub fn legal_record(s: &[u8], p: NumProp, least: u64) -> bool
+    requires { ⌜ Inside (now s) p ⌝ }
+    ensures { λ r. ⌜ r ≡ legalRecord least (recordOf (now (s .entry)) p) ⌝ }
+{
+    if !legal_texts(s, p) {
+        return false;
+    }
+    legal_besides(s, p, least)
 }

@@ -42,7 +42,7 @@ left-three b c d s e =
     left-encoded (code b c d) b c d (omega arith) (omega arith) (omega arith) (omega arith) (omega arith) s
 
 -- ---- a part that begins with them
-part-cons : (s : List ℕ) (at n : ℕ) → at < length s → part s at (suc n) ≡ getD s at 0 ∷ part s (suc at) n
+pub part-cons : (s : List ℕ) (at n : ℕ) → at < length s → part s at (suc n) ≡ getD s at 0 ∷ part s (suc at) n
 unfolding part
 part-cons s at n h = rw (drop-cons s at 0 h)
 

@@ -10,6 +10,8 @@ ghost use Rattle.dicts.specs.Answers.{Ascii, partOf, Within};
 ghost use Rattle.table_texts.specs.Threes.{plainThree, Threes};
 use dicts::layout::Part;
 
+pub mod short; // short.rt: strings of a few ASCII bytes
+
 // The offset of the first byte of a part that is not ASCII, or of the part's end.
 fn ascii_end(s: &[u8], from: usize, end: usize) -> usize
     requires { ⌜ (from ≤ end) × (end ≤ length (now s)) ⌝ }
@@ -86,12 +88,15 @@ pub fn legal_mark(s: &[u8], p: Part) -> bool
     well_formed(s, p)
 }
 
-// Whether a part is "digit".
+// Whether a part is "digit": its first four bytes are looked at as one number.
 pub fn is_digit_type(s: &[u8], p: Part) -> bool
     requires { ⌜ Within (now s) p ⌝ }
     ensures { λ r. ⌜ r ≡ isDigitType (partOf (now (s .entry)) p) ⌝ }
 {
+    if p.len != 5 {
+        return false;
+    }
     let at = p.at;
-    let end = p.at + p.len;
-    text::same_bytes(&s[at..end], b"digit")
+    let last = s[at + 4];
+    (fields::u32_at(s, at) == 0x69676964) & (last == b't')
 }

@@ -1,42 +1,49 @@
--- `table_check::record_item` meets its contract: the record's layout, then its content.
+-- `table_check::record_item` meets its contract: a record as those of the plain table is there and its strings are well-formed, so the rest of its content decides.
 use mathlib.Core.Path.{sym, subst, _∙_}
+use Rattle.dicts.specs.Layout.{readRecord}
 use Rattle.dicts.specs.Check.{legalRecord}
-use Rattle.dicts.specs.Answers.{recordField, RecordWithin}
-use Rattle.dicts.proofs.LayoutLaws.{told}
-use Rattle.dicts.proofs.CheckLaws.{item-fault, item-legal, item-illegal}
+use Rattle.dicts.proofs.CheckLaws.{item-legal, item-illegal}
+use Rattle.table_content.specs.Plain.{PlainRecord, PlainIs}
 use borrow.Author.Needs.{needs}
 use Rattle.table_check.proofs.record_item.Statement.{statement}
 use Rattle.table_check.proofs.record_item.Tie as tie
 
-record-at-requires : tie.Need-record-at-requires
-record-at-requires c κs = search needs
+plain-read : (c : tie.After-known-told) → let a = c .before .before .before .before .before .args in PlainRecord (a .s .now) (readRecord (a .s .now) (a .at)) (c .before .p .given .0 .0)
+plain-read c = let a = c .before .before .before .before .before .args in subst (PlainIs (a .s .now) (readRecord (a .s .now) (a .at))) (c .before .p .given .1) (c .before .before .before .plain-at .ensures)
+
+plain-at-requires : tie.Need-plain-at-requires
+plain-at-requires c κs = search needs
 
 enum-known-p : tie.Need-enum-known-p
 enum-known-p c = search needs
 
-legal-record-requires : tie.Need-legal-record-requires
-legal-record-requires c κs = subst (RecordWithin (c .before .before .before .before .before .args .s .now)) (c .before .p .given .1) (c .before .before .before .record-at .ensures .1)
+legal-besides-requires : tie.Need-legal-besides-requires
+legal-besides-requires c κs = plain-read c .inside
 
 enum-told : tie.Need-enum-told
 enum-told c = search needs
 
+any-item-requires : tie.Need-any-item-requires
+any-item-requires c κs = search needs
+
 returns : tie.Need-returns
-returns c = let k = c .before .before in item-legal _ (legalRecord _) (told (recordField (k .before .before .before .before .before .args .s .now)) (k .before .before .before .record-at .ensures .0) (k .before .p .given .1)) (sym (c .before .legal-record .ensures) ∙ c .if1 .taken)
+returns c = let k = plain-read (c .before .before) in item-legal _ (legalRecord _) (k .is) (sym (c .before .legal-besides .ensures (k .formed)) ∙ c .if1 .taken)
 
 returns-2 : tie.Need-returns-2
-returns-2 c = let k = c .before .before in item-illegal _ (legalRecord _) (told (recordField (k .before .before .before .before .before .args .s .now)) (k .before .before .before .record-at .ensures .0) (k .before .p .given .1)) (sym (c .before .legal-record .ensures) ∙ c .if1 .left)
+returns-2 c = let k = plain-read (c .before .before) in item-illegal _ (legalRecord _) (k .is) (sym (c .before .legal-besides .ensures (k .formed)) ∙ c .if1 .left)
 
 returns-3 : tie.Need-returns-3
-returns-3 c = item-fault _ (legalRecord _) (told (recordField (c .before .before .before .before .args .s .now)) (c .before .before .record-at .ensures .0) (c .enum-told .given .1))
+returns-3 c = c .any-item .ensures
 
 pub record-item-spec : {M : Type 1} → statement M
 record-item-spec =
     tie.close
     (tie.spec
-    record-at-requires
+    plain-at-requires
     enum-known-p
-    legal-record-requires
+    legal-besides-requires
     enum-told
+    any-item-requires
     returns
     returns-2
     returns-3)

@@ -1,45 +1,23 @@
--- `table_texts::is_digit_type` meets its contract: the part is held against the five bytes.
-use mathlib.Core.Path.{_≡_, sym, ap, _∙_}
-use Prim.Native.Nat.{ℕ, _+_, _-_}
-use native.Mathlib.Omega.{arith}
-use lib.ListN.{take, drop}
-use Rattle.fields.specs.Part.{part}
-use Rattle.text.specs.Bytes.{same}
-use Rattle.dicts.specs.Check.{digit}
+-- `table_texts::is_digit_type` meets its contract: a part of five bytes is held against a number and a byte.
+use Rattle.table_texts.proofs.DigitLaws.{digit-length, digit-is}
 use borrow.Author.Needs.{needs}
 use Rattle.table_texts.proofs.is_digit_type.Statement.{statement}
 use Rattle.table_texts.proofs.is_digit_type.Tie as tie
 
-add-end : tie.Need-add-end
-add-end c = search needs
-
-sub-same-bytes : tie.Need-sub-same-bytes
-sub-same-bytes c = search needs
-
-part-same-bytes-start : tie.Need-part-same-bytes-start
-part-same-bytes-start c = search needs
-
-part-same-bytes-end : tie.Need-part-same-bytes-end
-part-same-bytes-end c = search needs
-
-slice-aggregate-same-bytes : tie.Need-slice-aggregate-same-bytes
-slice-aggregate-same-bytes c = search needs
-
-same-bytes-requires : tie.Need-same-bytes-requires
-same-bytes-requires c κs = search needs
-
 returns : tie.Need-returns
-unfolding part
-returns c = let a = c .before .before .before .before .before .args in let e : a .p .at + a .p .len - a .p .at ≡ a .p .len = omega arith in c .same-bytes .ensures ∙ ap (λ (n : ℕ). same (take n (drop (a .p .at) (a .s .now))) digit) e
+returns c = digit-length _ _ _ (c .before .before .before .pre) (c .if1 .taken)
+
+add-last : tie.Need-add-last
+add-last c = search needs
+
+shared-slice-read-last : tie.Need-shared-slice-read-last
+shared-slice-read-last c = search needs
+
+u32-at-requires : tie.Need-u32-at-requires
+u32-at-requires c κs = search needs
+
+returns-2 : tie.Need-returns-2
+returns-2 c = digit-is _ _ _ (c .before .before .before .before .before .pre) (c .before .before .if1 .left) (λ j. c .before .shared-slice-known2 .given j .fits) (c .u32-at .ensures)
 
 pub is-digit-type-spec : {M : Type 1} → statement M
-is-digit-type-spec =
-    tie.close
-    (tie.spec
-    add-end
-    sub-same-bytes
-    part-same-bytes-start
-    part-same-bytes-end
-    slice-aggregate-same-bytes
-    same-bytes-requires
-    returns)
+is-digit-type-spec = tie.close (tie.spec returns add-last shared-slice-read-last u32-at-requires returns-2)
