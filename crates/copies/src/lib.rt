@@ -20,7 +20,7 @@ fn copy_words(w: &mut [u8], from: usize, to: usize, n: usize)
     let mut i = 0;
     while i < n {
         let v = fields::u64_at(w, from + 8 * i);
-        fields::put_u64(w, to + 8 * i, v);
+        fields_write::put_u64(w, to + 8 * i, v);
         i += 1;
     }
 }

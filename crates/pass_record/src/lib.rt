@@ -72,12 +72,12 @@ fn put_num(out: &mut [u8], at: usize, record_at: u64, n: NumData)
     requires { ⌜ (at + 48 ≤ length (now out)) × ((x : Item) × NumIs n x) ⌝ }
     ensures { λ _. ⌜ ((x : Item) → NumIs n x → «record_at» ≡ x .record-at → now (out .exit) ≡ sets (now (out .entry)) at (numBytes x)) ⌝ }
 {
-    fields::put_u64(out, at, whole::to_u64(n.value));
-    fields::put_u64(out, at + 8, n.base);
-    fields::put_u64(out, at + 16, whole::to_u64(n.base_multiplier));
-    fields::put_u64(out, at + 24, record_at);
-    fields::put_u64(out, at + 32, n.script.0 as u64);
-    fields::put_u64(out, at + 40, n.script_len as u64);
+    fields_write::put_u64(out, at, whole::to_u64(n.value));
+    fields_write::put_u64(out, at + 8, n.base);
+    fields_write::put_u64(out, at + 16, whole::to_u64(n.base_multiplier));
+    fields_write::put_u64(out, at + 24, record_at);
+    fields_write::put_u64(out, at + 32, n.script.0 as u64);
+    fields_write::put_u64(out, at + 40, n.script_len as u64);
 }
 
 // Stores an edge at an offset.
@@ -85,9 +85,9 @@ pub fn put(out: &mut [u8], at: usize, e: PassEdge)
     requires { ⌜ (at + 56 ≤ length (now out)) × ((x : Item) × EdgeIs e x) ⌝ }
     ensures { λ _. ⌜ ((x : Item) → EdgeIs e x → now (out .exit) ≡ sets (now (out .entry)) at (recordBytes x)) ⌝ }
 {
-    fields::put_u16(out, at, e.start.0 as u16);
-    fields::put_u16(out, at + 2, e.end.0 as u16);
-    fields::put_u16(out, at + 4, e.kind);
-    fields::put_u16(out, at + 6, map_of(e.num));
+    fields_write::put_u16(out, at, e.start.0 as u16);
+    fields_write::put_u16(out, at + 2, e.end.0 as u16);
+    fields_write::put_u16(out, at + 4, e.kind);
+    fields_write::put_u16(out, at + 6, map_of(e.num));
     put_num(out, at + 8, e.record_at.0 as u64, e.num);
 }
