@@ -44,9 +44,9 @@ impl Buffers {
     }
 }
 
-/// The least of five rounds of at least a fifth of a second each, as the time of one call.
+/// The least of fifty rounds of at least 20 ms each, as the time of one call: short rounds find the moments in which nothing else runs.
 fn least(cases: usize, mut call: impl FnMut(usize)) -> f64 {
-    (0..5).map(|_| round(cases, &mut call)).fold(f64::INFINITY, f64::min)
+    (0..50).map(|_| round(cases, &mut call)).fold(f64::INFINITY, f64::min)
 }
 
 fn round(cases: usize, call: &mut impl FnMut(usize)) -> f64 {
@@ -57,7 +57,7 @@ fn round(cases: usize, call: &mut impl FnMut(usize)) -> f64 {
         }
         count += cases;
         let elapsed = start.elapsed();
-        if elapsed > Duration::from_millis(200) {
+        if elapsed > Duration::from_millis(20) {
             return elapsed.as_nanos() as f64 / count as f64;
         }
     }
