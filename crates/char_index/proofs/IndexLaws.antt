@@ -18,10 +18,8 @@ use Rattle.text.proofs.RowLaws.{and-true}
 use Rattle.dicts.specs.Table.{Record, find}
 use Rattle.dicts.specs.Layout.{Field, Is, Fault, readRecord, recordsAt}
 use Rattle.dicts.specs.Check.{rising}
-use Rattle.dicts.specs.Answers.{recordOf, recordField, RecordWithin, Inside}
+use Rattle.dicts.specs.Answers.{recordOf, Inside}
 use Rattle.dicts.specs.declared.layout.NumProp.{NumProp}
-use Rattle.dicts.specs.declared.layout.RecordAt.{RecordAt}
-use Rattle.dicts.specs.declared.layout.RecordAt.the-variants as RecordAt
 use Rattle.dicts.proofs.LayoutLaws.{many-nil, many-fault, many-cons}
 use Rattle.dicts.proofs.LookupLaws.{rising-lower, drop-stops, found-other}
 use Rattle.char_index.specs.Walk.{Stands}
@@ -47,17 +45,6 @@ find-behind c r rs n = simp (ne-eqb (r .code-point) c n)
 rising-parts : (least : ℕ) (r : Record) (rs : List Record) → rising least (r ∷ rs) ≡ true → (least ≤ r .code-point) × (rising (r .code-point + 1) rs ≡ true)
 unfolding rising
 rising-parts least r rs h = let p = and-true (leb least (r .code-point)) (rising (r .code-point + 1) rs) h in (leb-true _ _ (p .0), p .1)
-
--- ---- what `record_at` answered
-module _ (t : List ℕ) (at : ℕ) {x : RecordAt} (is : recordField t x ≡ readRecord t at) where
-  pub fault-read : x ≡ RecordAt.Fault → readRecord t at ≡ Fault
-  fault-read e = sym is ∙ ap (recordField t) e
-
-  pub record-read : {p : NumProp} → x ≡ RecordAt.Record p → Is (recordOf t p) (p .next) ≡ readRecord t at
-  record-read e = ap (recordField t) (sym e) ∙ is
-
-pub record-inside : (t : List ℕ) {x : RecordAt} {p : NumProp} → RecordWithin t x → x ≡ RecordAt.Record p → Inside t p
-record-inside t h e = rw e at h
 
 -- ---- the records from an offset on
 module _ (t : List ℕ) (left at : ℕ) where
@@ -91,7 +78,7 @@ module _ (t : List ℕ) (rs : List Record) (c at left : ℕ) (a : Ahead t rs c a
   pub turn-none : recordsAt left t at ≡ [] → find rs c ≡ none
   turn-none e = sym (a .finds) ∙ rw e (find-nil c)
 
-  pub turn-fault : readRecord t at ≡ Fault → find rs c ≡ none
+  turn-fault : readRecord t at ≡ Fault → find rs c ≡ none
   turn-fault e = turn-none (rest-fault t left at e)
 
   module _ (some-left : 0 < left) where

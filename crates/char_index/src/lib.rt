@@ -2,6 +2,7 @@
 // The cost: one walk over the records for the index; for each character at most nine looks into the index and stride records, a 256th of all. So the
 // 256 characters of the longest line cost about one walk more, and not a walk each. For a table of up to 255 records the stride is 1.
 mod walk; // walk.rt: the offset behind a record
+mod known; // known.rt: a record that is known to stand at an offset
 
 ghost use mathlib.Core.Path.{_≡_};
 ghost use mathlib.Core.List.{List};
@@ -10,10 +11,9 @@ ghost use lib.ListN.{length};
 ghost use Rattle.dicts.specs.Table.{Record};
 ghost use Rattle.dicts.specs.Layout.{recordsAt};
 ghost use Rattle.char_index.specs.Index.{FoundIs, Entry, strideOf, Indexed, Growing, Whole, Ahead};
+use crate::known::record_here;
 use crate::walk::record_end;
 use dicts::layout::NumProp;
-use dicts::layout::RecordAt;
-use dicts::layout::record_at;
 
 // The records from an offset on, so many.
 pub struct Rest {
@@ -43,10 +43,7 @@ fn find_from(table: &[u8], from: Rest, c: u32) -> CharRecord
     while 0 < left {
         let code = fields::u32_at(table, at);
         if code == c {
-            let RecordAt::Record(p) = record_at(table, at) else {
-                return CharRecord::Nothing;
-            };
-            return CharRecord::At(p, at);
+            return CharRecord::At(record_here(table, at), at);
         }
         if c < code {
             return CharRecord::Nothing;

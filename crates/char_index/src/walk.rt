@@ -6,7 +6,7 @@ ghost use lib.ListN.{length};
 ghost use Rattle.char_index.specs.Walk.{endIf, Stands};
 
 // Behind a string that is there or absent.
-fn end_if(s: &[u8], at: usize, there: bool) -> usize
+pub fn end_if(s: &[u8], at: usize, there: bool) -> usize
     requires { ⌜ (there ≡ true → at < length (now s)) ⌝ }
     ensures { λ r. ⌜ r ≡ endIf there (now (s .entry)) at ⌝ }
 {

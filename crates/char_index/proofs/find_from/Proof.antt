@@ -3,7 +3,7 @@ use mathlib.Core.Path.{sym, _∙_}
 use native.Mathlib.Omega.{arith}
 use Rattle.dicts.specs.Layout.{recordsAt}
 use Rattle.char_index.specs.Index.{Ahead}
-use Rattle.char_index.proofs.IndexLaws.{fault-read, record-read, record-inside, rest-none, full-stands, full-begins, turn-none, turn-fault, turn-found, turn-above, turn-next, ahead-all}
+use Rattle.char_index.proofs.IndexLaws.{rest-none, full-stands, full-begins, turn-none, turn-found, turn-above, turn-next, ahead-all}
 use borrow.Author.Needs.{needs}
 use Rattle.char_index.proofs.find_from.Statement.{statement}
 use Rattle.char_index.proofs.find_from.Tie as tie
@@ -20,29 +20,17 @@ loop-holds c = ahead-all _ _ _ _ (c .before .pre)
 u32-at-requires : tie.Need-u32-at-requires Inv-loop μ-loop
 u32-at-requires c κs = full-begins _ _ _ (c .before .loop .inv .whole .full) (c .loop-test .taken)
 
-record-at-requires : tie.Need-record-at-requires Inv-loop μ-loop
-record-at-requires c κs = search needs
-
-enum-known-p : tie.Need-enum-known-p Inv-loop μ-loop
-enum-known-p c = search needs
-
-enum-told : tie.Need-enum-told Inv-loop μ-loop
-enum-told c = search needs
+record-here-requires : tie.Need-record-here-requires Inv-loop μ-loop
+record-here-requires c κs = let l = c .before .before in full-stands _ _ _ (l .before .loop .inv .whole .full) (l .loop-test .taken)
 
 returns : tie.Need-returns Inv-loop μ-loop
 returns c =
-    let a = c .before .before in
-    turn-fault _ _ _ _ _ (a .before .before .before .before .loop .inv) (fault-read _ _ (a .record-at .ensures .0) (c .enum-told .given .1))
+    let u = c .before .before in
+    let l = u .before in
+    turn-found _ _ _ _ _ (l .before .loop .inv) (l .loop-test .taken) _ (c .record-here .ensures .0) (c .record-here .ensures .1) (sym (u .u32-at .ensures) ∙ c .before .if1 .taken)
 
 returns-2 : tie.Need-returns-2 Inv-loop μ-loop
 returns-2 c =
-    let a = c .before .before .before in
-    let l = a .before .before .before in
-    turn-found _ _ _ _ _ (l .before .loop .inv) (l .loop-test .taken) _ (record-read _ _ (a .record-at .ensures .0) (c .before .p .given .1))
-    (record-inside _ (a .record-at .ensures .1) (c .before .p .given .1)) (sym (a .before .before .u32-at .ensures) ∙ a .before .if1 .taken)
-
-returns-3 : tie.Need-returns-3 Inv-loop μ-loop
-returns-3 c =
     let u = c .before .before in
     let l = u .before in
     turn-above _ _ _ _ _ (l .before .loop .inv) (l .loop-test .taken) (omega (arith, u .u32-at .ensures))
@@ -62,8 +50,8 @@ loop-again c =
     let l = u .before in
     turn-next _ _ _ _ _ (l .before .loop .inv) (l .loop-test .taken) _ _ (c .record-end .ensures .reads) (λ e. c .before .before .if1 .left (u .u32-at .ensures ∙ e))
 
-returns-4 : tie.Need-returns-4 Inv-loop μ-loop
-returns-4 c = turn-none _ _ _ _ _ (c .before .loop .inv) (rest-none _ _ _ (c .loop-test .left))
+returns-3 : tie.Need-returns-3 Inv-loop μ-loop
+returns-3 c = turn-none _ _ _ _ _ (c .before .loop .inv) (rest-none _ _ _ (c .loop-test .left))
 
 pub find-from-spec : {M : Type 1} → statement M
 find-from-spec =
@@ -73,14 +61,11 @@ find-from-spec =
     μ-loop
     loop-holds
     u32-at-requires
-    record-at-requires
-    enum-known-p
-    enum-told
+    record-here-requires
     returns
     returns-2
-    returns-3
     record-end-requires
     sub-left
     loop-less
     loop-again
-    returns-4)
+    returns-3)
