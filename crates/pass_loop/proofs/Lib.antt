@@ -1,2 +1,3 @@
 -- Laws of a pass's loop, for this crate's proofs.
+pub mod FilterLaws
 pub mod RunLaws

@@ -1,20 +1,23 @@
 -- Laws of a pass's loop (`pass_list`, specs/ItemPass.antt and specs/Answers.antt), the same for all five passes. No contract cites this file.
--- In order: what `next` says of a chain; the longer chain; lists; a chain above TOP; what a pass answers; a chain that ended; the loop's invariant and each way out.
+-- In order: what `next` says of a chain; the longer chain; lists; a chain above TOP; what a pass answers; the k-th edge; the edges to be read; the chain that
+-- an edge begins; the loop over a chain and the loop over the list, each with its invariant and each way out.
 -- Assumes nothing.
 use mathlib.Core.Path.{_≡_, refl, sym, ap, _∙_, subst}
+use mathlib.Core.Logic.{inl}
 use mathlib.Core.Bool.{Bool, true, false, cond}
-use mathlib.Core.List.{List, [], _∷_, _++_}
+use mathlib.Core.List.{List, [], _∷_, _++_, append-assoc, append-nil}
 use mathlib.Core.Option.{Option, none, some}
-use Prim.Native.Nat.{ℕ, _+_, _*_, _-_, _^_, _≤_, _<_}
-use native.Mathlib.Nat.{lt-of-lt-of-le}
+use Prim.Native.Nat.{ℕ, zero, suc, _+_, _*_, _-_, _^_, _≤_, _<_}
+use native.Mathlib.Nat.{lt-of-lt-of-le, add-zero}
+use native.Mathlib.Numerals.{add-one}
 use native.Mathlib.Omega.{arith}
-use lib.ListN.{length, drop}
+use lib.ListN.{length, take, drop, getD, set}
 use lib.Seq.{sets}
 use lib.Dec.{ltb}
 use borrow.Author.Tests.{lt-ltb, le-ltb, ltb-true, ltb-false}
 use Rattle.whole.specs.Whole.{TOP}
 use Rattle.passes.specs.Chains.{from, chains}
-use Rattle.passes.proofs.ChainsLaws.{from-nil, from-none, from-some, turn-ends, turn-takes}
+use Rattle.passes.proofs.ChainsLaws.{chains-cons, from-nil, from-none, from-some}
 use Rattle.text.proofs.RowLaws.{and-true}
 use Rattle.passes.specs.Passes.{Pass, D1, G1, G2, G3, G4}
 use Rattle.pass_list.specs.declared.record.PassEdge.{PassEdge}
@@ -22,14 +25,21 @@ use Rattle.pass_list.specs.declared.chain.Chain.{Chain}
 use Rattle.pass_list.specs.declared.chain.Next.{Next}
 use Rattle.pass_list.specs.declared.chain.Next.the-variants.{Longer, Ends, Above}
 use Rattle.pass_list.specs.declared.run.Passed.the-variants as Passed
-use Rattle.pass_list.specs.Item.{Item, nil, cons, AllSmall, Fits, EdgeIs}
+use Rattle.fields.specs.Part.{part}
+use Rattle.fields.proofs.PartLaws.{length-part, part-at, part-take, part-sets, part-sets-other, drop-sets, copy-turn, copy-ends}
+use Rattle.pass_list.specs.Item.{Item, Small, nil, cons, AllSmall, Fits, EdgeIs}
 use Rattle.pass_list.specs.Stored.{recordBytes, itemAt, itemsAt}
 use Rattle.pass_list.specs.ItemPass.{ItemChain, begin, touches, g1Rule, g3Rule, rule, counted, kindOf, joins, joinedValue, longer, next, over, chainsOf, edgesOf, joinedOf, after, added, firstAbove}
 use Rattle.pass_list.specs.Answers.{passChain, ChainIs, answer, PassedIs}
 use Rattle.pass_loop.specs.Ended.{Ended}
+use Rattle.text.specs.declared.Place.{Place}
+use Rattle.pass_loop.specs.declared.Run.{Run}
+use Rattle.pass_loop.specs.declared.Run.the-variants as Run
+use Rattle.pass_loop.specs.declared.Run.the-variants.{To}
+use Rattle.pass_loop.specs.Run.{First, Ran, RunIs}
 use Rattle.pass_list.proofs.NextLaws.{joins-of-next}
 use Rattle.pass_chain.proofs.ChainLaws.{counted-fits}
-use Rattle.pass_list.proofs.StoredLaws.{item-behind, items-cons, items-first, items-none, items-snoc, length-items, items-put, behind-put, behind-next}
+use Rattle.pass_list.proofs.StoredLaws.{item-behind, items-cons, items-none, items-snoc, items-other, length-items, items-put, behind-put, behind-next}
 
 -- ---- what `next` answers says of the chain
 module _ (p : Pass) (x : ItemChain) (y : Item) where
@@ -175,36 +185,71 @@ passed-all p l u k cs all stored below small few =
       small = λ n. rw (← all) small;
     }
 
-pub passed-none : (p : Pass) (s u : List ℕ) (n : ℕ) → n ≡ 0 → PassedIs p (itemsAt s 0 n) u (Passed.Edges 0)
-unfolding itemsAt chainsOf chains joinedOf firstAbove
-passed-none p s u n e = rw e (passed-all p [] u 0 [] refl refl refl nil (omega arith))
-
--- ---- a chain that ended: its edge stands in its place, or is put there
-pub ended-stands : (t : List ℕ) (k i : ℕ) {x : Item} → itemAt t (k * 56) ≡ x → Ended t k i x t
-ended-stands t k i {x} e = let z : 0 + k ≡ k = omega arith in record { stored = items-snoc t 0 k ∙ rw (z, e); rest = refl }
-
+-- ---- the k-th edge, written before those that are still to be read
 pub ended-put : (t : List ℕ) {u : List ℕ} (k i : ℕ) (x : Item) → Fits x → k < i → i * 56 ≤ length t → u ≡ sets t (k * 56) (recordBytes x) → Ended t k i x u
 ended-put t k i x f h room w = record { stored = rw w (items-put t k x f (omega arith)); rest = rw w (behind-put t t i k x h refl) }
 
--- ---- the loop: k edges are written, i of n are read, and the chain c is open
-pub record Going (p : Pass) (s : List ℕ) (n : ℕ) (t : List ℕ) (c : Chain) (i k : ℕ) : Type 0 where
-  pub behind : k < i
-  pub inside : i ≤ n
-  pub long : length t ≡ length s
-  -- what is to be read stands as it was
-  pub rest : drop (i * 56) t ≡ drop (i * 56) s
-  -- the chains that ended
-  pub done : List ItemChain
-  pub stored : itemsAt t 0 k ≡ edgesOf done
-  pub below : firstAbove (joinedOf done) ≡ none
-  pub small : AllSmall (edgesOf done)
-  -- the open one
-  pub model : ItemChain
-  pub is : ChainIs c model
-  -- with as many chains as edges it is of one edge, which stands in its place
-  pub stands : k + 1 ≡ i → itemAt t (k * 56) ≡ model .edge
-  pub so-far : done ++ from begin (next p) model (itemsAt s i (n - i)) ≡ chainsOf p (itemsAt s 0 n)
+-- the edge stands in its place
+pub ended-stands : (t : List ℕ) (k i : ℕ) → k ≡ i → Ended t k (i + 1) (itemAt t (i * 56)) t
+ended-stands t k i e = let z : 0 + k ≡ i = omega arith in record { stored = items-snoc t 0 k ∙ rw z; rest = refl }
 
+-- a turn of the loop that copies a record to an earlier place
+module _ (s : List ℕ) (to from : ℕ) (apart : to + 56 ≤ from) (room : from + 56 ≤ length s) where
+  pub moved-turn : {now : List ℕ} (j : ℕ) → j < 56 → now ≡ sets s to (take j (part s from 56)) → set now (to + j) (getD now (from + j) 0) ≡ sets s to (take (j + 1) (part s from 56))
+  moved-turn {now} j h e =
+      let l = length-part s from 56 room in
+      let q : length (take j (part s from 56)) ≡ j = rw (part-take s from 56 j (omega arith)) (length-part s from j (omega arith)) in
+      let r : getD now (from + j) 0 ≡ getD (part s from 56) j 0 =
+      sym (part-at now from 56 j h) ∙ ap (λ (z : List ℕ). getD z j 0) (ap (λ (z : List ℕ). part z from 56) e ∙ part-sets-other s to (take j (part s from 56)) from 56 (inl (omega arith))) in
+      ap (set now (to + j)) r ∙ copy-turn s (part s from 56) to j (omega arith) e
+
+  pub moved-ends : {now : List ℕ} (j : ℕ) → 56 ≤ j → now ≡ sets s to (take j (part s from 56)) → now ≡ sets s to (part s from 56)
+  moved-ends j h e = let l = length-part s from 56 room in copy-ends s (part s from 56) to j (omega arith) e
+
+-- its bytes are copied there
+pub ended-moved : (t : List ℕ) {u : List ℕ} (k i : ℕ) → k < i → (i + 1) * 56 ≤ length t → u ≡ sets t (k * 56) (part t (i * 56) 56) → Ended t k (i + 1) (itemAt t (i * 56)) u
+unfolding itemAt
+ended-moved t {u} k i h room w =
+    let l = length-part t (i * 56) 56 (omega arith) in
+    let z : (0 + k) * 56 ≡ k * 56 = omega arith in
+    let there : part (sets t (k * 56) (part t (i * 56) 56)) (k * 56) 56 ≡ part t (i * 56) 56 = part-sets t (k * 56) (part t (i * 56) 56) 56 l (omega arith) in
+    record {
+      stored = rw w (items-snoc (sets t (k * 56) (part t (i * 56) 56)) 0 k ∙ rw (z, items-other t (k * 56) (part t (i * 56) 56) 0 k (omega arith), there));
+      rest = rw w (drop-sets t (k * 56) (part t (i * 56) 56) ((i + 1) * 56) (omega arith));
+    }
+
+-- ---- edges that are still to be read
+items-behind : (s t : List ℕ) (i n : ℕ) → drop (i * 56) t ≡ drop (i * 56) s → itemsAt t i n ≡ itemsAt s i n
+unfolding itemsAt
+items-behind s t i zero e = refl
+items-behind s t i (suc n) e = rw (item-behind s t (i * 56) e, items-behind s t (suc i) n (rw add-one at (behind-next s t i e)))
+
+one-small : {x : Item} {l : List Item} → AllSmall (x ∷ l) → Small x
+one-small (cons x a) = x
+
+small-later : (s : List ℕ) (i d n : ℕ) → AllSmall (itemsAt s i (d + n)) → AllSmall (itemsAt s (i + d) n)
+unfolding itemsAt
+small-later s i zero n a = let e : 0 + n ≡ n = omega arith in let b : AllSmall (itemsAt s i n) = rw e at a in rw add-zero b
+small-later s i (suc d) n a =
+    let e : i + suc d ≡ suc i + d = omega arith in
+    let f : suc d + n ≡ suc (d + n) = omega arith in
+    rw e (small-later s (suc i) d n (tail (rw f at a)))
+  where
+    tail : {x : Item} {l : List Item} → AllSmall (x ∷ l) → AllSmall l
+    tail (cons x a) = a
+
+-- from the j-th on
+small-behind : (s : List ℕ) (i j n : ℕ) → i ≤ j → j ≤ n → AllSmall (itemsAt s i (n - i)) → AllSmall (itemsAt s j (n - j))
+small-behind s i j n h k a =
+    let e : n - i ≡ (j - i) + (n - j) = omega arith in
+    let f : i + (j - i) ≡ j = omega arith in
+    rw f at (small-later s i (j - i) (n - j) (rw e at a))
+
+-- the j-th of them
+pub small-one : (s : List ℕ) (i j n : ℕ) → i ≤ j → j < n → AllSmall (itemsAt s i (n - i)) → Small (itemAt s (j * 56))
+small-one s i j n h k a = one-small (rw (items-cons s j n k) at (small-behind s i j n h (omega arith) a))
+
+-- ---- the chain that an edge begins
 begin-edge : (y : Item) → begin y .edge ≡ y
 unfolding begin
 begin-edge y = refl
@@ -213,97 +258,159 @@ begin-is : {e : Item} {c : Chain} (f : Fits e) → c ≡ passChain (begin e) →
 unfolding begin
 begin-is f h = record { is = h; fits = f }
 
-module _ (p : Pass) (s : List ℕ) (n : ℕ) where
-  -- the first edge begins a chain
-  pub begins : (c : Chain) {e : PassEdge} → 0 < n → EdgeIs e (itemAt s (0 * 56)) → c ≡ passChain (begin (itemAt s (0 * 56))) → Going p s n s c 1 0
-  unfolding chainsOf chains itemsAt joinedOf firstAbove
-  begins c h e b = record {
-    behind = omega arith;
-    inside = h;
-    long = refl;
-    rest = refl;
-    done = [];
-    stored = refl;
-    below = refl;
-    small = nil;
-    model = begin (itemAt s (0 * 56));
+chains-none : (p : Pass) → chainsOf p [] ≡ []
+unfolding chainsOf chains
+chains-none p = refl
+
+chains-first : (p : Pass) (y : Item) (l : List Item) → chainsOf p (y ∷ l) ≡ from begin (next p) (begin y) l
+unfolding chainsOf
+chains-first p y l = chains-cons begin (next p) y l
+
+-- the chain c is open before the j-th of n edges: it ends there where it doesn't take that one, or where there is none
+module _ (p : Pass) (s : List ℕ) (n j : ℕ) (c : ItemChain) where
+  ends-before : (j < n → next p c (itemAt s (j * 56)) ≡ none) → from begin (next p) c (itemsAt s j (n - j)) ≡ c ∷ chainsOf p (itemsAt s j (n - j))
+  ends-before f = go (ltb j n) refl
+    where
+      go : (b : Bool) → ltb j n ≡ b → from begin (next p) c (itemsAt s j (n - j)) ≡ c ∷ chainsOf p (itemsAt s j (n - j))
+      go true t = let h = ltb-true _ _ t in rw (items-cons s j n h) (from-none begin (next p) c _ _ (f h) ∙ rw (chains-first p (itemAt s (j * 56)) (itemsAt s (j + 1) (n - (j + 1)))))
+      go false t = rw (items-none s j n (ltb-false _ _ t), chains-none p) (from-nil begin (next p) c)
+
+-- ---- the loop over a chain: c is open before the j-th edge, and ends before the to-th at the latest
+pub record Open (p : Pass) (s : List ℕ) (n i : ℕ) (c : Chain) (j to : ℕ) : Type 0 where
+  pub later : i < j
+  pub before : j ≤ to
+  pub inside : to ≤ n
+  pub model : ItemChain
+  pub is : ChainIs c model
+  -- where that isn't the list's end, it does not take the edge there
+  pub closed : to < n → (j ≡ to) × (next p model (itemAt s (j * 56)) ≡ none)
+  pub so-far : from begin (next p) model (itemsAt s j (n - j)) ≡ chainsOf p (itemsAt s i (n - i))
+
+module _ (p : Pass) (s : List ℕ) (n i : ℕ) where
+  pub opens : (c : Chain) {e : PassEdge} → i < n → EdgeIs e (itemAt s (i * 56)) → c ≡ passChain (begin (itemAt s (i * 56))) → Open p s n i c (i + 1) n
+  opens c h e b = record {
+    later = omega arith;
+    before = omega arith;
+    inside = omega arith;
+    model = begin (itemAt s (i * 56));
     is = begin-is (e .fits) b;
-    stands = λ z. sym (begin-edge (itemAt s (0 * 56)));
-    so-far = ap (chains begin (next p)) (sym (items-first s n h));
+    closed = λ z. absurd (omega arith);
+    so-far = sym (ap (chainsOf p) (items-cons s i n h) ∙ chains-first p _ _);
   }
 
-  module _ (t : List ℕ) (c : Chain) (i k : ℕ) (g : Going p s n t c i k) where
-    -- the edge that is read is the one that stood there
-    pub reads : itemAt t (i * 56) ≡ itemAt s (i * 56)
-    reads = item-behind s t (i * 56) (g .rest)
+  module _ (c : Chain) (j to : ℕ) (g : Open p s n i c j to) where
+    abbrev y : Item
+    y = itemAt s (j * 56)
 
-    module _ (h : i < n) where
-      abbrev y : Item
-      y = itemAt s (i * 56)
+    module _ (h : j < to) where
+      open-next : from begin (next p) (g .model) (y ∷ itemsAt s (j + 1) (n - (j + 1))) ≡ chainsOf p (itemsAt s i (n - i))
+      open-next = let k = g .inside in rw (← (items-cons s j n (omega arith))) (g .so-far)
 
-      so-far-next : g .done ++ from begin (next p) (g .model) (y ∷ itemsAt s (i + 1) (n - (i + 1))) ≡ chainsOf p (itemsAt s 0 n)
-      so-far-next = rw (← (items-cons s i n h)) (g .so-far)
-
-      -- what was answered of the edge that is read
-      as-read : {r : Next} → answer p (g .model) (itemAt t (i * 56)) ≡ r → answer p (g .model) y ≡ r
-      as-read {r} e = subst (λ (x : Item). answer p (g .model) x ≡ r) reads e
-
-      pub takes : (j : Chain) → Fits (itemAt t (i * 56)) → answer p (g .model) (itemAt t (i * 56)) ≡ Longer j → Going p s n t j (i + 1) k
-      takes j f e =
-          let a = says-longer p (g .model) y j (as-read e) in
-          let b = g .behind in
+      pub takes : (d : Chain) → Fits y → answer p (g .model) y ≡ Longer d → Open p s n i d (j + 1) to
+      takes d f e =
+          let a = says-longer p (g .model) y d e in
+          let l = g .later in
+          let b = g .inside in
           record {
-            behind = omega arith;
-            inside = omega arith;
-            long = g .long;
-            rest = behind-next s t i (g .rest);
-            done = g .done;
-            stored = g .stored;
-            below = g .below;
-            small = g .small;
+            later = omega arith;
+            before = omega arith;
+            inside = g .inside;
             model = longer p (g .model) y;
-            is = record { is = a .1; fits = longer-fits p (g .model) y (g .is .fits) (subst Fits reads f) (a .2) };
-            stands = λ z. absurd (omega arith);
-            so-far = turn-takes begin (next p) (g .done) (g .model) (longer p (g .model) y) y _ (a .0) so-far-next;
+            is = record { is = a .1; fits = longer-fits p (g .model) y (g .is .fits) f (a .2) };
+            closed = λ z. let q = g .closed z .0 in absurd (omega arith);
+            so-far = sym (from-some begin (next p) (g .model) (longer p (g .model) y) y _ (a .0)) ∙ open-next;
           }
 
-      pub ends : (u : List ℕ) (d : Chain) → Fits (itemAt t (i * 56)) → answer p (g .model) (itemAt t (i * 56)) ≡ Ends → length u ≡ length t → Ended t k i (g .model .edge) u
-          → d ≡ passChain (begin (itemAt t (i * 56))) → Going p s n u d (i + 1) (k + 1)
-      ends u d f e kept w b =
-          let q = g .behind in
-          let m = g .model in
-          let same : drop (i * 56) u ≡ drop (i * 56) s = w .rest ∙ g .rest in
-          record {
-            behind = omega arith;
-            inside = omega arith;
-            long = kept ∙ g .long;
-            rest = behind-next s u i same;
-            done = g .done ++ (m ∷ []);
-            stored = w .stored ∙ rw (g .stored, edges-append (g .done) (m ∷ []));
-            below = rw (joined-append (g .done) (m ∷ []), above-append (joinedOf (g .done)) (joinedOf (m ∷ [])) (g .below)) (one-below m (g .is .fits .small .value));
-            small = rw (edges-append (g .done) (m ∷ [])) (small-append _ _ (g .small) (cons (g .is .fits .small) nil));
-            model = begin y;
-            is = begin-is (subst Fits reads f) (subst (λ (x : Item). d ≡ passChain (begin x)) reads b);
-            stands = λ z. let e : k + 1 ≡ i = omega arith in rw e (item-behind s u (i * 56) same) ∙ sym (begin-edge y);
-            so-far = turn-ends begin (next p) (g .done) m y _ (says-ends p m y (as-read e)) so-far-next;
-          }
+      pub ends : answer p (g .model) y ≡ Ends → Open p s n i c j j
+      ends e = let b = g .inside in record { later = g .later; before = omega arith; inside = omega arith; model = g .model; is = g .is; closed = λ z. (refl, says-ends p (g .model) y e); so-far = g .so-far }
 
-      pub above : (u : List ℕ) → answer p (g .model) (itemAt t (i * 56)) ≡ Above → PassedIs p (itemsAt s 0 n) u (Passed.Above (c .edge .start))
-      above u e =
-          let a = says-above p (g .model) y (as-read e) in
+      pub above : answer p (g .model) y ≡ Above → firstAbove (added p (itemsAt s i (n - i))) ≡ some (c .edge .start .0)
+      unfolding added
+      above e =
+          let a = says-above p (g .model) y e in
           let z = longer p (g .model) y in
           let v : TOP < z .edge .value = rw (longer-value p (g .model) y) (a .1) in
-          rw (g .is .is)
-          (passed-above p (itemsAt s 0 n) u (g .model .edge .start) (rw (← so-far-next, joined-append (g .done) _, above-append (joinedOf (g .done)) _ (g .below), from-some begin (next p) (g .model) z y _ (a .0)) (from-above p z _ (longer-more p (g .model) y) v ∙ rw (longer-start p (g .model) y))))
+          rw (g .is .is, ← open-next, from-some begin (next p) (g .model) z y (itemsAt s (j + 1) (n - (j + 1))) (a .0)) (from-above p z _ (longer-more p (g .model) y) v ∙ rw (longer-start p (g .model) y))
 
-    pub finishes : n ≤ i → (u : List ℕ) → Ended t k i (g .model .edge) u → PassedIs p (itemsAt s 0 n) u (Passed.Edges (k + 1))
-    finishes h u w =
-        let q = g .behind in
-        let b = g .inside in
-        let m = g .model in
-        let all : g .done ++ (m ∷ []) ≡ chainsOf p (itemsAt s 0 n) = rw (← (from-nil begin (next p) m), ← (items-none s i n h)) (g .so-far) in
-        passed-all p (itemsAt s 0 n) u (k + 1) (g .done ++ (m ∷ [])) all
-        (w .stored ∙ rw (g .stored, edges-append (g .done) (m ∷ [])))
-        (rw (joined-append (g .done) (m ∷ []), above-append (joinedOf (g .done)) (joinedOf (m ∷ [])) (g .below)) (one-below m (g .is .fits .small .value)))
-        (rw (edges-append (g .done) (m ∷ [])) (small-append _ _ (g .small) (cons (g .is .fits .small) nil)))
-        (rw (length-items s 0 n) (omega arith))
+    pub closes : to ≤ j → First p s n i j (g .model .edge)
+    closes h =
+        let b = g .before in
+        let d = g .inside in
+        record {
+          later = g .later;
+          inside = omega arith;
+          chain = g .model;
+          edge = refl;
+          chains = sym (g .so-far) ∙ ends-before p s n j (g .model) (λ k. g .closed (omega arith) .1);
+        }
+
+-- what was answered of it
+module _ (p : Pass) (s t : List ℕ) (n k i : ℕ) {r : Run} (h : RunIs p s n k i t r) where
+  pub ran-to : {j : ℕ} → r ≡ To j → Ran p s n k i t j
+  unfolding RunIs
+  ran-to e = rw e at h
+
+  pub ran-above : {a : Place} → r ≡ Run.Above a → firstAbove (added p (itemsAt s i (n - i))) ≡ some (a .0)
+  unfolding RunIs
+  ran-above e = rw e at h
+
+-- an edge that takes no neighbour is a chain of its own
+pub first-alone : (p : Pass) (s : List ℕ) (n i : ℕ) → i < n → (i + 1 < n → next p (begin (itemAt s (i * 56))) (itemAt s ((i + 1) * 56)) ≡ none) → First p s n i (i + 1) (itemAt s (i * 56))
+first-alone p s n i h f = record {
+  later = omega arith;
+  inside = omega arith;
+  chain = begin (itemAt s (i * 56));
+  edge = begin-edge (itemAt s (i * 56));
+  chains = ap (chainsOf p) (items-cons s i n h) ∙ chains-first p _ _ ∙ ends-before p s n (i + 1) (begin (itemAt s (i * 56))) f;
+}
+
+-- ---- the loop over the list: the edges over k chains are written, and the i-th of n edges is read next
+pub record Going (p : Pass) (s : List ℕ) (n : ℕ) (t : List ℕ) (i k : ℕ) : Type 0 where
+  pub behind : k ≤ i
+  pub inside : i ≤ n
+  pub long : length t ≡ length s
+  -- the chains that ended
+  pub done : List ItemChain
+  pub stored : itemsAt t 0 k ≡ edgesOf done
+  pub below : firstAbove (joinedOf done) ≡ none
+  pub small : AllSmall (edgesOf done)
+  -- what is to be read
+  pub rest : AllSmall (itemsAt t i (n - i))
+  pub so-far : done ++ chainsOf p (itemsAt t i (n - i)) ≡ chainsOf p (itemsAt s 0 n)
+
+module _ (p : Pass) (s : List ℕ) (n : ℕ) where
+  pub begins : AllSmall (itemsAt s 0 n) → Going p s n s 0 0
+  unfolding itemsAt joinedOf firstAbove
+  begins a = let e : n - 0 ≡ n = omega arith in record { behind = omega arith; inside = omega arith; long = refl; done = []; stored = refl; below = refl; small = nil; rest = rw e a; so-far = rw e }
+
+  module _ (t : List ℕ) (i k : ℕ) (g : Going p s n t i k) where
+    pub goes-on : (u : List ℕ) (j : ℕ) → length u ≡ length t → Ran p t n k i u j → Going p s n u j (k + 1)
+    goes-on u j kept r =
+        let b = g .behind in
+        let f = r .first in
+        let l = f .later in
+        let c = f .chain in
+        let same : itemsAt u j (n - j) ≡ itemsAt t j (n - j) = items-behind t u j (n - j) (r .ended .rest) in
+        let small : Small (c .edge) = subst Small (sym (f .edge)) (r .small) in
+        record {
+          behind = omega arith;
+          inside = f .inside;
+          long = kept ∙ g .long;
+          done = g .done ++ (c ∷ []);
+          stored = r .ended .stored ∙ rw (g .stored, ← (f .edge), edges-append (g .done) (c ∷ []));
+          below = rw (joined-append (g .done) (c ∷ []), above-append (joinedOf (g .done)) (joinedOf (c ∷ [])) (g .below)) (one-below c (small .value));
+          small = rw (edges-append (g .done) (c ∷ [])) (small-append _ _ (g .small) (cons small nil));
+          rest = rw same (small-behind t i j n (omega arith) (f .inside) (g .rest));
+          so-far = rw same (append-assoc (g .done) (c ∷ []) _ ∙ rw (← (f .chains)) (g .so-far));
+        }
+
+    pub stops : (u : List ℕ) (a : ℕ) → firstAbove (added p (itemsAt t i (n - i))) ≡ some a → PassedIs p (itemsAt s 0 n) u (Passed.Above (record { 0 = a }))
+    unfolding added
+    stops u a e = passed-above p (itemsAt s 0 n) u a (rw (← (g .so-far), joined-append (g .done) (chainsOf p (itemsAt t i (n - i))), above-append (joinedOf (g .done)) (joinedOf (chainsOf p (itemsAt t i (n - i)))) (g .below)) e)
+
+    pub finishes : n ≤ i → PassedIs p (itemsAt s 0 n) t (Passed.Edges k)
+    finishes h =
+        let b = g .behind in
+        let d = g .inside in
+        let all : g .done ≡ chainsOf p (itemsAt s 0 n) = rw (items-none t i n h, chains-none p, append-nil) at (g .so-far) in
+        passed-all p (itemsAt s 0 n) t k (g .done) all (g .stored) (g .below) (g .small) (rw (length-items s 0 n) (omega arith))

@@ -1,28 +1,152 @@
-// The loop of a pass (01, "Five passes, D1 to G4"), in place: the chains that ended stand at the list's front, those to come behind the edge that is read.
+// The loop of a pass (01, "Five passes, D1 to G4"), in place: the edges over the chains that ended stand at the list's front, what is to come behind the edge
+// that is read. Most edges join no neighbour: a look at a few fields says so, and they are moved as bytes.
 ghost use mathlib.Core.Path.{_≡_};
-ghost use Prim.Native.Nat.{_+_, _*_, _≤_, _<_};
+ghost use mathlib.Core.Bool.{true};
+ghost use Prim.Native.Nat.{_+_, _*_, _-_, _≤_, _<_};
 ghost use lib.ListN.{length};
-ghost use Rattle.pass_list.specs.Item.{Item, AllSmall, EdgeIs};
+ghost use lib.Seq.{sets};
+ghost use Rattle.fields.specs.Part.{part};
+ghost use Rattle.pass_list.specs.Item.{Small, AllSmall};
 ghost use Rattle.pass_list.specs.Stored.{itemAt, itemsAt};
-ghost use Rattle.pass_list.specs.Answers.{passOf, PassedIs};
+ghost use Rattle.pass_list.specs.ItemPass.{ItemChain, begin, joins};
+ghost use Rattle.pass_list.specs.Answers.{passOf, passChain, ChainIs, answer, PassedIs};
 ghost use Rattle.pass_loop.specs.Ended.{Ended};
+ghost use Rattle.pass_loop.specs.Run.{First, RunIs};
 use pass_chain::next;
 use pass_list::chain::Chain;
 use pass_list::chain::Next;
 use pass_list::chain::Pass;
-use pass_list::record::PassEdge;
 use pass_list::run::Passed;
 use pass_record::get;
 use pass_record::put;
+use text::Place;
 
-// The edge over the k-th chain, which ends before the i-th edge, takes its place in the list. With as many chains as edges so far it stands there.
-fn put_ended(list: &mut [u8], k: usize, i: usize, e: PassEdge)
-    requires { ⌜ (k < i) × (i * 56 ≤ length (now list)) × ((x : Item) × EdgeIs e x) ⌝ }
-    ensures { λ _. ⌜ ((x : Item) → EdgeIs e x → (k + 1 ≡ i → itemAt (now (list .entry)) (k * 56) ≡ x) → Ended (now (list .entry)) k i x (now (list .exit))) ⌝ }
+// What the chain that an edge begins comes to: the index behind its last edge; or the start of the joined edge above TOP.
+pub enum Run {
+    To(usize),
+    Above(Place),
+}
+
+// Whether the pass may join the edges at two offsets: where it does, these few fields say so.
+fn may_join(s: &[u8], a: usize, b: usize, pass: Pass) -> bool
+    requires { ⌜ (a + 56 ≤ length (now s)) × (b + 56 ≤ length (now s)) ⌝ }
+    ensures { λ r. ⌜ (joins (passOf pass) (begin (itemAt (now (s .entry)) a)) (itemAt (now (s .entry)) b) ≡ true → r ≡ true) ⌝ }
 {
-    if k + 1 < i {
-        put(list, k * 56, e);
+    if fields::u16_at(s, a + 2) != fields::u16_at(s, b) {
+        return false;
     }
+    let l = fields::u16_at(s, a + 6);
+    let r = fields::u16_at(s, b + 6);
+    let base = fields::u64_at(s, a + 16);
+    let next = fields::u64_at(s, b + 16);
+    match pass {
+        Pass::D1 => (l / 256 % 2 == 1) & (r / 256 % 2 == 1),
+        Pass::G1 => (base == 1) & (1 < next) & !(r / 64 % 2 == 1),
+        Pass::G2 => (l / 2 % 2 == 1) & !(l / 64 % 2 == 1) & ((next < base) | (r / 512 % 2 == 1)),
+        Pass::G3 => (l / 2 % 2 == 1) & !(l / 64 % 2 == 1) & (r / 64 % 2 == 1),
+        Pass::G4 => (1000 <= base) | (next < base),
+    }
+}
+
+// Whether the pass may join the edge at an offset to a chain.
+fn may_take(c: Chain, s: &[u8], at: usize, pass: Pass) -> bool
+    requires { ⌜ at + 56 ≤ length (now s) ⌝ }
+    ensures { λ r. ⌜ ((x : ItemChain) → c ≡ passChain x → joins (passOf pass) x (itemAt (now (s .entry)) at) ≡ true → r ≡ true) ⌝ }
+{
+    let start = fields::u16_at(s, at) as usize;
+    let r = fields::u16_at(s, at + 6);
+    let next = fields::u64_at(s, at + 16);
+    let touches = c.edge.end.0 == start;
+    match pass {
+        Pass::D1 => touches & (r / 256 % 2 == 1),
+        Pass::G1 => touches & !c.more,
+        Pass::G2 => touches & ((next < c.near) | (r / 512 % 2 == 1)),
+        Pass::G3 => touches & !c.more,
+        Pass::G4 => touches & ((1000 <= c.edge.num.base) | (next < c.edge.num.base)),
+    }
+}
+
+// Whether the i-th of n edges is a chain of its own, as far as that is told without reading it.
+fn alone(s: &[u8], n: usize, i: usize, pass: Pass) -> bool
+    requires { ⌜ (i < n) × (n * 56 ≤ length (now s)) ⌝ }
+    ensures { λ r. ⌜ (r ≡ true → First (passOf pass) (now (s .entry)) n i (i + 1) (itemAt (now (s .entry)) (i * 56))) ⌝ }
+{
+    if i + 1 < n {
+        return !may_join(s, i * 56, (i + 1) * 56, pass);
+    }
+    true
+}
+
+// The record at an offset is copied to an earlier one.
+fn copy_record(list: &mut [u8], to: usize, from: usize)
+    requires { ⌜ (to + 56 ≤ from) × (from + 56 ≤ length (now list)) ⌝ }
+    ensures { λ _. ⌜ now (list .exit) ≡ sets (now (list .entry)) to (part (now (list .entry)) from 56) ⌝ }
+{
+    let mut j = 0;
+    while j < 56 {
+        list[to + j] = list[from + j];
+        j += 1;
+    }
+}
+
+// The i-th edge becomes the k-th.
+fn move_record(list: &mut [u8], k: usize, i: usize)
+    requires { ⌜ (k ≤ i) × ((i + 1) * 56 ≤ length (now list)) ⌝ }
+    ensures { λ _. ⌜ Ended (now (list .entry)) k (i + 1) (itemAt (now (list .entry)) (i * 56)) (now (list .exit)) ⌝ }
+{
+    if k < i {
+        copy_record(list, k * 56, i * 56);
+    }
+}
+
+// What the edge at an offset does to the chain: it is read where the pass may join it.
+fn ahead(c: Chain, pass: Pass, s: &[u8], at: usize) -> Next
+    requires { ⌜ ((x : ItemChain) × ChainIs c x) × (at + 56 ≤ length (now s)) × Small (itemAt (now s) at) ⌝ }
+    ensures { λ r. ⌜ ((x : ItemChain) → ChainIs c x → r ≡ answer (passOf pass) x (itemAt (now (s .entry)) at)) ⌝ }
+{
+    if may_take(c, s, at, pass) {
+        return next(c, pass, get(s, at));
+    }
+    Next::Ends
+}
+
+// The chain that the i-th of n edges begins: the edge over it becomes the k-th.
+fn run_chain(list: &mut [u8], n: usize, k: usize, i: usize, pass: Pass) -> Run
+    requires { ⌜ (k ≤ i) × (i < n) × (n * 56 ≤ length (now list)) × AllSmall (itemsAt (now list) i (n - i)) ⌝ }
+    ensures { λ r. ⌜ RunIs (passOf pass) (now (list .entry)) n k i (now (list .exit)) r ⌝ }
+{
+    let mut chain = Chain::begin(get(list, i * 56));
+    let mut j = i + 1;
+    let mut to = n;
+    while j < to {
+        match ahead(chain, pass, list, j * 56) {
+            Next::Longer(c) => {
+                chain = c;
+                j += 1;
+            }
+            Next::Ends => {
+                to = j;
+            }
+            Next::Above => {
+                let start = chain.edge.start;
+                return Run::Above(start);
+            }
+        }
+    }
+    put(list, k * 56, chain.edge);
+    Run::To(j)
+}
+
+// The chain that the i-th of n edges begins, with a look first whether it goes on at all.
+fn step(list: &mut [u8], n: usize, k: usize, i: usize, pass: Pass) -> Run
+    requires { ⌜ (k ≤ i) × (i < n) × (n * 56 ≤ length (now list)) × AllSmall (itemsAt (now list) i (n - i)) ⌝ }
+    ensures { λ r. ⌜ RunIs (passOf pass) (now (list .entry)) n k i (now (list .exit)) r ⌝ }
+{
+    if alone(list, n, i, pass) {
+        move_record(list, k, i);
+        return Run::To(i + 1);
+    }
+    run_chain(list, n, k, i, pass)
 }
 
 // A pass over the n edges of the list.
@@ -30,31 +154,18 @@ pub fn run_pass(list: &mut [u8], n: usize, pass: Pass) -> Passed
     requires { ⌜ (n * 56 ≤ length (now list)) × AllSmall (itemsAt (now list) 0 n) ⌝ }
     ensures { λ r. ⌜ PassedIs (passOf pass) (itemsAt (now (list .entry)) 0 n) (now (list .exit)) r ⌝ }
 {
-    if n == 0 {
-        return Passed::Edges(0);
-    }
-    let mut chain = Chain::begin(get(list, 0));
-    let mut i: usize = 1;
-    let mut k: usize = 0;
+    let mut i = 0;
+    let mut k = 0;
     while i < n {
-        let e = get(list, i * 56);
-        match next(chain, pass, e) {
-            Next::Longer(c) => {
-                chain = c;
-                i += 1;
-            }
-            Next::Ends => {
-                put_ended(list, k, i, chain.edge);
-                chain = Chain::begin(e);
+        match step(list, n, k, i, pass) {
+            Run::To(to) => {
+                i = to;
                 k += 1;
-                i += 1;
             }
-            Next::Above => {
-                let start = chain.edge.start;
-                return Passed::Above(start);
+            Run::Above(p) => {
+                return Passed::Above(p);
             }
         }
     }
-    put_ended(list, k, i, chain.edge);
-    Passed::Edges(k + 1)
+    Passed::Edges(k)
 }

@@ -1,0 +1,23 @@
+-- `ahead` meets its contract. Assumes nothing.
+use Rattle.pass_loop.proofs.FilterLaws.{answer-ends}
+use borrow.Author.Needs.{needs}
+use Rattle.pass_loop.proofs.ahead.Statement.{statement}
+use Rattle.pass_loop.proofs.ahead.Tie as tie
+
+may-take-requires : tie.Need-may-take-requires
+may-take-requires c κs = search needs
+
+get-requires : tie.Need-get-requires
+get-requires c κs = search needs
+
+next-requires : tie.Need-next-requires
+next-requires c κs = search needs
+
+returns : tie.Need-returns
+returns c x e = c .next .ensures x _ e (c .before .get .ensures)
+
+returns-2 : tie.Need-returns-2
+returns-2 c x e = answer-ends _ _ _ (c .before .may-take .ensures x (e .is)) (c .if1 .left)
+
+pub ahead-spec : {M : Type 1} → statement M
+ahead-spec = tie.close (tie.spec may-take-requires get-requires next-requires returns returns-2)

@@ -1,0 +1,34 @@
+-- `alone` meets its contract. Assumes nothing.
+use native.Mathlib.Omega.{arith}
+use borrow.Author.Tests.{not-true}
+use Rattle.pass_loop.proofs.FilterLaws.{next-none}
+use Rattle.pass_loop.proofs.RunLaws.{first-alone}
+use borrow.Author.Needs.{needs}
+use Rattle.pass_loop.proofs.alone.Statement.{statement}
+use Rattle.pass_loop.proofs.alone.Tie as tie
+
+add-if1 : tie.Need-add-if1
+add-if1 c = search needs
+
+mul-may-join : tie.Need-mul-may-join
+mul-may-join c = search needs
+
+add-may-join : tie.Need-add-may-join
+add-may-join c = search needs
+
+mul-may-join-2 : tie.Need-mul-may-join-2
+mul-may-join-2 c = search needs
+
+may-join-requires : tie.Need-may-join-requires
+may-join-requires c κs = search needs
+
+returns : tie.Need-returns
+returns c r = first-alone _ _ _ _ (c .before .before .before .pre .0) (λ h. next-none _ _ _ (c .may-join .ensures) (not-true _ r))
+
+returns-2 : tie.Need-returns-2
+returns-2 c r = first-alone _ _ _ _ (c .before .before .pre .0) (λ h. absurd (omega (arith, h, c .if1 .left)))
+
+pub alone-spec : {M : Type 1} → statement M
+alone-spec =
+    tie.close
+    (tie.spec add-if1 mul-may-join add-may-join mul-may-join-2 may-join-requires returns returns-2)

@@ -1,0 +1,29 @@
+-- `move_record` meets its contract: with as many chains as edges nothing is written. Assumes nothing.
+use native.Mathlib.Omega.{arith}
+use Rattle.pass_loop.proofs.RunLaws.{ended-stands, ended-moved}
+use borrow.Author.Needs.{needs}
+use Rattle.pass_loop.proofs.move_record.Statement.{statement}
+use Rattle.pass_loop.proofs.move_record.Tie as tie
+
+mul-copy-record : tie.Need-mul-copy-record
+mul-copy-record c = search needs
+
+mul-copy-record-2 : tie.Need-mul-copy-record-2
+mul-copy-record-2 c = search needs
+
+copy-record-requires : tie.Need-copy-record-requires
+copy-record-requires c κs = search needs
+
+same-length : tie.Need-same-length
+same-length c = search needs
+
+returns : tie.Need-returns
+returns c = let a = c .before .before .before .before .before .before in ended-moved _ _ _ (c .before .before .before .before .if1 .taken) (a .pre .1) (c .before .before .copy-record .ensures)
+
+returns-2 : tie.Need-returns-2
+returns-2 c = ended-stands _ _ _ (omega (arith, c .if1 .left, c .before .before .pre .0))
+
+pub move-record-spec : {M : Type 1} → statement M
+move-record-spec =
+    tie.close
+    (tie.spec mul-copy-record mul-copy-record-2 copy-record-requires same-length returns returns-2)
