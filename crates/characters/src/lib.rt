@@ -3,11 +3,12 @@
 mod character; // character.rt: the edge of one character, from its record
 
 ghost use mathlib.Core.Path.{_≡_};
+ghost use mathlib.Core.Bool.{true};
 ghost use mathlib.Core.List.{List};
 ghost use Prim.Native.Nat.{ℕ, _+_, _*_, _<_, _≤_};
 ghost use lib.ListN.{length, getD};
 ghost use lib.Seq.{sets};
-ghost use Rattle.text.specs.Text.{chars, Scalars};
+ghost use Rattle.text.specs.Text.{chars, wellFormed, Scalars};
 ghost use Rattle.dicts.specs.Answers.{Inside};
 ghost use Rattle.char_index.specs.Index.{Indexed};
 ghost use Rattle.pass_list.specs.Item.{Small, Fits};
@@ -24,7 +25,6 @@ use dicts::layout::NumProp;
 use dicts::shape::Shape;
 use pass_record::put;
 use text::Offset;
-use text::Seq;
 
 // Stores the edge of the code point c as the n-th of the list.
 fn put_char(
@@ -66,7 +66,7 @@ fn add_char(
     }
 }
 
-// The characters of the line one after the other.
+// The characters of a well-formed line one after the other.
 fn add_chars(
     list: &mut [u8],
     line: &[u8],
@@ -75,27 +75,19 @@ fn add_chars(
     offs: &[u32; 256],
     entries: usize,
 ) -> usize
-    requires { ⌜ (14336 ≤ length (now list)) × (length (chars (now line)) ≤ 256) × Records (now table) all × Indexed (now table) (recordsIn (now table) all) (now offs) (all .left) entries ⌝ }
+    requires { ⌜ (14336 ≤ length (now list)) × (wellFormed (now line) ≡ true) × (length (chars (now line)) ≤ 256) × Records (now table) all × Indexed (now table) (recordsIn (now table) all) (now offs) (all .left) entries ⌝ }
     ensures { λ r. ⌜ SoFar (chars (now (line .entry))) (now (table .entry)) (recordsIn (now (table .entry)) all) (length (chars (now (line .entry)))) (now (list .exit)) r ⌝ }
 {
     let mut n: usize = 0;
     let mut place: usize = 0;
     let mut at: usize = 0;
-    loop {
-        match text::seq_at(line, Offset(at)) {
-            Seq::Char(c, len) => {
-                n = add_char(list, n, table, all, offs, entries, place, c);
-                place += 1;
-                at += len;
-            }
-            Seq::Ill => {
-                return n;
-            }
-            Seq::End => {
-                return n;
-            }
-        }
+    while at < line.len() {
+        let c = text_known::char_at(line, Offset(at));
+        n = add_char(list, n, table, all, offs, entries, place, c.code);
+        place += 1;
+        at += c.len;
     }
+    n
 }
 
 // The edges of the line's characters, at the start of the list; gives their count.

@@ -1,7 +1,7 @@
--- Laws of `specs/TextEnds.antt`. In order: a turn of the loop that tries the endings of a text, the shortest first; the endings of a
--- character's bytes; the last of a text's characters; the first. Assumes nothing.
-use mathlib.Core.Path.{_≡_, refl, sym, _∙_}
-use mathlib.Core.Bool.{Bool, true, false, cond}
+-- Laws of `specs/TextEnds.antt`. In order: a turn of the loop that tries the endings of a text, the shortest first; a first and a last byte
+-- of ASCII; the endings of a character's bytes; the last of a text's characters; the first. Assumes nothing.
+use mathlib.Core.Path.{_≡_, refl, sym, ap, _∙_}
+use mathlib.Core.Bool.{Bool, true, false, cond, _||_, or-false}
 use mathlib.Core.List.{List, [], _∷_, _++_, append-assoc, append-nil}
 use mathlib.Core.Logic.{_⊎_, inl, inr}
 use Prim.Native.Nat.{ℕ, zero, suc, _+_, _-_, _/_, _≤_, _<_}
@@ -10,20 +10,23 @@ use native.Mathlib.Numerals.{add-one}
 use native.Mathlib.Omega.{arith}
 use denote.Enum.Declared.{tagOf}
 use lib.Dec.{leb, ltb}
-use lib.ListN.{length, drop, length-append, length-drop}
+use lib.ListN.{length, drop, getD, length-append, length-drop}
 use lib.Seq.{drop-append-add, drop-drop}
 use borrow.Author.Tests.{le-leb, lt-leb, eq-eqb, ne-eqb}
 use Rattle.text.proofs.Seq.{the-type}
 use Rattle.text.specs.declared.Seq.{Seq}
 use Rattle.text.specs.declared.Seq.the-variants.{Char, Ill, End}
-use Rattle.text.specs.Table.{row, rowOf}
+use Rattle.text.specs.Table.{row, rowOf, within}
 use Rattle.text.specs.Sequence.{bySize, seq, scalar, trailByte, encode}
 use Rattle.text.specs.Text.{Scalars, chars, encodes}
 use Rattle.text.proofs.RowLaws.{cond-cases, row-at}
+use Rattle.text.proofs.SequenceLaws.{seq-end, seq-one}
 use Rattle.text.proofs.EncodeLaws.{seq-encode, encode-pos}
 use Rattle.text.proofs.TextLaws.{chars-char, chars-ill, chars-end}
-use Rattle.digits.specs.Digits.{isDigit}
-use Rattle.digits.specs.TextEnds.{beginsWithDigit, ending, wholeDigit, endsFrom, endsWithDigit, firstIsDigit, lastIsDigit}
+use Rattle.digits.specs.Digits.{starts, inRuns, isDigit}
+use Rattle.digits.specs.TextEnds.{digitSeq, beginsWithDigit, ending, wholeDigit, endsFrom, endsWithDigit, firstIsDigit, lastIsDigit}
+use Rattle.digits.proofs.DigitsLaws.{apart}
+use Rattle.digits.proofs.CountLaws.{below}
 
 -- k bytes that begin with q are no whole sequence
 abbrev pub NotWhole : ℕ → Seq → Type 0
@@ -64,6 +67,32 @@ module _ (s : List ℕ) (k : ℕ) (so-far : endsFrom (5 - k) k s ≡ endsWithDig
       longer-ending n =
           let e : 5 - (k + 1) ≡ 4 - k = omega arith in
           rw (e, add-one) (sym (n (endsFrom (4 - k) (suc k) s)) ∙ by-ending)
+
+-- ---- a byte of ASCII is a whole character, and a digit from 48 to 57
+pub ascii-digit : (b : ℕ) → b < 0x80 → within 48 57 b ≡ isDigit b
+unfolding isDigit inRuns starts apart
+ascii-digit b h = sym (ap (λ t. within 48 57 b || t) (below b 0x80 (drop 1 starts) tt h) ∙ or-false (within 48 57 b))
+
+ascii-at : (s : List ℕ) (at : ℕ) → at < length s → getD s at 0 < 0x80 → seq (drop at s) ≡ Char (getD s at 0) 1
+unfolding rowOf
+ascii-at s at h k = sym (seq-one s at h (row 1 0 0) (row-at 0 0x80 (row 1 0 0) tt (getD s at 0) (omega arith) k) refl refl)
+
+module _ (s : List ℕ) where
+  pub empty-begins : length s ≡ 0 → false ≡ beginsWithDigit s
+  unfolding beginsWithDigit
+  empty-begins h = ap digitSeq (seq-end s 0 (omega arith))
+
+  pub empty-ends : length s ≡ 0 → false ≡ endsWithDigit s
+  unfolding endsWithDigit
+  empty-ends h = too-short s 1 refl (omega arith) (omega arith)
+
+  pub ascii-begins : 0 < length s → getD s 0 0 < 0x80 → isDigit (getD s 0 0) ≡ beginsWithDigit s
+  unfolding beginsWithDigit
+  ascii-begins h k = ap digitSeq (sym (ascii-at s 0 h k))
+
+  pub ascii-ends : 0 < length s → getD s (length s - 1) 0 < 0x80 → isDigit (getD s (length s - 1) 0) ≡ endsWithDigit s
+  unfolding endsWithDigit
+  ascii-ends h k = whole-ending s 1 refl (omega arith) h _ refl (ascii-at s (length s - 1) (omega arith) k) refl
 
 -- ---- the endings of a character's bytes: behind the first byte no sequence begins
 trail-ill : (x : ℕ) (s : List ℕ) → seq (trailByte x ∷ s) ≡ Ill

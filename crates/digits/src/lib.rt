@@ -3,6 +3,7 @@
 use text::Offset;
 use text::Seq;
 ghost use mathlib.Core.Path.{_≡_};
+ghost use Prim.Native.Nat.{_<_};
 ghost use Rattle.digits.specs.Digits.{isDigit};
 ghost use Rattle.digits.specs.TextEnds.{beginsWithDigit, endsWithDigit};
 
@@ -100,8 +101,17 @@ pub fn is_digit(c: u32) -> bool
     c - starts[n - 1] <= 9
 }
 
+// ---- a text's first and last character: where its byte is ASCII's, that byte is the whole character
+
+fn ascii_digit(b: u8) -> bool
+    requires { ⌜ b < 0x80 ⌝ }
+    ensures { λ r. ⌜ r ≡ isDigit b ⌝ }
+{
+    (48 <= b) & (b <= 57)
+}
+
 // Of the first character; no, where the text is empty or begins ill-formed.
-pub fn begins_with_digit(txt: &[u8]) -> bool
+fn first_is_digit(txt: &[u8]) -> bool
     ensures { λ r. ⌜ r ≡ beginsWithDigit (now (txt .entry)) ⌝ }
 {
     match text::seq_at(txt, Offset(0)) {
@@ -111,8 +121,21 @@ pub fn begins_with_digit(txt: &[u8]) -> bool
     }
 }
 
+pub fn begins_with_digit(txt: &[u8]) -> bool
+    ensures { λ r. ⌜ r ≡ beginsWithDigit (now (txt .entry)) ⌝ }
+{
+    if txt.len() == 0 {
+        return false;
+    }
+    let b = txt[0];
+    if b < 0x80 {
+        return ascii_digit(b);
+    }
+    first_is_digit(txt)
+}
+
 // The last bytes are tried, one to four of them: the first ending that is one whole sequence is the last character.
-pub fn ends_with_digit(txt: &[u8]) -> bool
+fn last_is_digit(txt: &[u8]) -> bool
     ensures { λ r. ⌜ r ≡ endsWithDigit (now (txt .entry)) ⌝ }
 {
     let mut k = 1;
@@ -129,4 +152,17 @@ pub fn ends_with_digit(txt: &[u8]) -> bool
         k += 1;
     }
     false
+}
+
+pub fn ends_with_digit(txt: &[u8]) -> bool
+    ensures { λ r. ⌜ r ≡ endsWithDigit (now (txt .entry)) ⌝ }
+{
+    if txt.len() == 0 {
+        return false;
+    }
+    let b = txt[txt.len() - 1];
+    if b < 0x80 {
+        return ascii_digit(b);
+    }
+    last_is_digit(txt)
 }

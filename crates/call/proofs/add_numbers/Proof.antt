@@ -35,7 +35,7 @@ enum-known-n : tie.Need-enum-known-n
 enum-known-n c = search needs
 
 place-offsets-requires : tie.Need-place-offsets-requires
-place-offsets-requires c κs = let n = c .before .before in (omega (arith, sound n .ready .few, sound n .ready .count), length-replicate {A = ℕ} 257 0)
+place-offsets-requires c κs = let n = c .before .before in (sound n .ready .formed, omega (arith, sound n .ready .few, sound n .ready .count), length-replicate {A = ℕ} 257 0)
 
 checked-call-requires : tie.Need-checked-call-requires
 checked-call-requires c κs = let p = c .before .before .before in let n = p .before .before .before in (p .place-offsets .ensures, n .before .before .before .if1 .left, sound n)

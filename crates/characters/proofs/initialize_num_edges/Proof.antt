@@ -26,7 +26,7 @@ add-chars-requires c κs =
     let u = i .before .before in
     let s = u .before .before .before .before in
     let ready = s .pre .1 .1 in
-    (s .pre .0, omega (arith, ready .count, ready .few), said-records _ (s .args .h) (ready .checked) (u .u16-at .ensures), i .index-records .ensures)
+    (s .pre .0, ready .formed, omega (arith, ready .count, ready .few), said-records _ (s .args .h) (ready .checked) (u .u16-at .ensures), i .index-records .ensures)
 
 same-length : tie.Need-same-length
 same-length c = search needs

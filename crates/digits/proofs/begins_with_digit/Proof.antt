@@ -1,46 +1,36 @@
--- `digits::begins_with_digit` meets its contract: by what stands at the text's start. Assumes nothing.
-use mathlib.Core.Path.{sym, ap, _∙_}
+-- `digits::begins_with_digit` meets its contract: a byte of ASCII is a whole character, and of any other text `first_is_digit` answers. Assumes nothing.
+use mathlib.Core.Path.{_∙_}
+use native.Mathlib.Omega.{arith}
 use borrow.Author.Needs.{needs}
-use Rattle.digits.specs.TextEnds.{digitSeq, beginsWithDigit}
+use Rattle.digits.proofs.TextEndsLaws.{empty-begins, ascii-begins}
 use Rattle.digits.proofs.begins_with_digit.Statement.{statement}
 use Rattle.digits.proofs.begins_with_digit.Tie as tie
 
-seq-at-requires : tie.Need-seq-at-requires
-seq-at-requires c κs = search needs
-
-enum-known-c : tie.Need-enum-known-c
-enum-known-c c = search needs
-
-is-digit-requires : tie.Need-is-digit-requires
-is-digit-requires c κs = search needs
-
-enum-told : tie.Need-enum-told
-enum-told c = search needs
-
-enum-told-2 : tie.Need-enum-told-2
-enum-told-2 c = search needs
-
 returns : tie.Need-returns
-unfolding beginsWithDigit
-returns c = let q = c .before .before .before in c .is-digit .ensures ∙ ap digitSeq (sym (c .before .before .c .given .1) ∙ q .before .seq-at .ensures)
+returns c = empty-begins _ (c .if1 .taken)
+
+shared-slice-read-b : tie.Need-shared-slice-read-b
+shared-slice-read-b c = search needs
+
+ascii-digit-requires : tie.Need-ascii-digit-requires
+ascii-digit-requires c κs = c .if2 .taken
 
 returns-2 : tie.Need-returns-2
-unfolding beginsWithDigit
-returns-2 c = ap digitSeq (sym (c .enum-told .given .1) ∙ c .before .before .seq-at .ensures)
+returns-2 c = c .ascii-digit .ensures ∙ ascii-begins _ (omega arith) (c .before .if2 .taken)
+
+first-is-digit-requires : tie.Need-first-is-digit-requires
+first-is-digit-requires c κs = search needs
 
 returns-3 : tie.Need-returns-3
-unfolding beginsWithDigit
-returns-3 c = ap digitSeq (sym (c .enum-told2 .given .1) ∙ c .before .before .seq-at .ensures)
+returns-3 c = c .first-is-digit .ensures
 
 pub begins-with-digit-spec : {M : Type 1} → statement M
 begins-with-digit-spec =
     tie.close
     (tie.spec
-    seq-at-requires
-    enum-known-c
-    is-digit-requires
-    enum-told
-    enum-told-2
     returns
+    shared-slice-read-b
+    ascii-digit-requires
     returns-2
+    first-is-digit-requires
     returns-3)

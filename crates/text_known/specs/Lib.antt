@@ -1,0 +1,2 @@
+-- The definitions that the contract of `text_known` cites.
+pub mod Known
