@@ -13,7 +13,7 @@ use Rattle.fields.specs.Part.{part}
 use Rattle.fields.proofs.FieldsLaws.{length-bytesOf}
 use Rattle.fields.proofs.PartLaws.{length-part, part-at, part-sets, part-sets-other, part-add, drop-sets, copy-turn, copy-ends}
 use Rattle.edge.specs.Edge.{Edge, Text, mapOf, str, headBytes, edgeBytes, EdgeFits}
-use Rattle.edge.specs.Layout.{mapAt, txtAt, headEnd, nextAt, stringEnd}
+use Rattle.edge.specs.Layout.{mapAt, txtAt, headEnd, stringEnd}
 use Rattle.edge.specs.declared.EdgeView.{EdgeView}
 use Rattle.edge.specs.View.{viewAt}
 use Rattle.edge.specs.Write.{Put}
@@ -130,9 +130,6 @@ module _ (w : List ℕ) (at : ℕ) (e : Edge) (fits : EdgeFits e) (there : part 
   unfolding rest
   stand = begins w at (edgeBytes e) there
 
-  pub next-is : nextAt w at ≡ at + length (edgeBytes e)
-  next-is = edge-there w at rest e fits stand .ends
-
   pub map-is : mapAt w at ≡ mapOf (e .num)
   map-is = edge-there w at rest e fits stand .map
 
@@ -174,19 +171,18 @@ module _ (w : List ℕ) (at : ℕ) (e : Edge) (fits : EdgeFits e) (there : part 
       ap (take n) (number-behind w (txtAt w at) 2 (length (e .txt)) _ txt-row) ∙ take-at (e .txt ++ fieldsBytes e) rest n (length-append (e .txt) (fieldsBytes e) ∙ sym p)
 
   -- ---- the copy's bytes
-  pub copy-bytes : (x : Text) → prefixedBytes w at (txtAt w at + 2) (leAt w (txtAt w at) 2) (nextAt w at) x ≡ edgeBytes (prefixed x e)
+  pub copy-bytes : (x : Text) (to : ℕ) → to ≡ at + length (edgeBytes e) → prefixedBytes w at (txtAt w at + 2) (leAt w (txtAt w at) 2) to x ≡ edgeBytes (prefixed x e)
   unfolding prefixedBytes prefixed
-  copy-bytes x =
+  copy-bytes x to n =
       let t = txt-at-is in
-      let n = next-is in
       let l = length-by-txt e in
       let h : txtAt w at + 2 - 2 - at ≡ 8 + length (e .type) = omega arith in
-      let m : nextAt w at - (txtAt w at + 2) ≡ length (e .txt) + length (fieldsBytes e) = omega arith in
+      let m : to - (txtAt w at + 2) ≡ length (e .txt) + length (fieldsBytes e) = omega arith in
       let e′ : Edge = record { start = e .start; end = e .end; type = e .type; txt = x ++ e .txt; num = e .num } in
-      ap (λ (k : ℕ). part w at k ++ (bytesOf 2 (length x + leAt w (txtAt w at) 2) ++ (x ++ part w (txtAt w at + 2) (nextAt w at - (txtAt w at + 2))))) h
-      ∙ rw (before-there, txt-len-is, tail-there (nextAt w at - (txtAt w at + 2)) m, ← length-append x (e .txt), ← append-assoc x (e .txt) (fieldsBytes e)) (sym (by-txt e′))
+      ap (λ (k : ℕ). part w at k ++ (bytesOf 2 (length x + leAt w (txtAt w at) 2) ++ (x ++ part w (txtAt w at + 2) (to - (txtAt w at + 2))))) h
+      ∙ rw (before-there, txt-len-is, tail-there (to - (txtAt w at + 2)) m, ← length-append x (e .txt), ← append-assoc x (e .txt) (fieldsBytes e)) (sym (by-txt e′))
 
--- ---- the copy in the lattice: v is the head that was read of the edge, next its end
+-- ---- the copy in the lattice: v is the head that was read of the edge
 length-copy : (x : Text) (e : Edge) → length (edgeBytes (prefixed x e)) ≡ length (edgeBytes e) + length x
 unfolding prefixed
 length-copy x e =
@@ -195,9 +191,9 @@ length-copy x e =
     let d = length-append x (e .txt) in
     omega arith
 
-module _ (x : List ℕ) {w : List ℕ} {len at : ℕ} {e : Edge} (q : Source w len at (length x) e) where
+module _ (x : List ℕ) {w : List ℕ} {len at next : ℕ} {e : Edge} (q : Source w len at next (length x) e) where
   pub head-room : len ≤ length w → headEnd w at ≤ length w
-  head-room r = let h = head-end-is w at e (q .fits) (q .there) in let s = length-by-txt e in let i = q .inside in omega arith
+  head-room r = let h = head-end-is w at e (q .fits) (q .there) in let s = length-by-txt e in let n = q .ends in let i = q .inside in omega arith
 
   copy-short : length (edgeBytes (prefixed x e)) ≤ 2048
   copy-short = let l = length-copy x e in let s = q .short in omega arith
@@ -235,47 +231,46 @@ module _ (x : List ℕ) {w : List ℕ} {len at : ℕ} {e : Edge} (q : Source w l
     key-is = fields-start ∙ head-end-is w at e (q .fits) (q .there)
 
     pub key-short : (at + 10 ≤ v .fields) × (v .fields ≤ len) × (v .fields - at - 2 + length x ≤ 2048)
-    key-short = let k = key-is in let l = length-by-txt e in let i = q .inside in let s = q .short in (omega arith, omega arith, omega arith)
+    key-short = let k = key-is in let l = length-by-txt e in let n = q .ends in let i = q .inside in let s = q .short in (omega arith, omega arith, omega arith)
 
-    module _ {next : ℕ} (is-next : next ≡ nextAt w at) where
-      pub compose-asks : len + 2048 ≤ length w → (at + 2 ≤ v .txt .at) × (v .txt .at ≤ next) × (next ≤ len) × (len + (next - at) + length x ≤ length w) × (length x + v .txt .len < 65536)
-      compose-asks r =
-          let a = txt-starts in
-          let b = txt-at-is w at e (q .fits) (q .there) in
-          let n = next-is w at e (q .fits) (q .there) in
-          let l = length-by-txt e in
-          let i = q .inside in
-          let s = q .short in
-          let t = txt-long in
-          let y = txt-len-is w at e (q .fits) (q .there) in
-          (omega arith, omega arith, omega arith, omega arith, omega arith)
+    pub compose-asks : len + 2048 ≤ length w → (at + 2 ≤ v .txt .at) × (v .txt .at ≤ next) × (next ≤ len) × (len + (next - at) + length x ≤ length w) × (length x + v .txt .len < 65536)
+    compose-asks r =
+        let a = txt-starts in
+        let b = txt-at-is w at e (q .fits) (q .there) in
+        let n = q .ends in
+        let l = length-by-txt e in
+        let i = q .inside in
+        let s = q .short in
+        let t = txt-long in
+        let y = txt-len-is w at e (q .fits) (q .there) in
+        (omega arith, omega arith, omega arith, omega arith, omega arith)
 
-      module _ {t : List ℕ} {to : ℕ} (put : Put w t len to (prefixedBytes w at (v .txt .at) (v .txt .len) next x)) where
-        copied : Put w t len to (edgeBytes (prefixed x e))
-        copied = rw (← copy-bytes w at e (q .fits) (q .there) x, ← is-next, ← txt-starts, ← txt-long) put
+    module _ {t : List ℕ} {to : ℕ} (put : Put w t len to (prefixedBytes w at (v .txt .at) (v .txt .len) next x)) where
+      copied : Put w t len to (edgeBytes (prefixed x e))
+      copied = rw (← copy-bytes w at e (q .fits) (q .there) x next (q .ends), ← txt-starts, ← txt-long) put
 
-        pub copy-stands : len + 2048 ≤ length w → Stands t len (v .fields - at - 2 + length x) to (prefixed x e)
-        copy-stands r =
-            let s = copy-short in
-            let n = copied .next in
-            let k = key-is in
-            let m = copy-key in
-            let l = length-sets w len (edgeBytes (prefixed x e)) in
-            let y = ap length (copied .wrote) in
-            record {
-              fits = copy-fits;
-              there = ap (λ (z : List ℕ). part z len (length (edgeBytes (prefixed x e)))) (copied .wrote) ∙ part-sets w len (edgeBytes (prefixed x e)) _ refl (omega arith);
-              keyed = omega arith;
-              ends = n;
-              inside = omega arith;
-            }
+      pub copy-stands : len + 2048 ≤ length w → Stands t len (v .fields - at - 2 + length x) to (prefixed x e)
+      copy-stands r =
+          let s = copy-short in
+          let n = copied .next in
+          let k = key-is in
+          let m = copy-key in
+          let l = length-sets w len (edgeBytes (prefixed x e)) in
+          let y = ap length (copied .wrote) in
+          record {
+            fits = copy-fits;
+            there = ap (λ (z : List ℕ). part z len (length (edgeBytes (prefixed x e)))) (copied .wrote) ∙ part-sets w len (edgeBytes (prefixed x e)) _ refl (omega arith);
+            keyed = omega arith;
+            ends = n;
+            inside = omega arith;
+          }
 
-        pub copy-holds : {l : Lattice} {es : List Edge} → l .len ≡ len → Holds w l es → Holds t l es
-        copy-holds p h = let s = copy-short in let y = h .short in rw (copied .wrote) (holds-beside h len (edgeBytes (prefixed x e)) (omega arith, inl (omega arith)))
+      pub copy-holds : {l : Lattice} {es : List Edge} → l .len ≡ len → Holds w l es → Holds t l es
+      copy-holds p h = let s = copy-short in let y = h .short in rw (copied .wrote) (holds-beside h len (edgeBytes (prefixed x e)) (omega arith, inl (omega arith)))
 
-        pub copy-frame : len ≤ 32768 → drop END t ≡ drop END w
-        copy-frame h = let s = copy-short in ap (drop END) (copied .wrote) ∙ drop-sets w len (edgeBytes (prefixed x e)) END (omega arith)
+      pub copy-frame : len ≤ 32768 → drop END t ≡ drop END w
+      copy-frame h = let s = copy-short in ap (drop END) (copied .wrote) ∙ drop-sets w len (edgeBytes (prefixed x e)) END (omega arith)
 
 -- a shorter text has room too
-pub source-less : {w : List ℕ} {len at k m : ℕ} {e : Edge} → m ≤ k → Source w len at k e → Source w len at m e
-source-less h q = let s = q .short in record { fits = q .fits; there = q .there; inside = q .inside; short = omega arith }
+pub source-less : {w : List ℕ} {len at to k m : ℕ} {e : Edge} → m ≤ k → Source w len at to k e → Source w len at to m e
+source-less h q = let s = q .short in record { fits = q .fits; there = q .there; ends = q .ends; inside = q .inside; short = omega arith }

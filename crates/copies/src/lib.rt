@@ -69,16 +69,15 @@ fn compose(
     behind + sep.len() + (to - txt)
 }
 
-// The edge that stands in the listing from at on is added once more, with sep before its txt.
-pub fn add_copy(w: &mut [u8], l: Lattice, at: usize, sep: &[u8]) -> Lattice
-    requires { ⌜ ((es : List Edge) × Holds (now w) l es) × ((e : Edge) × Source (now w) (l .len) at (length (now sep)) e) ⌝ }
-    ensures { λ r. ⌜ (drop 39424 (now (w .exit)) ≡ drop 39424 (now (w .entry))) × ((es : List Edge) (e : Edge) → Holds (now (w .entry)) l es → Source (now (w .entry)) (l .len) at (length (now (sep .entry))) e → Holds (now (w .exit)) r (add es (prefixed (now (sep .entry)) e))) ⌝ }
+// The edge that stands in the listing from at to the offset next is added once more, with sep before its txt.
+pub fn add_copy(w: &mut [u8], l: Lattice, at: usize, next: usize, sep: &[u8]) -> Lattice
+    requires { ⌜ ((es : List Edge) × Holds (now w) l es) × ((e : Edge) × Source (now w) (l .len) at next (length (now sep)) e) ⌝ }
+    ensures { λ r. ⌜ (drop 39424 (now (w .exit)) ≡ drop 39424 (now (w .entry))) × ((es : List Edge) (e : Edge) → Holds (now (w .entry)) l es → Source (now (w .entry)) (l .len) at next (length (now (sep .entry))) e → Holds (now (w .exit)) r (add es (prefixed (now (sep .entry)) e))) ⌝ }
 {
     let len = l.len;
     let v = edge_head::edge_at(w, at);
     let txt = v.txt;
     let key = v.fields - at - 2 + sep.len();
-    let next = edge_next::next_at(w, at);
     let to = compose(w, len, at, txt.at, txt.len, next, sep);
     lattice_add::add_edge(w, l, key, to)
 }
