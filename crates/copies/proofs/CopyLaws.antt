@@ -1,13 +1,13 @@
 -- A copy inside a list, and the bytes of an edge with a longer txt. No contract cites this file.
--- In order: a turn of a copying loop, by bytes and by words; the copy's bytes in four steps; where the items of an edge stand; the copy's bytes; the copy in the lattice. Assumes nothing.
+-- In order: a turn of a loop that copies bytes; a front part and an end part that meet, a word; the copy's bytes in four steps; where the items of an edge stand; the copy's bytes; the copy in the lattice. Assumes nothing.
 use mathlib.Core.Path.{_≡_, refl, sym, ap, _∙_}
 use mathlib.Core.Logic.{inl, inr}
-use mathlib.Core.List.{List, _++_, append-assoc}
-use Prim.Native.Nat.{ℕ, _+_, _-_, _*_, _/_, _%_, _≤_, _<_}
+use mathlib.Core.List.{List, [], _∷_, _++_, append-assoc}
+use Prim.Native.Nat.{ℕ, suc, _+_, _-_, _≤_, _<_}
 use native.Mathlib.Omega.{arith}
 use lib.ListN.{length, take, drop, getD, set, length-append}
-use lib.Seq.{sets, length-sets, take-at}
-use Rattle.whole.proofs.SetsLaws.{sets-then}
+use lib.Seq.{sets, set-set, length-sets, take-at}
+use Rattle.whole.proofs.SetsLaws.{sets-append, sets-set-before}
 use Rattle.fields.specs.Fields.{leAt, bytesOf}
 use Rattle.fields.specs.Part.{part}
 use Rattle.fields.proofs.FieldsLaws.{length-bytesOf}
@@ -39,31 +39,42 @@ module _ (s : List ℕ) (from to n : ℕ) (apart : from + n ≤ to) (room : to +
   pub inside-ends : {now : List ℕ} (i : ℕ) → n ≤ i → now ≡ sets s to (take i (part s from n)) → now ≡ sets s to (part s from n)
   inside-ends i h e = let l = length-part s from n (omega arith) in copy-ends s (part s from n) to i (omega arith) e
 
--- ---- the bytes behind those that are copied
-module _ (s : List ℕ) (from to k m : ℕ) {t : List ℕ} (fits : from + k ≤ length s) (first : t ≡ sets s to (part s from k)) where
-  pub inside-more : {u : List ℕ} → u ≡ sets t (to + k) (part s (from + k) m) → u ≡ sets s to (part s from (k + m))
-  inside-more then = rw part-add (sets-then s to (to + k) (part s from k) (part s (from + k) m) first (rw (length-part s from k fits)) then)
+-- ---- a row of stores over one that is no longer
+sets-over : (s : List ℕ) (at : ℕ) (a b : List ℕ) → length a ≤ length b → sets (sets s at a) at b ≡ sets s at b
+sets-over s at [] b h = refl
+sets-over s at (x ∷ a) [] h = absurd (omega arith)
+sets-over s at (x ∷ a) (y ∷ b) h =
+    ap (λ (z : List ℕ). sets z (suc at) b) (sets-set-before (set s at x) (suc at) a at y (omega arith) ∙ ap (λ (z : List ℕ). sets z (suc at) a) (set-set s at x y))
+    ∙ sets-over (set s at y) (suc at) a b (omega arith)
 
+-- ---- a front part and an end part that meet: with k bytes copied, m bytes are copied from the j-th on, j no more than k
+module _ (s : List ℕ) (from to k j m : ℕ) {t : List ℕ} (apart : from + (j + m) ≤ to) (room : from + (j + m) ≤ length s) (meets : j ≤ k) (more : k ≤ j + m) (first : t ≡ sets s to (part s from k)) where
   -- what is copied next is as it was
-  pub inside-kept : from + k + m ≤ to → part t (from + k) m ≡ part s (from + k) m
-  inside-kept h = ap (λ (z : List ℕ). part z (from + k) m) first ∙ part-sets-other s to (part s from k) (from + k) m (inr h)
+  inside-kept : part t (from + j) m ≡ part s (from + j) m
+  inside-kept = ap (λ (z : List ℕ). part z (from + j) m) first ∙ part-sets-other s to (part s from k) (from + j) m (inr (omega arith))
 
--- ---- a turn of the loop that copies words
-pub words-turn : (s : List ℕ) (from to n i v : ℕ) {now next : List ℕ} → from + 8 * n ≤ to → to + 8 * n ≤ length s → i < n → length now ≡ length s → ((k : ℕ) → getD now k 0 < 256)
-    → now ≡ sets s to (part s from (8 * i)) → v ≡ leAt now (from + 8 * i) 8 → next ≡ sets now (to + 8 * i) (bytesOf 8 v) → next ≡ sets s to (part s from (8 * (i + 1)))
-words-turn s from to n i v {now} {next} apart room h long bytes e read wrote =
-    let word : bytesOf 8 v ≡ part s (from + 8 * i) 8 =
-    ap (bytesOf 8) read ∙ sym (word-there now bytes (from + 8 * i) 8 (omega arith)) ∙ inside-kept s from to (8 * i) 8 (omega arith) e (omega arith) in
-    let m : 8 * (i + 1) ≡ 8 * i + 8 = omega arith in
-    rw m (inside-more s from to (8 * i) 8 (omega arith) e (wrote ∙ ap (sets now (to + 8 * i)) word))
+  front-twice : t ≡ sets (sets s to (part s from j)) (to + j) (part s (from + j) (k - j))
+  front-twice =
+      let e : k ≡ j + (k - j) = omega arith in
+      let l = length-part s from j (omega arith) in
+      first ∙ ap (λ (z : ℕ). sets s to (part s from z)) e ∙ ap (sets s to) (part-add s from j (k - j)) ∙ sets-append s to (part s from j) (part s (from + j) (k - j)) ∙ rw l
 
--- the words, and then the rest
-pub inside-whole : (s : List ℕ) (from to n : ℕ) {t u : List ℕ} → from + n ≤ to → to + n ≤ length s → t ≡ sets s to (part s from (8 * (n / 8)))
-    → u ≡ sets t (to + 8 * (n / 8)) (part t (from + 8 * (n / 8)) (n % 8)) → u ≡ sets s to (part s from n)
-inside-whole s from to n {t} apart room first then =
-    let kept = inside-kept s from to (8 * (n / 8)) (n % 8) (omega arith) first (omega arith) in
-    let m : 8 * (n / 8) + n % 8 ≡ n = omega arith in
-    inside-more s from to (8 * (n / 8)) (n % 8) (omega arith) first (then ∙ ap (sets t (to + 8 * (n / 8))) kept) ∙ ap (λ (k : ℕ). sets s to (part s from k)) m
+  inside-more : {u : List ℕ} → u ≡ sets t (to + j) (part t (from + j) m) → u ≡ sets s to (part s from (j + m))
+  inside-more then =
+      let l = length-part s from j (omega arith) in
+      let x = length-part s (from + j) (k - j) (omega arith) in
+      let y = length-part s (from + j) m (omega arith) in
+      let o = sets-over (sets s to (part s from j)) (to + j) (part s (from + j) (k - j)) (part s (from + j) m) (omega arith) in
+      let w : sets t (to + j) (part s (from + j) m) ≡ sets (sets s to (part s from j)) (to + j) (part s (from + j) m) = ap (λ (z : List ℕ). sets z (to + j) (part s (from + j) m)) front-twice ∙ o in
+      then ∙ ap (sets t (to + j)) inside-kept ∙ w ∙ rw (part-add s from j m, sets-append s to (part s from j) (part s (from + j) m), l)
+
+-- the last word of n bytes, with k of them copied: it is read and written
+pub inside-word : (s : List ℕ) (from to n j k v : ℕ) {now next : List ℕ} → n ≡ j + 8 → from + n ≤ to → to + n ≤ length s → j ≤ k → k ≤ n → length now ≡ length s → ((i : ℕ) → getD now i 0 < 256)
+    → now ≡ sets s to (part s from k) → v ≡ leAt now (from + j) 8 → next ≡ sets now (to + j) (bytesOf 8 v) → next ≡ sets s to (part s from n)
+inside-word s from to n j k v {now} {next} long apart room meets more same bytes e read wrote =
+    inside-more s from to k j 8 (omega arith) (omega arith) meets (omega arith) e
+    (wrote ∙ ap (sets now (to + j)) (ap (bytesOf 8) read ∙ sym (word-there now bytes (from + j) 8 (omega arith))))
+    ∙ ap (λ (z : ℕ). sets s to (part s from z)) (sym long)
 
 -- ---- the copy's bytes in four steps
 module _ (s x : List ℕ) (len at txt n to head behind : ℕ) (a : at + 2 ≤ txt) (b : txt ≤ to) (d : to ≤ len) (room : len + (to - at) + length x ≤ length s) (is-head : head ≡ txt - 2 - at) (is-behind : behind ≡ len + head + 2) {t u v z : List ℕ} (first : t ≡ sets s len (part s at head)) (second : u ≡ sets t (len + head) (bytesOf 2 (length x + n))) (third : v ≡ sets u behind x) (fourth : z ≡ sets v (behind + length x) (part v txt (to - txt))) where

@@ -37,14 +37,19 @@ fn copy_bytes(w: &mut [u8], from: usize, to: usize, n: usize)
     }
 }
 
-// The same of n bytes: the words that are in them, then the rest.
+// The same of n bytes. From eight on by words alone: the last one ends with the last byte, and may begin in the word before it.
 fn copy_inside(w: &mut [u8], from: usize, to: usize, n: usize)
     requires { ⌜ (from + n ≤ to) × (to + n ≤ length (now w)) ⌝ }
     ensures { λ _. ⌜ now (w .exit) ≡ sets (now (w .entry)) to (part (now (w .entry)) from n) ⌝ }
 {
-    let words = n / 8;
-    copy_words(w, from, to, words);
-    copy_bytes(w, from + 8 * words, to + 8 * words, n % 8);
+    if n < 8 {
+        copy_bytes(w, from, to, n);
+        return;
+    }
+    let last = n - 8;
+    copy_words(w, from, to, (last + 7) / 8);
+    let v = fields::u64_at(w, from + last);
+    fields_write::put_u64(w, to + last, v);
 }
 
 // Composes from len on the bytes from at to the offset to, with sep before the n bytes of the string at txt. The string's length stands before it.
