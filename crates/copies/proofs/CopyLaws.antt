@@ -1,19 +1,19 @@
 -- A copy inside a list, and the bytes of an edge with a longer txt. No contract cites this file.
--- In order: a turn of a copying loop, by bytes and by words; the copy's bytes in four steps; where the items of an edge stand; the copy's bytes; the copy in the lattice. Assumes nothing.
+-- In order: a turn of a loop that copies bytes; a front part and an end part that meet, a word; the copy's bytes in four steps; where the items of an edge stand; the copy's bytes; the copy in the lattice. Assumes nothing.
 use mathlib.Core.Path.{_≡_, refl, sym, ap, _∙_}
 use mathlib.Core.Logic.{inl, inr}
-use mathlib.Core.List.{List, _++_, append-assoc}
-use Prim.Native.Nat.{ℕ, _+_, _-_, _*_, _/_, _%_, _≤_, _<_}
+use mathlib.Core.List.{List, [], _∷_, _++_, append-assoc}
+use Prim.Native.Nat.{ℕ, suc, _+_, _-_, _≤_, _<_}
 use native.Mathlib.Omega.{arith}
 use lib.ListN.{length, take, drop, getD, set, length-append}
-use lib.Seq.{sets, length-sets, take-at}
-use Rattle.whole.proofs.SetsLaws.{sets-then}
+use lib.Seq.{sets, set-set, length-sets, take-at}
+use Rattle.whole.proofs.SetsLaws.{sets-append, sets-set-before}
 use Rattle.fields.specs.Fields.{leAt, bytesOf}
 use Rattle.fields.specs.Part.{part}
 use Rattle.fields.proofs.FieldsLaws.{length-bytesOf}
 use Rattle.fields.proofs.PartLaws.{length-part, part-at, part-sets, part-sets-other, part-add, drop-sets, copy-turn, copy-ends}
 use Rattle.edge.specs.Edge.{Edge, Text, mapOf, str, headBytes, edgeBytes, EdgeFits}
-use Rattle.edge.specs.Layout.{mapAt, txtAt, headEnd, nextAt, stringEnd}
+use Rattle.edge.specs.Layout.{mapAt, txtAt, headEnd, stringEnd}
 use Rattle.edge.specs.declared.EdgeView.{EdgeView}
 use Rattle.edge.specs.View.{viewAt}
 use Rattle.edge.specs.Write.{Put}
@@ -39,31 +39,42 @@ module _ (s : List ℕ) (from to n : ℕ) (apart : from + n ≤ to) (room : to +
   pub inside-ends : {now : List ℕ} (i : ℕ) → n ≤ i → now ≡ sets s to (take i (part s from n)) → now ≡ sets s to (part s from n)
   inside-ends i h e = let l = length-part s from n (omega arith) in copy-ends s (part s from n) to i (omega arith) e
 
--- ---- the bytes behind those that are copied
-module _ (s : List ℕ) (from to k m : ℕ) {t : List ℕ} (fits : from + k ≤ length s) (first : t ≡ sets s to (part s from k)) where
-  pub inside-more : {u : List ℕ} → u ≡ sets t (to + k) (part s (from + k) m) → u ≡ sets s to (part s from (k + m))
-  inside-more then = rw part-add (sets-then s to (to + k) (part s from k) (part s (from + k) m) first (rw (length-part s from k fits)) then)
+-- ---- a row of stores over one that is no longer
+sets-over : (s : List ℕ) (at : ℕ) (a b : List ℕ) → length a ≤ length b → sets (sets s at a) at b ≡ sets s at b
+sets-over s at [] b h = refl
+sets-over s at (x ∷ a) [] h = absurd (omega arith)
+sets-over s at (x ∷ a) (y ∷ b) h =
+    ap (λ (z : List ℕ). sets z (suc at) b) (sets-set-before (set s at x) (suc at) a at y (omega arith) ∙ ap (λ (z : List ℕ). sets z (suc at) a) (set-set s at x y))
+    ∙ sets-over (set s at y) (suc at) a b (omega arith)
 
+-- ---- a front part and an end part that meet: with k bytes copied, m bytes are copied from the j-th on, j no more than k
+module _ (s : List ℕ) (from to k j m : ℕ) {t : List ℕ} (apart : from + (j + m) ≤ to) (room : from + (j + m) ≤ length s) (meets : j ≤ k) (more : k ≤ j + m) (first : t ≡ sets s to (part s from k)) where
   -- what is copied next is as it was
-  pub inside-kept : from + k + m ≤ to → part t (from + k) m ≡ part s (from + k) m
-  inside-kept h = ap (λ (z : List ℕ). part z (from + k) m) first ∙ part-sets-other s to (part s from k) (from + k) m (inr h)
+  inside-kept : part t (from + j) m ≡ part s (from + j) m
+  inside-kept = ap (λ (z : List ℕ). part z (from + j) m) first ∙ part-sets-other s to (part s from k) (from + j) m (inr (omega arith))
 
--- ---- a turn of the loop that copies words
-pub words-turn : (s : List ℕ) (from to n i v : ℕ) {now next : List ℕ} → from + 8 * n ≤ to → to + 8 * n ≤ length s → i < n → length now ≡ length s → ((k : ℕ) → getD now k 0 < 256)
-    → now ≡ sets s to (part s from (8 * i)) → v ≡ leAt now (from + 8 * i) 8 → next ≡ sets now (to + 8 * i) (bytesOf 8 v) → next ≡ sets s to (part s from (8 * (i + 1)))
-words-turn s from to n i v {now} {next} apart room h long bytes e read wrote =
-    let word : bytesOf 8 v ≡ part s (from + 8 * i) 8 =
-    ap (bytesOf 8) read ∙ sym (word-there now bytes (from + 8 * i) 8 (omega arith)) ∙ inside-kept s from to (8 * i) 8 (omega arith) e (omega arith) in
-    let m : 8 * (i + 1) ≡ 8 * i + 8 = omega arith in
-    rw m (inside-more s from to (8 * i) 8 (omega arith) e (wrote ∙ ap (sets now (to + 8 * i)) word))
+  front-twice : t ≡ sets (sets s to (part s from j)) (to + j) (part s (from + j) (k - j))
+  front-twice =
+      let e : k ≡ j + (k - j) = omega arith in
+      let l = length-part s from j (omega arith) in
+      first ∙ ap (λ (z : ℕ). sets s to (part s from z)) e ∙ ap (sets s to) (part-add s from j (k - j)) ∙ sets-append s to (part s from j) (part s (from + j) (k - j)) ∙ rw l
 
--- the words, and then the rest
-pub inside-whole : (s : List ℕ) (from to n : ℕ) {t u : List ℕ} → from + n ≤ to → to + n ≤ length s → t ≡ sets s to (part s from (8 * (n / 8)))
-    → u ≡ sets t (to + 8 * (n / 8)) (part t (from + 8 * (n / 8)) (n % 8)) → u ≡ sets s to (part s from n)
-inside-whole s from to n {t} apart room first then =
-    let kept = inside-kept s from to (8 * (n / 8)) (n % 8) (omega arith) first (omega arith) in
-    let m : 8 * (n / 8) + n % 8 ≡ n = omega arith in
-    inside-more s from to (8 * (n / 8)) (n % 8) (omega arith) first (then ∙ ap (sets t (to + 8 * (n / 8))) kept) ∙ ap (λ (k : ℕ). sets s to (part s from k)) m
+  inside-more : {u : List ℕ} → u ≡ sets t (to + j) (part t (from + j) m) → u ≡ sets s to (part s from (j + m))
+  inside-more then =
+      let l = length-part s from j (omega arith) in
+      let x = length-part s (from + j) (k - j) (omega arith) in
+      let y = length-part s (from + j) m (omega arith) in
+      let o = sets-over (sets s to (part s from j)) (to + j) (part s (from + j) (k - j)) (part s (from + j) m) (omega arith) in
+      let w : sets t (to + j) (part s (from + j) m) ≡ sets (sets s to (part s from j)) (to + j) (part s (from + j) m) = ap (λ (z : List ℕ). sets z (to + j) (part s (from + j) m)) front-twice ∙ o in
+      then ∙ ap (sets t (to + j)) inside-kept ∙ w ∙ rw (part-add s from j m, sets-append s to (part s from j) (part s (from + j) m), l)
+
+-- the last word of n bytes, with k of them copied: it is read and written
+pub inside-word : (s : List ℕ) (from to n j k v : ℕ) {now next : List ℕ} → n ≡ j + 8 → from + n ≤ to → to + n ≤ length s → j ≤ k → k ≤ n → length now ≡ length s → ((i : ℕ) → getD now i 0 < 256)
+    → now ≡ sets s to (part s from k) → v ≡ leAt now (from + j) 8 → next ≡ sets now (to + j) (bytesOf 8 v) → next ≡ sets s to (part s from n)
+inside-word s from to n j k v {now} {next} long apart room meets more same bytes e read wrote =
+    inside-more s from to k j 8 (omega arith) (omega arith) meets (omega arith) e
+    (wrote ∙ ap (sets now (to + j)) (ap (bytesOf 8) read ∙ sym (word-there now bytes (from + j) 8 (omega arith))))
+    ∙ ap (λ (z : ℕ). sets s to (part s from z)) (sym long)
 
 -- ---- the copy's bytes in four steps
 module _ (s x : List ℕ) (len at txt n to head behind : ℕ) (a : at + 2 ≤ txt) (b : txt ≤ to) (d : to ≤ len) (room : len + (to - at) + length x ≤ length s) (is-head : head ≡ txt - 2 - at) (is-behind : behind ≡ len + head + 2) {t u v z : List ℕ} (first : t ≡ sets s len (part s at head)) (second : u ≡ sets t (len + head) (bytesOf 2 (length x + n))) (third : v ≡ sets u behind x) (fourth : z ≡ sets v (behind + length x) (part v txt (to - txt))) where
@@ -130,9 +141,6 @@ module _ (w : List ℕ) (at : ℕ) (e : Edge) (fits : EdgeFits e) (there : part 
   unfolding rest
   stand = begins w at (edgeBytes e) there
 
-  pub next-is : nextAt w at ≡ at + length (edgeBytes e)
-  next-is = edge-there w at rest e fits stand .ends
-
   pub map-is : mapAt w at ≡ mapOf (e .num)
   map-is = edge-there w at rest e fits stand .map
 
@@ -174,19 +182,18 @@ module _ (w : List ℕ) (at : ℕ) (e : Edge) (fits : EdgeFits e) (there : part 
       ap (take n) (number-behind w (txtAt w at) 2 (length (e .txt)) _ txt-row) ∙ take-at (e .txt ++ fieldsBytes e) rest n (length-append (e .txt) (fieldsBytes e) ∙ sym p)
 
   -- ---- the copy's bytes
-  pub copy-bytes : (x : Text) → prefixedBytes w at (txtAt w at + 2) (leAt w (txtAt w at) 2) (nextAt w at) x ≡ edgeBytes (prefixed x e)
+  pub copy-bytes : (x : Text) (to : ℕ) → to ≡ at + length (edgeBytes e) → prefixedBytes w at (txtAt w at + 2) (leAt w (txtAt w at) 2) to x ≡ edgeBytes (prefixed x e)
   unfolding prefixedBytes prefixed
-  copy-bytes x =
+  copy-bytes x to n =
       let t = txt-at-is in
-      let n = next-is in
       let l = length-by-txt e in
       let h : txtAt w at + 2 - 2 - at ≡ 8 + length (e .type) = omega arith in
-      let m : nextAt w at - (txtAt w at + 2) ≡ length (e .txt) + length (fieldsBytes e) = omega arith in
+      let m : to - (txtAt w at + 2) ≡ length (e .txt) + length (fieldsBytes e) = omega arith in
       let e′ : Edge = record { start = e .start; end = e .end; type = e .type; txt = x ++ e .txt; num = e .num } in
-      ap (λ (k : ℕ). part w at k ++ (bytesOf 2 (length x + leAt w (txtAt w at) 2) ++ (x ++ part w (txtAt w at + 2) (nextAt w at - (txtAt w at + 2))))) h
-      ∙ rw (before-there, txt-len-is, tail-there (nextAt w at - (txtAt w at + 2)) m, ← length-append x (e .txt), ← append-assoc x (e .txt) (fieldsBytes e)) (sym (by-txt e′))
+      ap (λ (k : ℕ). part w at k ++ (bytesOf 2 (length x + leAt w (txtAt w at) 2) ++ (x ++ part w (txtAt w at + 2) (to - (txtAt w at + 2))))) h
+      ∙ rw (before-there, txt-len-is, tail-there (to - (txtAt w at + 2)) m, ← length-append x (e .txt), ← append-assoc x (e .txt) (fieldsBytes e)) (sym (by-txt e′))
 
--- ---- the copy in the lattice: v is the head that was read of the edge, next its end
+-- ---- the copy in the lattice: v is the head that was read of the edge
 length-copy : (x : Text) (e : Edge) → length (edgeBytes (prefixed x e)) ≡ length (edgeBytes e) + length x
 unfolding prefixed
 length-copy x e =
@@ -195,9 +202,9 @@ length-copy x e =
     let d = length-append x (e .txt) in
     omega arith
 
-module _ (x : List ℕ) {w : List ℕ} {len at : ℕ} {e : Edge} (q : Source w len at (length x) e) where
+module _ (x : List ℕ) {w : List ℕ} {len at next : ℕ} {e : Edge} (q : Source w len at next (length x) e) where
   pub head-room : len ≤ length w → headEnd w at ≤ length w
-  head-room r = let h = head-end-is w at e (q .fits) (q .there) in let s = length-by-txt e in let i = q .inside in omega arith
+  head-room r = let h = head-end-is w at e (q .fits) (q .there) in let s = length-by-txt e in let n = q .ends in let i = q .inside in omega arith
 
   copy-short : length (edgeBytes (prefixed x e)) ≤ 2048
   copy-short = let l = length-copy x e in let s = q .short in omega arith
@@ -235,47 +242,46 @@ module _ (x : List ℕ) {w : List ℕ} {len at : ℕ} {e : Edge} (q : Source w l
     key-is = fields-start ∙ head-end-is w at e (q .fits) (q .there)
 
     pub key-short : (at + 10 ≤ v .fields) × (v .fields ≤ len) × (v .fields - at - 2 + length x ≤ 2048)
-    key-short = let k = key-is in let l = length-by-txt e in let i = q .inside in let s = q .short in (omega arith, omega arith, omega arith)
+    key-short = let k = key-is in let l = length-by-txt e in let n = q .ends in let i = q .inside in let s = q .short in (omega arith, omega arith, omega arith)
 
-    module _ {next : ℕ} (is-next : next ≡ nextAt w at) where
-      pub compose-asks : len + 2048 ≤ length w → (at + 2 ≤ v .txt .at) × (v .txt .at ≤ next) × (next ≤ len) × (len + (next - at) + length x ≤ length w) × (length x + v .txt .len < 65536)
-      compose-asks r =
-          let a = txt-starts in
-          let b = txt-at-is w at e (q .fits) (q .there) in
-          let n = next-is w at e (q .fits) (q .there) in
-          let l = length-by-txt e in
-          let i = q .inside in
-          let s = q .short in
-          let t = txt-long in
-          let y = txt-len-is w at e (q .fits) (q .there) in
-          (omega arith, omega arith, omega arith, omega arith, omega arith)
+    pub compose-asks : len + 2048 ≤ length w → (at + 2 ≤ v .txt .at) × (v .txt .at ≤ next) × (next ≤ len) × (len + (next - at) + length x ≤ length w) × (length x + v .txt .len < 65536)
+    compose-asks r =
+        let a = txt-starts in
+        let b = txt-at-is w at e (q .fits) (q .there) in
+        let n = q .ends in
+        let l = length-by-txt e in
+        let i = q .inside in
+        let s = q .short in
+        let t = txt-long in
+        let y = txt-len-is w at e (q .fits) (q .there) in
+        (omega arith, omega arith, omega arith, omega arith, omega arith)
 
-      module _ {t : List ℕ} {to : ℕ} (put : Put w t len to (prefixedBytes w at (v .txt .at) (v .txt .len) next x)) where
-        copied : Put w t len to (edgeBytes (prefixed x e))
-        copied = rw (← copy-bytes w at e (q .fits) (q .there) x, ← is-next, ← txt-starts, ← txt-long) put
+    module _ {t : List ℕ} {to : ℕ} (put : Put w t len to (prefixedBytes w at (v .txt .at) (v .txt .len) next x)) where
+      copied : Put w t len to (edgeBytes (prefixed x e))
+      copied = rw (← copy-bytes w at e (q .fits) (q .there) x next (q .ends), ← txt-starts, ← txt-long) put
 
-        pub copy-stands : len + 2048 ≤ length w → Stands t len (v .fields - at - 2 + length x) to (prefixed x e)
-        copy-stands r =
-            let s = copy-short in
-            let n = copied .next in
-            let k = key-is in
-            let m = copy-key in
-            let l = length-sets w len (edgeBytes (prefixed x e)) in
-            let y = ap length (copied .wrote) in
-            record {
-              fits = copy-fits;
-              there = ap (λ (z : List ℕ). part z len (length (edgeBytes (prefixed x e)))) (copied .wrote) ∙ part-sets w len (edgeBytes (prefixed x e)) _ refl (omega arith);
-              keyed = omega arith;
-              ends = n;
-              inside = omega arith;
-            }
+      pub copy-stands : len + 2048 ≤ length w → Stands t len (v .fields - at - 2 + length x) to (prefixed x e)
+      copy-stands r =
+          let s = copy-short in
+          let n = copied .next in
+          let k = key-is in
+          let m = copy-key in
+          let l = length-sets w len (edgeBytes (prefixed x e)) in
+          let y = ap length (copied .wrote) in
+          record {
+            fits = copy-fits;
+            there = ap (λ (z : List ℕ). part z len (length (edgeBytes (prefixed x e)))) (copied .wrote) ∙ part-sets w len (edgeBytes (prefixed x e)) _ refl (omega arith);
+            keyed = omega arith;
+            ends = n;
+            inside = omega arith;
+          }
 
-        pub copy-holds : {l : Lattice} {es : List Edge} → l .len ≡ len → Holds w l es → Holds t l es
-        copy-holds p h = let s = copy-short in let y = h .short in rw (copied .wrote) (holds-beside h len (edgeBytes (prefixed x e)) (omega arith, inl (omega arith)))
+      pub copy-holds : {l : Lattice} {es : List Edge} → l .len ≡ len → Holds w l es → Holds t l es
+      copy-holds p h = let s = copy-short in let y = h .short in rw (copied .wrote) (holds-beside h len (edgeBytes (prefixed x e)) (omega arith, inl (omega arith)))
 
-        pub copy-frame : len ≤ 32768 → drop END t ≡ drop END w
-        copy-frame h = let s = copy-short in ap (drop END) (copied .wrote) ∙ drop-sets w len (edgeBytes (prefixed x e)) END (omega arith)
+      pub copy-frame : len ≤ 32768 → drop END t ≡ drop END w
+      copy-frame h = let s = copy-short in ap (drop END) (copied .wrote) ∙ drop-sets w len (edgeBytes (prefixed x e)) END (omega arith)
 
 -- a shorter text has room too
-pub source-less : {w : List ℕ} {len at k m : ℕ} {e : Edge} → m ≤ k → Source w len at k e → Source w len at m e
-source-less h q = let s = q .short in record { fits = q .fits; there = q .there; inside = q .inside; short = omega arith }
+pub source-less : {w : List ℕ} {len at to k m : ℕ} {e : Edge} → m ≤ k → Source w len at to k e → Source w len at to m e
+source-less h q = let s = q .short in record { fits = q .fits; there = q .there; ends = q .ends; inside = q .inside; short = omega arith }

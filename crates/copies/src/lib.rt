@@ -37,14 +37,19 @@ fn copy_bytes(w: &mut [u8], from: usize, to: usize, n: usize)
     }
 }
 
-// The same of n bytes: the words that are in them, then the rest.
+// The same of n bytes. From eight on by words alone: the last one ends with the last byte, and may begin in the word before it.
 fn copy_inside(w: &mut [u8], from: usize, to: usize, n: usize)
     requires { ⌜ (from + n ≤ to) × (to + n ≤ length (now w)) ⌝ }
     ensures { λ _. ⌜ now (w .exit) ≡ sets (now (w .entry)) to (part (now (w .entry)) from n) ⌝ }
 {
-    let words = n / 8;
-    copy_words(w, from, to, words);
-    copy_bytes(w, from + 8 * words, to + 8 * words, n % 8);
+    if n < 8 {
+        copy_bytes(w, from, to, n);
+        return;
+    }
+    let last = n - 8;
+    copy_words(w, from, to, (last + 7) / 8);
+    let v = fields::u64_at(w, from + last);
+    fields_write::put_u64(w, to + last, v);
 }
 
 // Composes from len on the bytes from at to the offset to, with sep before the n bytes of the string at txt. The string's length stands before it.
@@ -69,16 +74,15 @@ fn compose(
     behind + sep.len() + (to - txt)
 }
 
-// The edge that stands in the listing from at on is added once more, with sep before its txt.
-pub fn add_copy(w: &mut [u8], l: Lattice, at: usize, sep: &[u8]) -> Lattice
-    requires { ⌜ ((es : List Edge) × Holds (now w) l es) × ((e : Edge) × Source (now w) (l .len) at (length (now sep)) e) ⌝ }
-    ensures { λ r. ⌜ (drop 39424 (now (w .exit)) ≡ drop 39424 (now (w .entry))) × ((es : List Edge) (e : Edge) → Holds (now (w .entry)) l es → Source (now (w .entry)) (l .len) at (length (now (sep .entry))) e → Holds (now (w .exit)) r (add es (prefixed (now (sep .entry)) e))) ⌝ }
+// The edge that stands in the listing from at to the offset next is added once more, with sep before its txt.
+pub fn add_copy(w: &mut [u8], l: Lattice, at: usize, next: usize, sep: &[u8]) -> Lattice
+    requires { ⌜ ((es : List Edge) × Holds (now w) l es) × ((e : Edge) × Source (now w) (l .len) at next (length (now sep)) e) ⌝ }
+    ensures { λ r. ⌜ (drop 39424 (now (w .exit)) ≡ drop 39424 (now (w .entry))) × ((es : List Edge) (e : Edge) → Holds (now (w .entry)) l es → Source (now (w .entry)) (l .len) at next (length (now (sep .entry))) e → Holds (now (w .exit)) r (add es (prefixed (now (sep .entry)) e))) ⌝ }
 {
     let len = l.len;
     let v = edge_head::edge_at(w, at);
     let txt = v.txt;
     let key = v.fields - at - 2 + sep.len();
-    let next = edge_next::next_at(w, at);
     let to = compose(w, len, at, txt.at, txt.len, next, sep);
     lattice_add::add_edge(w, l, key, to)
 }

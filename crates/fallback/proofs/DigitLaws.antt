@@ -1,23 +1,23 @@
 -- Laws of the fallback's edges (`specs/Marks.antt`). No contract cites this file.
--- In order: the edge of one character; the walk over the line; marks and the definition; the edges are legal. Assumes nothing.
-use mathlib.Core.Path.{_≡_, refl, sym, ap, _∙_}
+-- In order: the edge of one character; its first byte; the walk over the line; marks and the definition; the edges are legal. Assumes nothing.
+use mathlib.Core.Path.{_≡_, refl, sym, ap, _∙_, subst}
 use mathlib.Core.Logic.{inl}
 use mathlib.Core.Bool.{Bool, true, false, cond, _&&_, _||_, not}
-use mathlib.Core.List.{List, [], _∷_, _++_}
-use Prim.Native.Nat.{ℕ, zero, suc, _+_, _-_, _≤_, _<_}
+use mathlib.Core.List.{List, [], _∷_, _++_, append-assoc}
+use Prim.Native.Nat.{ℕ, suc, _+_, _/_, _≤_, _<_}
 use native.Mathlib.Numerals.{add-one}
 use native.Mathlib.Omega.{arith}
-use lib.ListN.{length, drop, getD}
-use lib.Seq.{drop-cons}
+use lib.ListN.{length, drop, getD, drop-of-length-le}
+use lib.Seq.{drop-cons, getD-drop}
 use mathlib.Core.Option.{Option·some-ne-none}
 use lib.Dec.{leb, ltb}
 use borrow.Author.Tests.{leb-true, lt-ltb, ltb-true, ltb-false, lt-leb, le-leb}
-use Rattle.text.specs.declared.Seq.the-variants.{Char}
-use Rattle.text.specs.Sequence.{seq, encode}
-use Rattle.text.specs.Text.{chars, encodes, wellFormed}
+use Rattle.text.specs.Sequence.{trailByte, encode}
+use Rattle.text.specs.Text.{chars, left, encodes, wellFormed, offsetOf}
 use Rattle.text.proofs.RowLaws.{and-true}
 use Rattle.text.proofs.TextLaws.{encodes-well-formed}
-use Rattle.text.proofs.PlaceLaws.{Reached, reached-start, reached-here, reached-char}
+use Rattle.text.proofs.EncodeLaws.{encode-pos}
+use Rattle.text.proofs.PlaceLaws.{offset-drop, offset-le, offset-next}
 use Rattle.edge.specs.Edge.{Edge}
 use Rattle.edge.specs.Write.{regular}
 use Rattle.edge.specs.Check.{allowed, sound}
@@ -38,7 +38,11 @@ module _ (c p : ℕ) (m : Bool) where
   and-off true = refl
   and-off false = refl
 
-  pub no-digit : ((m || ltb c 48) || ltb 57 c) ≡ true → digitEdge c p m ≡ []
+  above-digits : 57 < c → digitEdge c p m ≡ []
+  unfolding digitEdge
+  above-digits h = rw (lt-leb c 57 h, and-off (leb 48 c))
+
+  no-digit : ((m || ltb c 48) || ltb 57 c) ≡ true → digitEdge c p m ≡ []
   unfolding digitEdge
   no-digit t = go m (ltb c 48) refl (ltb 57 c) refl t
     where
@@ -48,19 +52,16 @@ module _ (c p : ℕ) (m : Bool) where
       go false false f true g t = rw (lt-leb c 57 (ltb-true 57 c g), and-off (leb 48 c))
       go false false f false g t = absurd (let o : _≡_ {A = ℕ} 0 1 = cc in omega arith)
 
-  pub is-digit : ((m || ltb c 48) || ltb 57 c) ≡ false → (48 ≤ c) × (c ≤ 57) × (digitEdge c p m ≡ regular p (p + 1) numType (c ∷ []) ∷ [])
+  is-digit : ((m || ltb c 48) || ltb 57 c) ≡ false → digitEdge c p m ≡ regular p (p + 1) numType (c ∷ []) ∷ []
   unfolding digitEdge
   is-digit t = go m (ltb c 48) refl (ltb 57 c) refl t
     where
       go : (n x : Bool) → ltb c 48 ≡ x → (y : Bool) → ltb 57 c ≡ y → ((n || x) || y) ≡ false
-          → (48 ≤ c) × (c ≤ 57) × (cond (asciiDigit c && not n) (regular p (suc p) numType (c ∷ []) ∷ []) [] ≡ regular p (p + 1) numType (c ∷ []) ∷ [])
+          → cond (asciiDigit c && not n) (regular p (suc p) numType (c ∷ []) ∷ []) [] ≡ regular p (p + 1) numType (c ∷ []) ∷ []
       go true x f y g t = absurd (let o : _≡_ {A = ℕ} 0 1 = cc in omega arith)
       go false true f y g t = absurd (let o : _≡_ {A = ℕ} 0 1 = cc in omega arith)
       go false false f true g t = absurd (let o : _≡_ {A = ℕ} 0 1 = cc in omega arith)
-      go false false f false g t =
-          let a = ltb-false c 48 f in
-          let b = ltb-false 57 c g in
-          (a, b, rw (le-leb 48 c a, le-leb c 57 b, add-one))
+      go false false f false g t = rw (le-leb 48 c (ltb-false c 48 f), le-leb c 57 (ltb-false 57 c g), add-one)
 
   pub add-digit-none : {w : List ℕ} {l : Lattice} → ((m || ltb c 48) || ltb 57 c) ≡ true → (es : List Edge) → Holds w l es → Holds w l (addAll es (digitEdge c p m))
   unfolding addAll
@@ -68,7 +69,7 @@ module _ (c p : ℕ) (m : Bool) where
 
   pub add-digit-one : {w : List ℕ} {l : Lattice} → ((m || ltb c 48) || ltb 57 c) ≡ false → (es : List Edge) → Holds w l (add es (regular p (p + 1) numType (c ∷ []))) → Holds w l (addAll es (digitEdge c p m))
   unfolding addAll
-  add-digit-one t es q = rw (is-digit t .2) q
+  add-digit-one t es q = rw (is-digit t) q
 
 -- ---- edges added in a row; to a lattice that is full
 add-all-append : (es cs ds : List Edge) → addAll es (cs ++ ds) ≡ addAll (addAll es cs) ds
@@ -81,41 +82,72 @@ unfolding addAll AddingIs
 full-add-all es [] f q = q
 full-add-all es (c ∷ cs) f q = full-add-all (add es c) cs f (add-nothing q c (inl f))
 
+-- ---- the first byte of a character, in its place: it is that of an ASCII digit exactly if the character is one
+first-digit : (c : ℕ) (s : List ℕ) (p : ℕ) (m : Bool) → digitEdge (getD (encode c ++ s) 0 0) p m ≡ digitEdge c p m
+unfolding encode
+first-digit c s p m = go (ltb c 0x80) refl (ltb c 0x800) (ltb c 0x10000)
+  where
+    longer : (b : ℕ) → 57 < b → ltb c 0x80 ≡ false → digitEdge b p m ≡ digitEdge c p m
+    longer b h e = let k = ltb-false c 0x80 e in above-digits b p m h ∙ sym (above-digits c p m (omega arith))
+
+    go : (x : Bool) → ltb c 0x80 ≡ x → (y z : Bool)
+        → digitEdge (getD (cond x (c ∷ []) (cond y ((0xC0 + c / 64) ∷ trailByte c ∷ []) (cond z ((0xE0 + c / 64 / 64) ∷ trailByte (c / 64) ∷ trailByte c ∷ []) ((0xF0 + c / 64 / 64 / 64) ∷ trailByte (c / 64 / 64) ∷ trailByte (c / 64) ∷ trailByte c ∷ []))) ++ s) 0 0) p m ≡ digitEdge c p m
+    go true e y z = refl
+    go false e true z = longer (0xC0 + c / 64) (omega arith) e
+    go false e false true = longer (0xE0 + c / 64 / 64) (omega arith) e
+    go false e false false = longer (0xF0 + c / 64 / 64 / 64) (omega arith) e
+
+module _ (line : List ℕ) (p : ℕ) (h : p < length (chars line)) where
+  pub place-inside : offsetOf line p < length line
+  place-inside = omega (arith, offset-next line p h, encode-pos (getD (chars line) p 0), offset-le line (p + 1))
+
+  from-place : drop p (chars line) ≡ getD (chars line) p 0 ∷ drop (p + 1) (chars line)
+  from-place = rw (add-one p) (drop-cons (chars line) p 0 h)
+
+  first-byte : (m : Bool) → digitEdge (getD line (offsetOf line p) 0) p m ≡ digitEdge (getD (chars line) p 0) p m
+  unfolding encodes
+  first-byte m =
+      let z : offsetOf line p ≡ offsetOf line p + 0 = omega arith in
+      let d : drop (offsetOf line p) line ≡ encode (getD (chars line) p 0) ++ (encodes (drop (p + 1) (chars line)) ++ left line) =
+      offset-drop line p ∙ ap (λ (cs : List ℕ). encodes cs ++ left line) from-place ∙ append-assoc (encode (getD (chars line) p 0)) _ (left line) in
+      let b : getD line (offsetOf line p) 0 ≡ getD (encode (getD (chars line) p 0) ++ (encodes (drop (p + 1) (chars line)) ++ left line)) 0 0 =
+      ap (λ (i : ℕ). getD line i 0) z ∙ sym (getD-drop (offsetOf line p) line 0 0) ∙ ap (λ (s : List ℕ). getD s 0 0) d in
+      ap (λ (x : ℕ). digitEdge x p m) b ∙ first-digit (getD (chars line) p 0) _ p m
+
 -- ---- the walk: with the characters from place p on, the lattice is what it shall be
-pub record Walking (w₀ : List ℕ) (l₀ : Lattice) (line : List ℕ) (marks : List Bool) (w : List ℕ) (l : Lattice) (p at : ℕ) : Type 0 where
-  pub reached : Reached line p at
+pub record Walking (w₀ : List ℕ) (l₀ : Lattice) (line : List ℕ) (marks : List Bool) (w : List ℕ) (l : Lattice) (p : ℕ) : Type 0 where
   pub long : length w ≡ length w₀
   pub frame : drop 39424 w ≡ drop 39424 w₀
   pub holds : (es : List Edge) → Holds w₀ l₀ es
       → (ds : List Edge) × Holds w l ds × (addAll ds (unmarked marks p (drop p (chars line))) ≡ addAll es (unmarked marks 0 (chars line)))
 
-pub walk-start : (w : List ℕ) (l : Lattice) (line : List ℕ) (marks : List Bool) → Walking w l line marks w l 0 0
-walk-start w l line marks = record { reached = reached-start line; long = refl; frame = refl; holds = λ es q. (es, q, refl) }
+pub walk-start : (w : List ℕ) (l : Lattice) (line : List ℕ) (marks : List Bool) → Walking w l line marks w l 0
+walk-start w l line marks = record { long = refl; frame = refl; holds = λ es q. (es, q, refl) }
 
-module _ {w₀ : List ℕ} {l₀ : Lattice} {line : List ℕ} {marks : List Bool} {w : List ℕ} {l : Lattice} {p at : ℕ} (a : Walking w₀ l₀ line marks w l p at) where
-  pub walk-next : (c k : ℕ) → seq (drop at line) ≡ Char c k → {v : List ℕ} {m : Lattice} → length v ≡ length w → drop 39424 v ≡ drop 39424 w
-      → ((es : List Edge) → Holds w l es → Holds v m (addAll es (digitEdge c p (getD marks p false)))) → Walking w₀ l₀ line marks v m (p + 1) (at + k)
+module _ {w₀ : List ℕ} {l₀ : Lattice} {line : List ℕ} {marks : List Bool} {w : List ℕ} {l : Lattice} {p : ℕ} (a : Walking w₀ l₀ line marks w l p) where
+  pub walk-next : p < length (chars line) → {at : ℕ} → at ≡ offsetOf line p → {v : List ℕ} {m : Lattice} → length v ≡ length w → drop 39424 v ≡ drop 39424 w
+      → ((es : List Edge) → Holds w l es → Holds v m (addAll es (digitEdge (getD line at 0) p (getD marks p false)))) → Walking w₀ l₀ line marks v m (p + 1)
   unfolding unmarked
-  walk-next c k e y f g =
-      let h = reached-here line p at (a .reached) c k e in
-      let d : drop p (chars line) ≡ c ∷ drop (p + 1) (chars line) = rw (add-one p) (drop-cons (chars line) p 0 (h .0) ∙ rw (h .1)) in
+  walk-next h {at} here {v} {m} y f g =
+      let k = getD marks p false in
+      let cs = digitEdge (getD (chars line) p 0) p k in
+      let e : digitEdge (getD line at 0) p k ≡ cs = ap (λ (i : ℕ). digitEdge (getD line i 0) p k) here ∙ first-byte line p h k in
       record {
-        reached = reached-char line p at (a .reached) c k e;
         long = y ∙ a .long;
         frame = f ∙ a .frame;
         holds = λ es q. let x = a .holds es q in (
-          addAll (x .0) (digitEdge c p (getD marks p false)),
-          g (x .0) (x .1),
-          sym (add-all-append (x .0) (digitEdge c p (getD marks p false)) (unmarked marks (p + 1) (drop (p + 1) (chars line))))
-              ∙ rw (add-one p) (sym (ap (λ (cs : List ℕ). addAll (x .0) (unmarked marks p cs)) (rw (add-one p) at d)) ∙ x .2),
+          addAll (x .0) cs,
+          subst (λ (ds : List Edge). Holds v m (addAll (x .0) ds)) e (g (x .0) (x .1)),
+          sym (add-all-append (x .0) cs (unmarked marks (p + 1) (drop (p + 1) (chars line))))
+              ∙ rw (add-one p) (sym (ap (λ (ds : List ℕ). addAll (x .0) (unmarked marks p ds)) (rw (add-one p) at (from-place line p h))) ∙ x .2),
         );
       }
 
-  pub walk-end : chars (drop at line) ≡ [] → (es : List Edge) → Holds w₀ l₀ es → Holds w l (addAll es (unmarked marks 0 (chars line)))
+  pub walk-end : length (chars line) ≤ p → (es : List Edge) → Holds w₀ l₀ es → Holds w l (addAll es (unmarked marks 0 (chars line)))
   unfolding addAll unmarked
-  walk-end e es q =
+  walk-end h es q =
       let x = a .holds es q in
-      let d : x .0 ≡ addAll es (unmarked marks 0 (chars line)) = (rw (a .reached .behind ∙ e) at (x .2)) in
+      let d : x .0 ≡ addAll es (unmarked marks 0 (chars line)) = (rw (drop-of-length-le (chars line) {i = p} h) at (x .2)) in
       rw d at (x .1)
 
 -- ---- with the marks of the lattice's edges these are the definition's

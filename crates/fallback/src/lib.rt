@@ -10,13 +10,12 @@ ghost use Rattle.edge.specs.Layout.{edgeAt};
 ghost use Rattle.lattice.specs.Lattice.{addAll};
 ghost use Rattle.lattice.specs.Kept.{Holds};
 ghost use Rattle.paths.specs.Reading.{Spanned};
+ghost use Rattle.stages.specs.Ready.{Offsets};
 ghost use Rattle.stages.specs.CallEdge.{Legals};
 ghost use Rattle.numbers.specs.Fallback.{covered, fallback};
 ghost use Rattle.fallback.specs.Marks.{onePlace, digitEdge, unmarked};
 use lattice::Lattice;
-use text::Offset;
 use text::Place;
-use text::Seq;
 
 // Sets the mark of an edge's place where the edge is numeric and one place long.
 fn mark(s: &[u8], at: usize, marks: &mut [bool; 257])
@@ -45,53 +44,49 @@ fn mark_covered(w: &[u8], l: Lattice, marks: &mut [bool; 257])
     }
 }
 
-// The edge of a character at a place, if it is a digit whose place has no mark.
-fn add_digit(w: &mut [u8], l: Lattice, c: u32, place: usize, marked: bool) -> Lattice
+// The edge of a character at a place, by its first byte, if it is a digit whose place has no mark.
+fn add_digit(w: &mut [u8], l: Lattice, b: u8, place: usize, marked: bool) -> Lattice
     requires { ⌜ ((es : List Edge) × Holds (now w) l es) × (place < 256) ⌝ }
-    ensures { λ r. ⌜ (drop 39424 (now (w .exit)) ≡ drop 39424 (now (w .entry))) × ((es : List Edge) → Holds (now (w .entry)) l es → Holds (now (w .exit)) r (addAll es (digitEdge c place marked))) ⌝ }
+    ensures { λ r. ⌜ (drop 39424 (now (w .exit)) ≡ drop 39424 (now (w .entry))) × ((es : List Edge) → Holds (now (w .entry)) l es → Holds (now (w .exit)) r (addAll es (digitEdge b place marked))) ⌝ }
 {
-    if marked | (c < 48) | (57 < c) {
+    if marked | (b < 48) | (57 < b) {
         return l;
     }
-    let txt = [c as u8];
+    let txt = [b];
     lattice_write::add_regular(w, l, Place(place), Place(place + 1), b"num", &txt)
 }
 
-// The edges of all digits whose places have no mark. One walk over the line.
-fn add_unmarked(w: &mut [u8], l: Lattice, line: &[u8], marks: &[bool; 257]) -> Lattice
-    requires { ⌜ ((es : List Edge) × Holds (now w) l es) × (length (chars (now line)) ≤ 256) ⌝ }
+// The edges of all digits whose places have no mark. One walk over the n characters of the line: ASCII digits, and no others, begin with the byte of one.
+fn add_unmarked(
+    w: &mut [u8],
+    l: Lattice,
+    line: &[u8],
+    offs: &[usize; 257],
+    n: usize,
+    marks: &[bool; 257],
+) -> Lattice
+    requires { ⌜ ((es : List Edge) × Holds (now w) l es) × Offsets (now line) (now offs) × (length (chars (now line)) ≡ n) × (n ≤ 256) ⌝ }
     ensures { λ r. ⌜ (drop 39424 (now (w .exit)) ≡ drop 39424 (now (w .entry))) × ((es : List Edge) → Holds (now (w .entry)) l es → Holds (now (w .exit)) r (addAll es (unmarked (now (marks .entry)) 0 (chars (now (line .entry)))))) ⌝ }
 {
     let mut grown = l;
     let mut place = 0;
-    let mut at = 0;
-    while at < line.len() {
-        match text::seq_at(line, Offset(at)) {
-            Seq::Char(c, len) => {
-                grown = add_digit(w, grown, c, place, marks[place]);
-                place += 1;
-                at += len;
-            }
-            Seq::Ill => {
-                return grown;
-            }
-            Seq::End => {
-                return grown;
-            }
-        }
+    while place < n {
+        let at = offs[place];
+        grown = add_digit(w, grown, line[at], place, marks[place]);
+        place += 1;
     }
     grown
 }
 
-// The fallback's edges are added. The marks are those of the lattice before the first of them.
-pub fn fallback(w: &mut [u8], l: Lattice, line: &[u8]) -> Lattice
-    requires { ⌜ (length (chars (now line)) ≤ 256) × ((es : List Edge) × Holds (now w) l es × Legals (length (chars (now line))) es) ⌝ }
-    ensures { λ r. ⌜ (drop 39424 (now (w .exit)) ≡ drop 39424 (now (w .entry))) × ((es : List Edge) → Holds (now (w .entry)) l es → Legals (length (chars (now (line .entry)))) es → Holds (now (w .exit)) r (addAll es (fallback es 0 (chars (now (line .entry)))))) ⌝ }
+// The fallback's edges are added, for a line of n characters. The marks are those of the lattice before the first of them.
+pub fn fallback(w: &mut [u8], l: Lattice, line: &[u8], offs: &[usize; 257], n: usize) -> Lattice
+    requires { ⌜ Offsets (now line) (now offs) × (length (chars (now line)) ≡ n) × (n ≤ 256) × ((es : List Edge) × Holds (now w) l es × Legals n es) ⌝ }
+    ensures { λ r. ⌜ (drop 39424 (now (w .exit)) ≡ drop 39424 (now (w .entry))) × ((es : List Edge) → Holds (now (w .entry)) l es → Legals n es → Holds (now (w .exit)) r (addAll es (fallback es 0 (chars (now (line .entry)))))) ⌝ }
 {
     if l.full {
         return l;
     }
     let mut marks = [false; 257];
     mark_covered(w, l, &mut marks);
-    add_unmarked(w, l, line, &marks)
+    add_unmarked(w, l, line, offs, n, &marks)
 }

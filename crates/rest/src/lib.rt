@@ -32,5 +32,5 @@ pub fn rest_of_call(
     let made = fractions::fractions(w, l, line, offs, table, h, n);
     let signed = signs::add_signs(w, made, line, offs, table, h, k);
     let apart = separators::separate(w, signed);
-    fallback::fallback(w, apart, line)
+    fallback::fallback(w, apart, line, offs, n)
 }

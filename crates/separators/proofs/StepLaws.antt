@@ -8,6 +8,7 @@ use Prim.Native.Nat.{ℕ, suc, _+_, _-_, _≤_, _<_}
 use native.Mathlib.Numerals.{add-one}
 use native.Mathlib.Omega.{arith}
 use lib.ListN.{length, drop, getD, length-append}
+use lib.Seq.{take-all}
 use lib.Dec.{eqb}
 use Rattle.text.proofs.RowLaws.{and-true}
 use Rattle.fields.specs.Fields.{bytesOf}
@@ -20,12 +21,12 @@ use Rattle.paths.specs.Reading.{Spanned}
 use Rattle.lattice.specs.declared.Lattice.{Lattice}
 use Rattle.lattice.specs.Lattice.{add, turnOffAt, turnOff, overfull}
 use Rattle.lattice.specs.Kept.{noEdge, offset, Holds}
-use Rattle.lattice.proofs.KeptLaws.{fieldsBytes, edge-stands, offset-in}
+use Rattle.lattice.proofs.KeptLaws.{fieldsBytes, kept-size, edge-stands, offset-in}
 use Rattle.lattice.proofs.HoldsLaws.{kept-of, over-of, over-add}
 use Rattle.copies.specs.Copy.{prefixed, Source}
 use Rattle.copies.proofs.CopyLaws.{length-by-txt, map-is}
 use Rattle.stages.specs.CallEdge.{Short, CallEdge, CallEdges}
-use Rattle.stages.proofs.ReadLaws.{edge-of-one, every-at}
+use Rattle.stages.proofs.ReadLaws.{offset-next, edge-of-one, every-at}
 use Rattle.stages.proofs.OverLaws.{holds-full, over-add-all, over-turn-off, over-map-inactive}
 use Rattle.stages.proofs.SoundLaws.{one-spanned}
 use Rattle.numbers.specs.Fractions.{isNumeric}
@@ -42,7 +43,7 @@ fraction-bit (some n) = rw (map-bits n .fraction) (go (n .fraction))
     go none = refl
     go (some p) = refl
 
-module _ {w : List ℕ} {len at : ℕ} {e : Edge} (q : Source w len at 2 e) {m : ℕ} {b : Bool} (map : m ≡ mapAt w at) (bit-2 : b ≡ stands 2 m) where
+module _ {w : List ℕ} {len at to : ℕ} {e : Edge} (q : Source w len at to 2 e) {m : ℕ} {b : Bool} (map : m ≡ mapAt w at) (bit-2 : b ≡ stands 2 m) where
   fraction-read : b ≡ hasFraction (e .num)
   fraction-read = bit-2 ∙ ap (stands 2) (map ∙ map-is w at e (q .fits) (q .there)) ∙ fraction-bit (e .num)
 
@@ -98,7 +99,11 @@ edge-short e c t = go (e .num) refl t
         let o : length (fieldsBytes e) ≡ length (numericBytes x) = ap (λ (y : Option Numeric). length (opt numericBytes y)) p in
         omega arith
 
--- ---- the i-th edge of the lattice
+-- ---- the i-th edge of the lattice; behind the last one the listing ends
+pub last-ends : {w : List ℕ} {l : Lattice} {es : List Edge} → Holds w l es → l .full ≡ false → (i : ℕ) → l .count ≤ i → l .len ≡ offset es i
+unfolding offset
+last-ends {es = es} q f i h = let k = kept-of q f in let c = k .count in rw (take-all i es (omega arith)) (kept-size k)
+
 module _ {w : List ℕ} {l : Lattice} {es : List Edge} (q : Holds w l es) (i : ℕ) (in-list : i < length es) where
   pub counted : l .full ≡ false → i < l .count
   counted f = let k = kept-of q f .count in omega arith
@@ -122,15 +127,17 @@ module _ {w : List ℕ} {l : Lattice} {es : List Edge} (q : Holds w l es) (i : �
       unfolding setApart
       is-apart t = rw (sym apart-told ∙ t)
 
-      pub apart-source : r ≡ true → Source w (l .len) at 2 (getD es i noEdge)
+      pub apart-source : r ≡ true → {to : ℕ} → to ≡ offset es (i + 1) → Source w (l .len) at to 2 (getD es i noEdge)
       unfolding apartBy
-      apart-source t =
+      apart-source t there =
           let k = kept-of q f in
           let u = and-true (isNumeric (getD es i noEdge)) _ (sym apart-told ∙ t) .0 in
+          let e = there ∙ offset-next es i in-list in
           rw here (record {
             fits = call .legal .fits;
             there = edge-stands k i (counted f);
-            inside = offset-in k i (counted f);
+            ends = e;
+            inside = omega (arith, e, offset-in k i (counted f));
             short = edge-short (getD es i noEdge) call u;
           })
 

@@ -3,13 +3,13 @@
 ghost use mathlib.Core.Path.{_≡_};
 ghost use mathlib.Core.Bool.{false, true, cond};
 ghost use mathlib.Core.List.{List};
-ghost use Prim.Native.Nat.{ℕ, _≤_, _<_};
+ghost use Prim.Native.Nat.{ℕ, _+_, _≤_, _<_};
 ghost use lib.ListN.{length, drop, getD, set, replicate};
 ghost use Rattle.digits.specs.TextEnds.{endsWithDigit};
 ghost use Rattle.edge.specs.Edge.{Edge};
 ghost use Rattle.edge.specs.Layout.{edgeAt};
 ghost use Rattle.lattice.specs.Lattice.{add};
-ghost use Rattle.lattice.specs.Kept.{Holds, noEdge};
+ghost use Rattle.lattice.specs.Kept.{Holds, noEdge, offset};
 ghost use Rattle.paths.specs.Reading.{Spanned};
 ghost use Rattle.copies.specs.Copy.{Source};
 ghost use Rattle.stages.specs.CallEdge.{Legals, CallEdge, CallEdges};
@@ -68,15 +68,26 @@ fn is_apart(s: &[u8], at: usize, marks: &[bool; 257]) -> bool
 }
 
 // The copy of an edge that stands in the listing is added, with its separator: a space if it has a fraction, else "·".
-fn add_separated(w: &mut [u8], l: Lattice, at: usize) -> Lattice
-    requires { ⌜ ((es : List Edge) × Holds (now w) l es) × ((e : Edge) × Source (now w) (l .len) at 2 e) ⌝ }
-    ensures { λ r. ⌜ (drop 39424 (now (w .exit)) ≡ drop 39424 (now (w .entry))) × ((es : List Edge) (e : Edge) → Holds (now (w .entry)) l es → Source (now (w .entry)) (l .len) at 2 e → Holds (now (w .exit)) r (add es (copyOf e))) ⌝ }
+fn add_separated(w: &mut [u8], l: Lattice, at: usize, next: usize) -> Lattice
+    requires { ⌜ ((es : List Edge) × Holds (now w) l es) × ((e : Edge) × Source (now w) (l .len) at next 2 e) ⌝ }
+    ensures { λ r. ⌜ (drop 39424 (now (w .exit)) ≡ drop 39424 (now (w .entry))) × ((es : List Edge) (e : Edge) → Holds (now (w .entry)) l es → Source (now (w .entry)) (l .len) at next 2 e → Holds (now (w .exit)) r (add es (copyOf e))) ⌝ }
 {
     let map = fields::u16_at(w, at);
     if edge::bit(map, 4) {
-        return copies::add_copy(w, l, at, b" ");
+        return copies::add_copy(w, l, at, next, b" ");
     }
-    copies::add_copy(w, l, at, b"\xC2\xB7")
+    copies::add_copy(w, l, at, next, b"\xC2\xB7")
+}
+
+// Where the i-th edge ends: where the next one begins, or the listing ends.
+fn end_of(w: &[u8], l: Lattice, i: usize) -> usize
+    requires { ⌜ ((es : List Edge) × Holds (now w) l es) × (l .full ≡ false) × (i < l .count) ⌝ }
+    ensures { λ r. ⌜ ((es : List Edge) → Holds (now (w .entry)) l es → r ≡ offset es (i + 1)) ⌝ }
+{
+    if i + 1 < l.count {
+        return lattice::offset_at(w, l, i + 1);
+    }
+    l.len
 }
 
 // The i-th edge is set apart, if the marks say so. The copy is made before its original turns inactive: it is active as that was.
@@ -91,7 +102,8 @@ fn set_apart(w: &mut [u8], l: Lattice, i: usize, marks: &[bool; 257]) -> Lattice
     if !is_apart(w, at, marks) {
         return l;
     }
-    let added = add_separated(w, l, at);
+    let next = end_of(w, l, i);
+    let added = add_separated(w, l, at, next);
     if added.full {
         return added;
     }

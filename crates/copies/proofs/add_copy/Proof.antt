@@ -17,7 +17,7 @@ room : (s : tie.Start) → s .args .l .len + 2048 ≤ length (s .args .w .now)
 room s = let r = s .pre .0 .1 .room in let h = s .pre .0 .1 .short in omega arith
 
 abbrev head : tie.After-compose → tie.After-edge-at
-head c = c .before .before .before .before .before .before
+head c = c .before .before .before .before
 
 edge-at-requires : tie.Need-edge-at-requires
 edge-at-requires c κs = let s = c .before .before .before in head-room (s .args .sep .now) (s .pre .1 .1) (omega (arith, room s))
@@ -31,11 +31,8 @@ sub-key-2 c = let k = c .before .before in let s = start k in let b = key-short 
 add-key : tie.Need-add-key
 add-key c = let k = c .before .before in let s = start k in let b = key-short (s .args .sep .now) (s .pre .1 .1) (k .edge-at .ensures) in omega (arith, b .0, b .1, b .2)
 
-next-at-requires : tie.Need-next-at-requires
-next-at-requires c κs = search needs
-
 compose-requires : tie.Need-compose-requires
-compose-requires c κs = let k = c .before .before .before .before .before in let s = start k in compose-asks (s .args .sep .now) (s .pre .1 .1) (k .edge-at .ensures) (c .before .next-at .ensures) (room s)
+compose-requires c κs = let k = c .before .before .before in let s = start k in compose-asks (s .args .sep .now) (s .pre .1 .1) (k .edge-at .ensures) (room s)
 
 add-edge-requires : tie.Need-add-edge-requires
 add-edge-requires c κs =
@@ -44,8 +41,7 @@ add-edge-requires c κs =
     let s = start k in
     let put = d .compose .ensures .1 in
     let q = s .pre .1 .1 in
-    let n = d .before .before .next-at .ensures in
-    ((s .pre .0 .0, copy-holds (s .args .sep .now) q (k .edge-at .ensures) n put refl (s .pre .0 .1)), (_, copy-stands (s .args .sep .now) q (k .edge-at .ensures) n put (room s)))
+    ((s .pre .0 .0, copy-holds (s .args .sep .now) q (k .edge-at .ensures) put refl (s .pre .0 .1)), (_, copy-stands (s .args .sep .now) q (k .edge-at .ensures) put (room s)))
 
 same-length : tie.Need-same-length
 same-length c = search needs
@@ -56,10 +52,9 @@ returns c =
     let d = a .before .before .before .before in
     let k = head d in
     let s = start k in
-    let put = d .compose .ensures .1 in
-    let n = d .before .before .next-at .ensures in (
-      a .add-edge .ensures .0 ∙ copy-frame (s .args .sep .now) (s .pre .1 .1) (k .edge-at .ensures) n put (s .pre .0 .1 .short),
-      λ es e h q. a .add-edge .ensures .1 es (prefixed (s .args .sep .now) e) (copy-holds (s .args .sep .now) q (k .edge-at .ensures) n put refl h) (copy-stands (s .args .sep .now) q (k .edge-at .ensures) n put (room s)),
+    let put = d .compose .ensures .1 in (
+      a .add-edge .ensures .0 ∙ copy-frame (s .args .sep .now) (s .pre .1 .1) (k .edge-at .ensures) put (s .pre .0 .1 .short),
+      λ es e h q. a .add-edge .ensures .1 es (prefixed (s .args .sep .now) e) (copy-holds (s .args .sep .now) q (k .edge-at .ensures) put refl h) (copy-stands (s .args .sep .now) q (k .edge-at .ensures) put (room s)),
     )
 
 pub add-copy-spec : {M : Type 1} → statement M
@@ -70,7 +65,6 @@ add-copy-spec =
     sub-key
     sub-key-2
     add-key
-    next-at-requires
     compose-requires
     add-edge-requires
     same-length

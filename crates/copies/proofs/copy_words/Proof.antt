@@ -7,7 +7,7 @@ use native.Mathlib.Omega.{arith}
 use lib.ListN.{length, getD}
 use lib.Seq.{sets}
 use Rattle.fields.specs.Part.{part}
-use Rattle.copies.proofs.CopyLaws.{words-turn}
+use Rattle.copies.proofs.CopyLaws.{inside-word}
 use Rattle.copies.proofs.copy_words.Statement.{statement}
 use Rattle.copies.proofs.copy_words.Tie as tie
 
@@ -54,7 +54,7 @@ loop-again c =
     let inv = l .loop .inv in (
       search needs,
       put .put-u64 .kept .0 ∙ inv .1,
-      words-turn _ _ _ _ _ _ (p .0) (p .1) (got .before .before .loop-test .taken) (inv .1) (inv .3) (inv .2) (got .u64-at .ensures) (put .put-u64 .ensures),
+      inside-word _ _ _ _ _ _ _ (omega arith) (omega arith) (omega arith) (omega arith) (omega arith) (inv .1) (inv .3) (inv .2) (got .u64-at .ensures) (put .put-u64 .ensures),
       λ k. c .slice-known2 .given k .fits,
     )
 

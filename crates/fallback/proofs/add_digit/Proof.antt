@@ -1,19 +1,15 @@
 -- `fallback::add_digit` meets its contract. Assumes nothing.
 use borrow.Author.Needs.{needs}
 use mathlib.Core.Path.{refl}
-use native.Mathlib.Omega.{arith}
-use Rattle.fallback.proofs.DigitLaws.{is-digit, add-digit-none, add-digit-one}
+use Rattle.fallback.proofs.DigitLaws.{add-digit-none, add-digit-one}
 use Rattle.fallback.proofs.add_digit.Statement.{statement}
 use Rattle.fallback.proofs.add_digit.Tie as tie
 
 returns : tie.Need-returns
 returns c = (refl, add-digit-none _ _ _ (c .if1 .taken))
 
-cast-t12 : tie.Need-cast-t12
-cast-t12 c = let s = c .before .before in omega (arith, is-digit (s .args .c) (s .args .place) (s .args .marked) (c .if1 .left) .1)
-
-add-t16 : tie.Need-add-t16
-add-t16 c = search needs
+add-t15 : tie.Need-add-t15
+add-t15 c = search needs
 
 slice-aggregate-add-regular : tie.Need-slice-aggregate-add-regular
 slice-aggregate-add-regular c = search needs
@@ -37,8 +33,7 @@ add-digit-spec =
     tie.close
     (tie.spec
     returns
-    cast-t12
-    add-t16
+    add-t15
     slice-aggregate-add-regular
     slice-aggregate-add-regular-2
     add-regular-requires

@@ -2,9 +2,8 @@
 use borrow.Author.Needs.{needs}
 use mathlib.Core.Path.{_≡_, sym, ap, subst}
 use mathlib.Core.List.{List, map}
-use Prim.Native.Nat.{ℕ, _≤_}
+use Prim.Native.Nat.{ℕ}
 use native.Mathlib.Omega.{arith}
-use lib.ListN.{length}
 use Rattle.text.specs.Text.{chars}
 use Rattle.dicts.specs.Answers.{tableOf}
 use Rattle.dicts.specs.Table.{Table}
@@ -13,14 +12,13 @@ use Rattle.passes.specs.NumEdge.{NumEdge}
 use Rattle.pass_list.specs.Edges.{edgeOf}
 use Rattle.pass_list.specs.Stored.{itemsAt}
 use Rattle.lattice.specs.Kept.{Holds}
-use Rattle.stages.specs.CallEdge.{CallEdges, Legals}
+use Rattle.stages.specs.CallEdge.{CallEdges}
 use Rattle.items.specs.Sound.{Sounds}
 use Rattle.five.specs.Five.{behind}
 use Rattle.fractions.proofs.NewLaws.{fractions-call}
 use Rattle.signs.proofs.CallLaws.{add-signs-call}
 use Rattle.separators.proofs.LegalLaws.{separate-legals}
 use Rattle.numbers.specs.Fractions.{fractions}
-use Rattle.numbers.specs.Separators.{separate}
 use Rattle.rest.specs.Rest.{withSigns, restOf}
 use Rattle.rest.proofs.RestLaws.{signs-moved}
 use Rattle.rest.proofs.rest_of_call.Statement.{statement}
@@ -54,9 +52,6 @@ signed a es q d = signs-moved (T a) (W a) (start (made a) .args .table .now) (ma
 signed-call : (a : tie.After-add-signs) (es : List Edge) → CallEdges (start (made a) .args .n) es → CallEdges (start (made a) .args .n) (withSigns (T a) (W a) (Fifth a) es)
 signed-call a es d = let p = start (made a) .pre in add-signs-call (T a) (W a) (Fifth a) (fractions-call (T a) (W a) es (p .0 .few) d) (p .4)
 
-legals : (a : tie.After-add-signs) (es : List Edge) → CallEdges (start (made a) .args .n) es → Legals (length (W a)) (separate (withSigns (T a) (W a) (Fifth a) es))
-legals a es d = subst (λ (n : ℕ). Legals n (separate (withSigns (T a) (W a) (Fifth a) es))) (sym (start (made a) .pre .0 .count)) (separate-legals _ (signed-call a es d))
-
 fractions-requires : tie.Need-fractions-requires
 fractions-requires c κs = search needs
 
@@ -74,7 +69,8 @@ fallback-requires : tie.Need-fallback-requires
 fallback-requires c κs = let b = c .before .before .before in
     let a = b .before .before .before .before in
     let p = start (made a) .pre in
-    (omega (arith, p .0 .few, p .0 .count), (_, b .separate .ensures .1 _ _ (p .0 .few) (signed a (p .1 .0) (p .1 .1) (p .1 .2)) (signed-call a (p .1 .0) (p .1 .2)), legals a (p .1 .0) (p .1 .2)))
+    let d = signed-call a (p .1 .0) (p .1 .2) in
+    (p .2, p .0 .count, p .0 .few, (_, b .separate .ensures .1 _ _ (p .0 .few) (signed a (p .1 .0) (p .1 .1) (p .1 .2)) d, separate-legals _ d))
 
 same-length : tie.Need-same-length
 same-length c = search needs
@@ -84,7 +80,7 @@ unfolding restOf
 returns c = let e = c .before .before in
     let b = e .before .before .before .before in
     let a = b .before .before .before .before in
-    λ es q d. e .fallback .ensures .1 _ (b .separate .ensures .1 _ _ (start (made a) .pre .0 .few) (signed a es q d) (signed-call a es d)) (legals a es d)
+    λ es q d. let s = signed-call a es d in e .fallback .ensures .1 _ (b .separate .ensures .1 _ _ (start (made a) .pre .0 .few) (signed a es q d) s) (separate-legals _ s)
 
 pub rest-of-call-spec : {M : Type 1} → statement M
 rest-of-call-spec =

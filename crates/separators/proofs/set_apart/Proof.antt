@@ -23,26 +23,30 @@ left c = c .before .before .before .before
 abbrev start : tie.After-is-apart → tie.Start
 start c = left c .before .before
 
+abbrev ended : tie.After-add-separated → tie.After-end-of
+ended c = c .before .before
+
+abbrev told : tie.After-add-separated → tie.Else2
+told c = ended c .before .before
+
 abbrev looked : tie.After-add-separated → tie.After-is-apart
-looked c = c .before .before .before
+looked c = told c .before
 
 -- what the addition leaves
 added : (a : tie.After-add-separated) (n : ℕ) (es : List Edge) → Holds (start (looked a) .args .w .now) (start (looked a) .args .l) es → start (looked a) .args .i < length es → CallEdge n (getD es (start (looked a) .args .i) noEdge)
     → Holds (a .add-separated .last .0) (a .add-separated .result) (add es (copyOf (getD es (start (looked a) .args .i) noEdge)))
 added a n es q x call =
-    let t = a .before .before in
     let k = looked a in
     let o = k .before .before in
-    a .add-separated .ensures .1 es _ q (apart-source q _ x (left k .if1 .left) call (o .offset-at .ensures es q) (start k .args .marks .now) (k .is-apart .ensures) (not-false _ (t .if2 .left)))
+    a .add-separated .ensures .1 es _ q (apart-source q _ x (left k .if1 .left) call (o .offset-at .ensures es q) (start k .args .marks .now) (k .is-apart .ensures) (not-false _ (told a .if2 .left)) (ended a .end-of .ensures es q))
 
 -- the edge turned off is the edge set apart
 turned : (a : tie.After-add-separated) (w : List ℕ) (l : Lattice) (n : ℕ) (es : List Edge) → Holds (start (looked a) .args .w .now) (start (looked a) .args .l) es → start (looked a) .args .i < length es → CallEdge n (getD es (start (looked a) .args .i) noEdge)
     → Holds w l (turnOffAt (add es (copyOf (getD es (start (looked a) .args .i) noEdge))) (start (looked a) .args .i)) → Holds w l (setApart (start (looked a) .args .marks .now) es (start (looked a) .args .i))
 turned a w l n es q x call h =
-    let t = a .before .before in
     let k = looked a in
     let o = k .before .before in
-    subst (Holds w l) (sym (is-apart q _ x (left k .if1 .left) call (o .offset-at .ensures es q) (start k .args .marks .now) (k .is-apart .ensures) (not-false _ (t .if2 .left)))) h
+    subst (Holds w l) (sym (is-apart q _ x (left k .if1 .left) call (o .offset-at .ensures es q) (start k .args .marks .now) (k .is-apart .ensures) (not-false _ (told a .if2 .left)))) h
 
 returns : tie.Need-returns
 returns c = (refl, λ n es few q x call. full-apart _ _ (c .if1 .taken) q)
@@ -62,13 +66,17 @@ returns-2 c =
     let o = k .before .before in
     (refl, λ n es few q x call. not-apart q _ x (left k .if1 .left) call (o .offset-at .ensures es q) (start k .args .marks .now) (k .is-apart .ensures) (not-true _ (c .if2 .taken)))
 
+end-of-requires : tie.Need-end-of-requires
+end-of-requires c κs = let e = left (c .before .before) in let p = e .before .before .pre in ((p .2 .0, p .2 .1), e .if1 .left, counted (p .2 .1) _ (p .2 .2) (e .if1 .left))
+
 add-separated-requires : tie.Need-add-separated-requires
 add-separated-requires c κs =
-    let t = c .before in
+    let z = c .before in
+    let t = z .before .before in
     let k = t .before in
     let o = k .before .before in
     let p = start k .pre in
-    ((p .2 .0, p .2 .1), (_, apart-source (p .2 .1) _ (p .2 .2) (left k .if1 .left) (p .2 .3) (o .offset-at .ensures (p .2 .0) (p .2 .1)) (start k .args .marks .now) (k .is-apart .ensures) (not-false _ (t .if2 .left))))
+    ((p .2 .0, p .2 .1), (_, apart-source (p .2 .1) _ (p .2 .2) (left k .if1 .left) (p .2 .3) (o .offset-at .ensures (p .2 .0) (p .2 .1)) (start k .args .marks .now) (k .is-apart .ensures) (not-false _ (t .if2 .left)) (z .end-of .ensures _ (p .2 .1))))
 
 same-length-2 : tie.Need-same-length-2
 same-length-2 c = search needs
@@ -106,6 +114,7 @@ set-apart-spec =
     is-apart-requires
     same-length
     returns-2
+    end-of-requires
     add-separated-requires
     same-length-2
     returns-3
