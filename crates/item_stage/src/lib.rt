@@ -152,7 +152,28 @@ fn add_joined(
     )
 }
 
-// The i-th item of the list behind the lattice is added, if it is of this kind.
+// An item is added, by its kind.
+fn add_item(
+    w: &mut [u8],
+    l: Lattice,
+    line: &[u8],
+    offs: &[usize; 257],
+    table: &[u8],
+    x: PassEdge,
+) -> Lattice
+    requires { ⌜ Asks (now w) l (now line) (now offs) (now table) x ⌝ }
+    ensures { λ r. ⌜ Adds (now (line .entry)) (now (table .entry)) x (now (w .entry)) l (now (w .exit)) r ⌝ }
+{
+    if x.kind == 0 {
+        return add_char(w, l, line, offs, table, x);
+    }
+    if x.kind == 1 {
+        return add_run(w, l, line, offs, table, x);
+    }
+    add_joined(w, l, line, offs, table, x)
+}
+
+// The i-th item of the list behind the lattice is added, if it is of this kind. The others are told by their kind alone: most are of another.
 fn add_if(
     w: &mut [u8],
     l: Lattice,
@@ -165,17 +186,13 @@ fn add_if(
     requires { ⌜ ((es : List Edge) × Holds (now w) l es) × Offsets (now line) (now offs) × (length (chars (now line)) ≤ 256) × Sound (chars (now line)) (now table) (itemAt (drop 39424 (now w)) (i * 56)) × (39424 + i * 56 + 56 ≤ length (now w)) ⌝ }
     ensures { λ r. ⌜ (drop 39424 (now (w .exit)) ≡ drop 39424 (now (w .entry))) × ((es : List Edge) → Holds (now (w .entry)) l es → Holds (now (w .exit)) r (addIf (chars (now (line .entry))) (now (table .entry)) kind es (itemAt (drop 39424 (now (w .entry))) (i * 56)))) ⌝ }
 {
-    let x = pass_record::get(w, 39424 + i * 56);
-    if x.kind != kind {
+    let at = 39424 + i * 56;
+    let found = fields::u16_at(w, at + 4);
+    if found != kind {
         return l;
     }
-    if kind == 0 {
-        return add_char(w, l, line, offs, table, x);
-    }
-    if kind == 1 {
-        return add_run(w, l, line, offs, table, x);
-    }
-    add_joined(w, l, line, offs, table, x)
+    let x = pass_record::get(w, at);
+    add_item(w, l, line, offs, table, x)
 }
 
 // The stage: of the n items of the list behind the lattice, those of a kind are added in turn.
