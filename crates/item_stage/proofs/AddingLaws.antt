@@ -3,7 +3,6 @@ use mathlib.Core.Path.{_≡_, refl, sym, ap, _∙_, subst}
 use mathlib.Core.Bool.{Bool, true, false, cond}
 use mathlib.Core.List.{List, [], _∷_, _++_, map, map-append}
 use Prim.Native.Nat.{ℕ, zero, suc, _+_, _*_, _≤_, _<_}
-use native.Mathlib.Numerals.{add-one}
 use native.Mathlib.Omega.{arith}
 use native.Mathlib.Nat.{zero-add}
 use lib.ListN.{length, drop, length-drop}
@@ -14,7 +13,7 @@ use Rattle.fields.proofs.PartLaws.{part-of-drop}
 use Rattle.fields.proofs.FieldsLaws.{leAt-of-part}
 use Rattle.text.specs.Text.{chars}
 use Rattle.pass_list.specs.declared.record.PassEdge.{PassEdge}
-use Rattle.pass_list.specs.Item.{Item, Small, Every, nil, cons, EdgeIs}
+use Rattle.pass_list.specs.Item.{Item, Every, cons, EdgeIs}
 use Rattle.pass_list.specs.Stored.{itemOf, itemAt, itemsAt}
 use Rattle.pass_list.specs.Edges.{edgeOf}
 use Rattle.pass_list.proofs.StoredLaws.{items-snoc}

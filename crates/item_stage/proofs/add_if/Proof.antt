@@ -1,5 +1,4 @@
 -- `item_stage::add_if` meets its contract: the item that is read is the one of the list behind the lattice, and what is read first is its kind. Assumes nothing.
-use borrow.Author.Needs.{needs}
 use mathlib.Core.Path.{_≡_, refl, sym, _∙_, subst}
 use Prim.Native.Nat.{_*_}
 use native.Mathlib.Omega.{arith}

@@ -11,23 +11,14 @@ same-length c = c .before .before .add-char .kept .0
 returns : tie.Need-returns
 returns c = c .before .before .add-char .ensures
 
-add-run-requires : tie.Need-add-run-requires
-add-run-requires c κs = (c .before .before .before .before .before .before .before .before .pre, c .before .if2 .taken)
+add-joined-requires : tie.Need-add-joined-requires
+add-joined-requires c κs = (c .before .before .before .before .before .before .pre, c .before .if1 .left)
 
 same-length-2 : tie.Need-same-length-2
-same-length-2 c = c .before .before .add-run .kept .0
+same-length-2 c = c .before .before .add-joined .kept .0
 
 returns-2 : tie.Need-returns-2
-returns-2 c = c .before .before .add-run .ensures
-
-add-joined-requires : tie.Need-add-joined-requires
-add-joined-requires c κs = (c .before .before .before .before .before .before .before .before .pre, c .before .before .before .if1 .left, c .before .if2 .left)
-
-same-length-3 : tie.Need-same-length-3
-same-length-3 c = c .before .before .add-joined .kept .0
-
-returns-3 : tie.Need-returns-3
-returns-3 c = c .before .before .add-joined .ensures
+returns-2 c = c .before .before .add-joined .ensures
 
 pub add-item-spec : {M : Type 1} → statement M
 add-item-spec =
@@ -36,9 +27,6 @@ add-item-spec =
     add-char-requires
     same-length
     returns
-    add-run-requires
-    same-length-2
-    returns-2
     add-joined-requires
-    same-length-3
-    returns-3)
+    same-length-2
+    returns-2)
