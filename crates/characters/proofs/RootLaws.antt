@@ -18,7 +18,7 @@ use Rattle.dicts.specs.Check.{allOf, legalCodePoint, legalTexts, legalNumbers, 
 use Rattle.dicts.specs.Answers.{recordOf}
 use Rattle.dicts.specs.declared.layout.NumProp.{NumProp}
 use Rattle.items.specs.Sound.{ScriptAt, Rooted}
-use Rattle.items.proofs.TextLaws.{record-short, at-most}
+use Rattle.items.proofs.RecordLaws.{record-short, at-most}
 use Rattle.characters.specs.CharItem.{charItem}
 use Rattle.char_index.specs.Index.{FoundAt}
 

@@ -3,16 +3,17 @@ use mathlib.Core.Path.{_≡_, refl, sym, ap, _∙_, subst}
 use mathlib.Core.Bool.{Bool, true, false, cond}
 use mathlib.Core.List.{List, [], _∷_, _++_, map, map-append}
 use Prim.Native.Nat.{ℕ, zero, suc, _+_, _*_, _≤_, _<_}
-use native.Mathlib.Numerals.{add-one}
 use native.Mathlib.Omega.{arith}
 use native.Mathlib.Nat.{zero-add}
 use lib.ListN.{length, drop, length-drop}
 use lib.Dec.{eqb}
 use borrow.Author.Tests.{eq-eqb, ne-eqb}
+use Rattle.fields.specs.Fields.{leAt}
 use Rattle.fields.proofs.PartLaws.{part-of-drop}
+use Rattle.fields.proofs.FieldsLaws.{leAt-of-part}
 use Rattle.text.specs.Text.{chars}
 use Rattle.pass_list.specs.declared.record.PassEdge.{PassEdge}
-use Rattle.pass_list.specs.Item.{Item, Small, Every, nil, cons, EdgeIs}
+use Rattle.pass_list.specs.Item.{Item, Every, cons, EdgeIs}
 use Rattle.pass_list.specs.Stored.{itemOf, itemAt, itemsAt}
 use Rattle.pass_list.specs.Edges.{edgeOf}
 use Rattle.pass_list.proofs.StoredLaws.{items-snoc}
@@ -24,7 +25,6 @@ use Rattle.lattice.specs.Kept.{Holds}
 use Rattle.numbers.specs.Listed.{listedEdge}
 use Rattle.items.specs.Sound.{Sound, ItemIs}
 use Rattle.items.specs.Adding.{Adds, kindEdges, addIf}
-use Rattle.items.proofs.TextLaws.{kind-is}
 
 -- ---- an item behind the lattice
 pub item-behind-is : (w : List ℕ) (at : ℕ) → itemAt w (39424 + at) ≡ itemAt (drop 39424 w) at
@@ -33,6 +33,11 @@ item-behind-is w at = ap itemOf (sym (part-of-drop w 39424 at 56))
 
 pub item-behind : (line t : List ℕ) (w : List ℕ) (at : ℕ) (e : PassEdge) → Sound (chars line) t (itemAt (drop 39424 w) at) → EdgeIs e (itemAt w (39424 + at)) → ItemIs line t e (itemAt (drop 39424 w) at)
 item-behind line t w at e s h = record { is = subst (EdgeIs e) (item-behind-is w at) h; sound = s }
+
+-- its kind can be read alone
+pub kind-behind : (w : List ℕ) (at : ℕ) → leAt w (39424 + at + 4) 2 ≡ itemAt (drop 39424 w) at .kind
+unfolding itemAt itemOf
+kind-behind w at = sym (leAt-of-part w (39424 + at) 56 4 2 (omega arith)) ∙ ap (λ (x : Item). x .kind) (item-behind-is w at)
 
 -- ---- each item of a list
 every-items : (P : Item → Type 0) (s : List ℕ) (i n j : ℕ) → Every P (itemsAt s i n) → j < n → P (itemAt s ((i + j) * 56))
@@ -54,10 +59,10 @@ module _ (w t : List ℕ) (k : ℕ) (es : List Edge) (x : Item) where
   unfolding addIf
   passes-over h = rw (ne-eqb (x .kind) k h)
 
--- the code's edge e is of kind k, and was added
-pub added-if : (line t : List ℕ) (k : ℕ) (e : PassEdge) (x : Item) → ItemIs line t e x → e .kind ≡ k → {s u : List ℕ} {l r : Lattice} → Adds line t e s l u r → (es : List Edge) → Holds s l es
+-- the item x is of kind k, and was added
+pub added-if : (line t : List ℕ) (k : ℕ) (e : PassEdge) (x : Item) → ItemIs line t e x → x .kind ≡ k → {s u : List ℕ} {l r : Lattice} → Adds line t e s l u r → (es : List Edge) → Holds s l es
     → Holds u r (addIf (chars line) t k es x)
-added-if line t k e x is z a es h = rw (← adds (chars line) t k es x (sym (kind-is [] [] e x (is .is)) ∙ z)) (a .holds es x h is)
+added-if line t k e x is z a es h = rw (← adds (chars line) t k es x z) (a .holds es x h is)
 
 -- ---- one item more
 add-all-append : (es cs ds : List Edge) → addAll es (cs ++ ds) ≡ addAll (addAll es cs) ds

@@ -1,10 +1,10 @@
 // The stage that adds the items of one kind to the lattice (01, "From characters to edges", "Five passes").
 ghost use mathlib.Core.Path.{_≡_};
-ghost use Prim.Native.Nat.{_+_, _*_, _≤_};
-ghost use mathlib.Core.List.{List, [], _∷_, map};
-ghost use lib.ListN.{length, drop};
+ghost use Prim.Native.Nat.{ℕ, _+_, _*_, _/_, _%_, _≤_};
+ghost use mathlib.Core.List.{List, map};
+ghost use lib.ListN.{length, drop, getD};
 ghost use Rattle.text.specs.Text.{chars};
-ghost use Rattle.pass_list.specs.Edges.{kindName, edgeOf};
+ghost use Rattle.pass_list.specs.Edges.{between, edgeOf};
 ghost use Rattle.pass_list.specs.Stored.{itemAt, itemsAt};
 ghost use Rattle.pass_edges.specs.InTurn.{ofKind};
 ghost use Rattle.stages.specs.Ready.{Offsets};
@@ -12,14 +12,64 @@ ghost use Rattle.edge.specs.Edge.{Edge};
 ghost use Rattle.lattice.specs.Lattice.{addAll};
 ghost use Rattle.lattice.specs.Kept.{Holds};
 ghost use Rattle.numbers.specs.Listed.{listedEdge};
-ghost use Rattle.items.specs.Sound.{Sound, Sounds};
+ghost use Rattle.items.specs.Sound.{LegalAt, Sound, Sounds};
+ghost use Rattle.items.specs.Texts.{charTxt, charType};
+ghost use Rattle.items.specs.Fields.{itemFraction, FractionIs};
 ghost use Rattle.items.specs.Adding.{Asks, Adds, addIf};
 use dicts::layout::RecordAt;
 use items::Fraction;
 use lattice::Lattice;
 use pass_list::record::PassEdge;
 
-// A character is added: its type and its rom are parts of the table, and without rom its txt is a part of the line.
+// The type of a character whose record was checked: its bytes in the table, by the length before them.
+fn type_at(table: &[u8], at: usize) -> &[u8]
+    requires { ⌜ LegalAt (now table) at ⌝ }
+    ensures { λ r. ⌜ now r ≡ charType (now (table .entry)) at ⌝ }
+{
+    let from = at + 6;
+    let to = from + table[at + 5] as usize;
+    &table[from..to]
+}
+
+// Its rom, behind the type.
+fn rom_at(table: &[u8], at: usize) -> &[u8]
+    requires { ⌜ LegalAt (now table) at × (getD (now table) (at + 4) 0 / 1 % 2 ≡ 1) ⌝ }
+    ensures { λ r. ⌜ ((w : List ℕ) (a b : ℕ) → now r ≡ charTxt w (now (table .entry)) at a b) ⌝ }
+{
+    let len_at = at + 6 + table[at + 5] as usize;
+    let from = len_at + 1;
+    let to = from + table[len_at] as usize;
+    &table[from..to]
+}
+
+// The bytes of the line between two places.
+fn own_at<'a>(line: &'a [u8], offs: &[usize; 257], start: usize, end: usize) -> &'a [u8]
+    requires { ⌜ Offsets (now line) (now offs) × (start ≤ end) × (end ≤ length (chars (now line))) × (length (chars (now line)) ≤ 256) ⌝ }
+    ensures { λ r. ⌜ now r ≡ between (chars (now (line .entry))) start end ⌝ }
+{
+    let from = offs[start];
+    let to = offs[end];
+    &line[from..to]
+}
+
+// Its fraction. Only a record that has one is read whole.
+fn fraction_at(table: &[u8], at: usize) -> Fraction
+    requires { ⌜ LegalAt (now table) at ⌝ }
+    ensures { λ r. ⌜ FractionIs r (itemFraction (now (table .entry)) 0 at) ⌝ }
+{
+    if table[at + 4] / 4 % 2 == 1 {
+        if let RecordAt::Record(p) = dicts::layout::record_at(table, at) {
+            return item_fields::fraction_of(p);
+        }
+    }
+    Fraction {
+        there: false,
+        numerator: 0,
+        denominator: 0,
+    }
+}
+
+// A character is added: its type is a part of the table, its txt the rom there or else the character in the line.
 fn add_char(
     w: &mut [u8],
     l: Lattice,
@@ -31,96 +81,18 @@ fn add_char(
     requires { ⌜ Asks (now w) l (now line) (now offs) (now table) x × (x .kind ≡ 0) ⌝ }
     ensures { λ r. ⌜ Adds (now (line .entry)) (now (table .entry)) x (now (w .entry)) l (now (w .exit)) r ⌝ }
 {
-    match dicts::layout::record_at(table, x.record_at.0) {
-        RecordAt::Record(p) => {
-            let f = item_fields::fraction_of(p);
-            let ty = p.num_type.at;
-            let ty_end = p.num_type.at + p.num_type.len;
-            if p.map / 1 % 2 == 1 {
-                let rom = p.rom.at;
-                let rom_end = p.rom.at + p.rom.len;
-                return item_fields::add_texts(
-                    w,
-                    l,
-                    line,
-                    offs,
-                    table,
-                    x,
-                    f,
-                    &table[ty..ty_end],
-                    &table[rom..rom_end],
-                );
-            }
-            let start = x.start.0;
-            let end = x.end.0;
-            let from = offs[start];
-            let to = offs[end];
-            item_fields::add_texts(
-                w,
-                l,
-                line,
-                offs,
-                table,
-                x,
-                f,
-                &table[ty..ty_end],
-                &line[from..to],
-            )
-        }
-        RecordAt::Fault => l,
+    let at = x.record_at.0;
+    let f = fraction_at(table, at);
+    let ty = type_at(table, at);
+    if table[at + 4] / 1 % 2 == 1 {
+        let rom = rom_at(table, at);
+        return item_fields::add_texts(w, l, line, offs, table, x, f, ty, rom);
     }
+    let own = own_at(line, offs, x.start.0, x.end.0);
+    item_fields::add_texts(w, l, line, offs, table, x, f, ty, own)
 }
 
-// A run of digits is added: its txt keeps the leading zeros.
-fn add_run(
-    w: &mut [u8],
-    l: Lattice,
-    line: &[u8],
-    offs: &[usize; 257],
-    table: &[u8],
-    x: PassEdge,
-) -> Lattice
-    requires { ⌜ Asks (now w) l (now line) (now offs) (now table) x × (x .kind ≡ 1) ⌝ }
-    ensures { λ r. ⌜ Adds (now (line .entry)) (now (table .entry)) x (now (w .entry)) l (now (w .exit)) r ⌝ }
-{
-    let mut txt = [0u8; 256];
-    let len = x.end.0 - x.start.0;
-    decimal::put_padded(&mut txt, 0, len, whole::to_u64(x.num.value));
-    item_fields::add_texts(
-        w,
-        l,
-        line,
-        offs,
-        table,
-        x,
-        Fraction {
-            there: false,
-            numerator: 0,
-            denominator: 0,
-        },
-        b"D1",
-        &txt[..len],
-    )
-}
-
-// The digit in the name of the pass that joined an item of this kind, G1 to G4.
-fn pass_digit(kind: u16) -> u8
-    requires { ⌜ (kind ≡ 1 → ⊥) ⌝ }
-    ensures { λ r. ⌜ 71 ∷ r ∷ [] ≡ kindName kind ⌝ }
-{
-    if kind == 2 {
-        return b'1';
-    }
-    if kind == 3 {
-        return b'2';
-    }
-    if kind == 4 {
-        return b'3';
-    }
-    b'4'
-}
-
-// An item that another pass joined is added: its txt is its value.
+// A joined item is added: its type is the pass, its txt its digits or its value.
 fn add_joined(
     w: &mut [u8],
     l: Lattice,
@@ -129,12 +101,13 @@ fn add_joined(
     table: &[u8],
     x: PassEdge,
 ) -> Lattice
-    requires { ⌜ Asks (now w) l (now line) (now offs) (now table) x × (x .kind ≡ 0 → ⊥) × (x .kind ≡ 1 → ⊥) ⌝ }
+    requires { ⌜ Asks (now w) l (now line) (now offs) (now table) x × (x .kind ≡ 0 → ⊥) ⌝ }
     ensures { λ r. ⌜ Adds (now (line .entry)) (now (table .entry)) x (now (w .entry)) l (now (w .exit)) r ⌝ }
 {
-    let mut txt = [0u8; 16];
-    let ty = [b'G', pass_digit(x.kind)];
-    let len = decimal::put_decimal(&mut txt, 0, whole::to_u64(x.num.value));
+    let mut ty = [0u8; 60];
+    let mut txt = [0u8; 256];
+    let ty_len = items::type_of(&mut ty, table, x);
+    let len = items::txt_of(&mut txt, line, offs, table, x);
     item_fields::add_texts(
         w,
         l,
@@ -147,12 +120,30 @@ fn add_joined(
             numerator: 0,
             denominator: 0,
         },
-        &ty,
+        &ty[..ty_len],
         &txt[..len],
     )
 }
 
-// The i-th item of the list behind the lattice is added, if it is of this kind.
+// An item is added, by its kind.
+fn add_item(
+    w: &mut [u8],
+    l: Lattice,
+    line: &[u8],
+    offs: &[usize; 257],
+    table: &[u8],
+    x: PassEdge,
+) -> Lattice
+    requires { ⌜ Asks (now w) l (now line) (now offs) (now table) x ⌝ }
+    ensures { λ r. ⌜ Adds (now (line .entry)) (now (table .entry)) x (now (w .entry)) l (now (w .exit)) r ⌝ }
+{
+    if x.kind == 0 {
+        return add_char(w, l, line, offs, table, x);
+    }
+    add_joined(w, l, line, offs, table, x)
+}
+
+// The i-th item of the list behind the lattice is added, if it is of this kind. The others are told by their kind alone: most are of another.
 fn add_if(
     w: &mut [u8],
     l: Lattice,
@@ -165,17 +156,13 @@ fn add_if(
     requires { ⌜ ((es : List Edge) × Holds (now w) l es) × Offsets (now line) (now offs) × (length (chars (now line)) ≤ 256) × Sound (chars (now line)) (now table) (itemAt (drop 39424 (now w)) (i * 56)) × (39424 + i * 56 + 56 ≤ length (now w)) ⌝ }
     ensures { λ r. ⌜ (drop 39424 (now (w .exit)) ≡ drop 39424 (now (w .entry))) × ((es : List Edge) → Holds (now (w .entry)) l es → Holds (now (w .exit)) r (addIf (chars (now (line .entry))) (now (table .entry)) kind es (itemAt (drop 39424 (now (w .entry))) (i * 56)))) ⌝ }
 {
-    let x = pass_record::get(w, 39424 + i * 56);
-    if x.kind != kind {
+    let at = 39424 + i * 56;
+    let found = fields::u16_at(w, at + 4);
+    if found != kind {
         return l;
     }
-    if kind == 0 {
-        return add_char(w, l, line, offs, table, x);
-    }
-    if kind == 1 {
-        return add_run(w, l, line, offs, table, x);
-    }
-    add_joined(w, l, line, offs, table, x)
+    let x = pass_record::get(w, at);
+    add_item(w, l, line, offs, table, x)
 }
 
 // The stage: of the n items of the list behind the lattice, those of a kind are added in turn.

@@ -1,21 +1,21 @@
--- Laws of an item's texts. In order: the strings of a record are short; a character's bytes; a text at the front of a buffer; the txt and the type of a
--- character, by its record; the line's bytes between two places; the names of the passes; the texts of an item, and that they are short.
+-- Laws of an item's texts. In order: a character's bytes; a text at the front of a buffer; the txt and the type of a character, by its record, and by its
+-- bytes where it was checked; the line's bytes between two places; the names of the passes; the texts of an item, and that they are short.
 use mathlib.Core.Path.{_≡_, refl, sym, ap, _∙_, subst}
 use mathlib.Core.Bool.{Bool, true, false, cond}
-use mathlib.Core.List.{List, [], _∷_, _++_}
+use mathlib.Core.List.{List, [], _∷_}
 use mathlib.Core.Option.{Option, none, some, Option·getD}
-use Prim.Native.Nat.{ℕ, zero, suc, _+_, _*_, _-_, _/_, _%_, _≤_, _<_}
+use Prim.Native.Nat.{ℕ, suc, _+_, _*_, _-_, _/_, _%_, _≤_}
 use native.Mathlib.Omega.{arith}
 use lib.ListN.{length, take, drop, getD, length-append}
-use lib.Dec.{eqb, ltb, leb}
-use borrow.Author.Tests.{leb-true, eqb-true, eq-eqb, ne-eqb}
+use lib.Dec.{eqb, ltb}
+use borrow.Author.Tests.{eqb-true, eq-eqb, ne-eqb}
 use Rattle.fields.specs.Part.{part}
 use Rattle.fields.proofs.PartLaws.{length-part, part-sets}
 use Rattle.text.specs.Sequence.{encode}
 use Rattle.text.specs.Text.{chars, encodes, offsetOf}
-use Rattle.dicts.specs.Table.{Text, Record}
-use Rattle.dicts.specs.Layout.{Field, Is, Fault, thenField, mapField, number, textOf, text, optional, bit, readNumbers, readFields, readRecord}
-use Rattle.dicts.specs.Answers.{partOf, optionally, recordOf, recordField, RecordWithin, Inside}
+use Rattle.dicts.specs.Table.{Text}
+use Rattle.dicts.specs.Layout.{Is, Fault, readRecord}
+use Rattle.dicts.specs.Answers.{recordOf, recordField, RecordWithin, Inside}
 use Rattle.dicts.specs.declared.layout.NumProp.{NumProp}
 use Rattle.whole.specs.Whole.{ofNat}
 use Rattle.whole.specs.Decimal.{decimal, padded}
@@ -31,88 +31,7 @@ use Rattle.places.proofs.PlacesLaws.{offset-rises, part-between}
 use Rattle.text.proofs.PlaceLaws.{offset-le}
 use Rattle.items.specs.Sound.{LegalAt, Sound, ItemIs}
 use Rattle.items.specs.Texts.{charTxt, charType, typeOf, Front}
-
-take-short : (n : ℕ) (cs : List ℕ) → length (take n cs) ≤ n
-take-short zero cs = omega arith
-take-short (suc n) [] = omega arith
-take-short (suc n) (c ∷ cs) = omega (arith, take-short n cs)
-
--- ---- the strings of a record
-abbrev AtMost : Option Text → Type 0
-AtMost none = Unit {0}
-AtMost (some t) = length t ≤ 60
-
-pub record Strings (r : Record) : Type 0 where
-  pub type : length (r .type) ≤ 60
-  pub rom : AtMost (r .rom)
-  pub script : AtMost (r .script)
-
--- what a field says of its value, where it has one
-abbrev Says : {A : Type 0} → (A → Type 0) → Field A → Type 0
-Says P (Is a next) = P a
-Says P Fault = Unit {0}
-
-says-then : {A B : Type 0} (P : A → Type 0) (Q : B → Type 0) (f : Field A) (k : A → ℕ → Field B) → Says P f → ((a : A) (next : ℕ) → P a → Says Q (k a next)) → Says Q (thenField f k)
-says-then P Q (Is a next) k h g = g a next h
-says-then P Q Fault k h g = tt
-
-says-any : {A : Type 0} (f : Field A) → Says (λ a. Unit {0}) f
-says-any (Is a next) = tt
-says-any Fault = tt
-
-part-at-most : (s : List ℕ) (at n : ℕ) → length (part s at n) ≤ n
-unfolding part
-part-at-most s at n = take-short n (drop at s)
-
-text-of-short : (s : List ℕ) (at n : ℕ) → Says (λ t. length t ≤ 60) (textOf s at n)
-unfolding textOf
-text-of-short s at n = go (leb n 60) (leb (at + n) (length s)) refl
-  where
-    go : (b d : Bool) → leb n 60 ≡ b → Says (λ t. length t ≤ 60) (cond b (cond d (Is (part s at n) (at + n)) Fault) Fault)
-    go true true e = omega (arith, leb-true n 60 e, part-at-most s at n)
-    go true false e = tt
-    go false d e = tt
-
-says-at : {A : Type 0} (P : A → Type 0) {f : Field A} {a : A} {next : ℕ} → Says P f → f ≡ Is a next → P a
-says-at P h e = subst (Says P) e h
-
-text-short : (s : List ℕ) (at : ℕ) → Says (λ t. length t ≤ 60) (text s at)
-unfolding text
-text-short s at = says-then (λ n. Unit {0}) (λ t. length t ≤ 60) (number 1 s at) (λ n next. textOf s next n) (says-any (number 1 s at)) (λ n next u. text-of-short s next n)
-
-opt-text-short : (b : Bool) (s : List ℕ) (at : ℕ) → Says AtMost (optional b text s at)
-unfolding optional
-opt-text-short false s at = tt
-opt-text-short true s at = go (text s at) (text-short s at)
-  where
-    go : (f : Field Text) → Says (λ t. length t ≤ 60) f → Says AtMost (mapField some f)
-    go (Is t next) h = h
-    go Fault h = tt
-
-fields-short : (c m : ℕ) (s : List ℕ) (at : ℕ) → Says Strings (readFields c m s at)
-unfolding readFields
-fields-short c m s at =
-    says-then (λ t. length t ≤ 60) Strings (text s at) _ (text-short s at) (λ type at h.
-    says-then AtMost Strings (optional (bit m 0) text s at) _ (opt-text-short (bit m 0) s at) (λ rom at k.
-    says-then (λ n. Unit {0}) Strings (readNumbers m s at) _ (says-any (readNumbers m s at)) (λ numbers at u.
-    says-then AtMost Strings (optional (bit m 5) text s at) _ (opt-text-short (bit m 5) s at) (λ script at l.
-    record { type = h; rom = k; script = l }))))
-
-record-says : (s : List ℕ) (at : ℕ) → Says Strings (readRecord s at)
-unfolding readRecord
-record-says s at =
-    says-then (λ n. Unit {0}) Strings (number 4 s at) _ (says-any (number 4 s at)) (λ c at u.
-    says-then (λ n. Unit {0}) Strings (number 1 s at) _ (says-any (number 1 s at)) (λ m at u. go c m at (ltb m 128)))
-  where
-    go : (c m at : ℕ) (b : Bool) → Says Strings (cond b (readFields c m s at) Fault)
-    go c m at true = fields-short c m s at
-    go c m at false = tt
-
-pub record-short : (s : List ℕ) (at : ℕ) {r : Record} {next : ℕ} → readRecord s at ≡ Is r next → Strings r
-record-short s at e = says-at Strings (record-says s at) e
-
-pub at-most : {o : Option Text} {t : Text} → AtMost o → o ≡ some t → length t ≤ 60
-at-most h e = subst AtMost e h
+use Rattle.items.proofs.RecordLaws.{take-short, AtMost, record-short, typeEnd, Lies, type-lies, rom-lies, rom-absent}
 
 -- ---- a character's bytes
 encode-short : (c : ℕ) → length (encode c) ≤ 4
@@ -179,6 +98,23 @@ module _ (s : List ℕ) (at : ℕ) {r : RecordAt} (is : recordField s r ≡ read
     pub type-length : p .«num_type» .at + p .«num_type» .len ≤ length s → p .«num_type» .len ≤ 60
     unfolding recordOf
     type-length h = omega (arith, length-part s (p .«num_type» .at) (p .«num_type» .len) h, record-short s at record-told .type)
+
+-- the same where the record was checked, by the lengths that stand in it
+module _ (t : List ℕ) (at : ℕ) (l : LegalAt t at) where
+  pub type-part : charType t at ≡ part t (at + 6) (getD t (at + 5) 0)
+  unfolding charType
+  type-part = rw (l .reads) (type-lies t at (l .reads) .0)
+
+  pub type-within : typeEnd t at ≤ length t
+  type-within = type-lies t at (l .reads) .1
+
+  pub rom-part : (w : List ℕ) (a b : ℕ) → getD t (at + 4) 0 / 1 % 2 ≡ 1 → Lies t (typeEnd t at) (charTxt w t at a b)
+  unfolding charTxt
+  rom-part w a b h = let (x, is, lies) = rom-lies t at (l .reads) (eq-eqb (getD t (at + 4) 0 / 1 % 2) 1 h) in rw (l .reads, is) lies
+
+  pub own-part : (w : List ℕ) (a b : ℕ) → (getD t (at + 4) 0 / 1 % 2 ≡ 1 → ⊥) → charTxt w t at a b ≡ between w a b
+  unfolding charTxt
+  own-part w a b h = rw (l .reads, rom-absent t at (l .reads) (ne-eqb (getD t (at + 4) 0 / 1 % 2) 1 h))
 
 -- what stands between two offsets, a length apart
 pub part-to : (s : List ℕ) (at n : ℕ) → part s at (at + n - at) ≡ part s at n
