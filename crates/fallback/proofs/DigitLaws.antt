@@ -77,7 +77,7 @@ unfolding addAll
 add-all-append es [] ds = refl
 add-all-append es (c ∷ cs) ds = add-all-append (add es c) cs ds
 
-pub full-add-all : {w : List ℕ} {l : Lattice} (es cs : List Edge) → l .full ≡ true → Holds w l es → Holds w l (addAll es cs)
+pub full-add-all : {w : List ℕ} {l : Lattice} (es cs : List Edge) → l .len ≡ 0 → Holds w l es → Holds w l (addAll es cs)
 unfolding addAll AddingIs
 full-add-all es [] f q = q
 full-add-all es (c ∷ cs) f q = full-add-all (add es c) cs f (add-nothing q c (inl f))

@@ -32,7 +32,7 @@ fn mark(s: &[u8], at: usize, marks: &mut [bool; 257])
 
 // The marks of all places that a numeric edge of one place covers. One walk over the lattice.
 fn mark_covered(w: &[u8], l: Lattice, marks: &mut [bool; 257])
-    requires { ⌜ (l .full ≡ false) × ((n : ℕ) × (n ≤ 256) × ((es : List Edge) × Holds (now w) l es × Legals n es)) × (now marks ≡ replicate 257 false) ⌝ }
+    requires { ⌜ (l .len ≡ 0 → ⊥) × ((n : ℕ) × (n ≤ 256) × ((es : List Edge) × Holds (now w) l es × Legals n es)) × (now marks ≡ replicate 257 false) ⌝ }
     ensures { λ _. ⌜ ((n : ℕ) (es : List Edge) → n ≤ 256 → Holds (now (w .entry)) l es → Legals n es → (p : ℕ) → p < 256 → getD (now (marks .exit)) p false ≡ covered es p) ⌝ }
 {
     let count = l.count;
@@ -83,7 +83,7 @@ pub fn fallback(w: &mut [u8], l: Lattice, line: &[u8], offs: &[usize; 257], n: u
     requires { ⌜ Offsets (now line) (now offs) × (length (chars (now line)) ≡ n) × (n ≤ 256) × ((es : List Edge) × Holds (now w) l es × Legals n es) ⌝ }
     ensures { λ r. ⌜ (drop 39424 (now (w .exit)) ≡ drop 39424 (now (w .entry))) × ((es : List Edge) → Holds (now (w .entry)) l es → Legals n es → Holds (now (w .exit)) r (addAll es (fallback es 0 (chars (now (line .entry)))))) ⌝ }
 {
-    if l.full {
+    if l.len == 0 {
         return l;
     }
     let mut marks = [false; 257];

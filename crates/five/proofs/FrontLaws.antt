@@ -44,7 +44,7 @@ module _ (w v : List ℕ) (front : take 39424 v ≡ take 39424 w) (long : length
   pub holds-front : {l : Lattice} {es : List Edge} → Holds w l es → Holds v l es
   holds-front {l} {es} q = record { room = let r = q .room in omega arith; short = q .short; state = go (q .state) }
     where
-      go : ((l .full ≡ true) × (overfull es ≡ true)) ⊎ ((l .full ≡ false) × Kept w (l .count) (l .len) es)
-          → ((l .full ≡ true) × (overfull es ≡ true)) ⊎ ((l .full ≡ false) × Kept v (l .count) (l .len) es)
+      go : ((l .len ≡ 0) × (overfull es ≡ true)) ⊎ ((l .len ≡ 0 → ⊥) × Kept w (l .count) (l .len) es)
+          → ((l .len ≡ 0) × (overfull es ≡ true)) ⊎ ((l .len ≡ 0 → ⊥) × Kept v (l .count) (l .len) es)
       go (inl x) = inl x
       go (inr x) = inr (x .0, kept-front (x .1))

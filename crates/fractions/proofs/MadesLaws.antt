@@ -166,7 +166,7 @@ two-of {es} {c} v a b = go (c .form) refl
     go (suc (suc (suc zero))) e = absurd (b e)
     go (suc (suc (suc (suc f)))) e = let h = v .form in absurd (omega arith)
 
-pub in-count : {w : List ℕ} {l : Lattice} {es : List Edge} {i : ℕ} → Holds w l es → l .full ≡ false → i < length es → i < l .count
+pub in-count : {w : List ℕ} {l : Lattice} {es : List Edge} {i : ℕ} → Holds w l es → (l .len ≡ 0 → ⊥) → i < length es → i < l .count
 in-count q f h = let k = kept-of q f .count in omega arith
 
 -- ---- the loop that turns edges inactive: those of the places before p are

@@ -23,14 +23,14 @@ use Rattle.fractions.proofs.MadesLaws.{mades-all, mades-keep}
 use Rattle.fractions.proofs.NewLaws.{new-call}
 
 -- ---- a full lattice
-pub full-stage : (t : Table) (c : List ℕ) {w : List ℕ} {l : Lattice} {es : List Edge} → Holds w l es → l .full ≡ true → Holds w l (fractions t c es)
+pub full-stage : (t : Table) (c : List ℕ) {w : List ℕ} {l : Lattice} {es : List Edge} → Holds w l es → l .len ≡ 0 → Holds w l (fractions t c es)
 unfolding fractions
 full-stage t c {es = es} q f =
     let ms = madeFrom t c es 0 (length c) in
     holds-full q f (over-add-all (turnOff es (usedEdges ms)) (newEdges ms) (over-turn-off es (usedEdges ms) ∙ over-of q f))
 
 -- what `choose` asks for
-pub keeps-of : {n : ℕ} {w : List ℕ} {l : Lattice} {es : List Edge} → n ≤ 256 → l .full ≡ false → Holds w l es → CallEdges n es → Keeps w l es
+pub keeps-of : {n : ℕ} {w : List ℕ} {l : Lattice} {es : List Edge} → n ≤ 256 → (l .len ≡ 0 → ⊥) → Holds w l es → CallEdges n es → Keeps w l es
 keeps-of {n} few f q c = record { chars = n; few = few; not-full = f; holds = q; edges = c }
 
 -- t and c are the table and the line's characters

@@ -43,7 +43,7 @@ fn any_marker(line: &[u8], offs: &[usize; 257], table: &[u8], h: Shape, n: usize
 
 // The edges that a choice uses turn inactive.
 fn turn_off_used(w: &mut [u8], l: Lattice, c: Choice)
-    requires { ⌜ ((es : List Edge) × Holds (now w) l es × Valid es c) × (l .full ≡ false) ⌝ }
+    requires { ⌜ ((es : List Edge) × Holds (now w) l es × Valid es c) × (l .len ≡ 0 → ⊥) ⌝ }
     ensures { λ _. ⌜ (drop 39424 (now (w .exit)) ≡ drop 39424 (now (w .entry))) × ((es : List Edge) → Holds (now (w .entry)) l es → Holds (now (w .exit)) l (turnOff es (usedBy c))) ⌝ }
 {
     let left = c.left;
@@ -68,7 +68,7 @@ fn turn_off_all(
     rights: &[usize; 256],
     n: usize,
 )
-    requires { ⌜ ((es : List Edge) × Holds (now w) l es × AllValid es (now forms) (now lefts) (now rights) n) × (l .full ≡ false) × (n ≤ 256) ⌝ }
+    requires { ⌜ ((es : List Edge) × Holds (now w) l es × AllValid es (now forms) (now lefts) (now rights) n) × (l .len ≡ 0 → ⊥) × (n ≤ 256) ⌝ }
     ensures { λ _. ⌜ (drop 39424 (now (w .exit)) ≡ drop 39424 (now (w .entry))) × ((es : List Edge) → Holds (now (w .entry)) l es → AllValid es (now (forms .entry)) (now (lefts .entry)) (now (rights .entry)) n → Holds (now (w .exit)) l (turnOff es (usedEdges (madesOf es (now (forms .entry)) (now (lefts .entry)) (now (rights .entry)) 0 n)))) ⌝ }
 {
     let mut p = 0;
@@ -122,7 +122,7 @@ pub fn fractions(
     requires { ⌜ Ready (now line) (now table) h n × ((es : List Edge) × Holds (now w) l es × CallEdges n es) × Offsets (now line) (now offs) ⌝ }
     ensures { λ r. ⌜ (drop 39424 (now (w .exit)) ≡ drop 39424 (now (w .entry))) × ((es : List Edge) → Holds (now (w .entry)) l es → CallEdges n es → Holds (now (w .exit)) r (fractions (tableOf (now (table .entry)) h) (chars (now (line .entry))) es)) ⌝ }
 {
-    if l.full {
+    if l.len == 0 {
         return l;
     }
     if !any_marker(line, offs, table, h, n) {

@@ -34,17 +34,17 @@ unfolding finished finishedOut
 refused out es h = (rw h, rw h)
 
 module _ {w : List ℕ} {l : Lattice} {es : List Edge} (q : Holds w l es) (out : List ℕ) where
-  pub full-refused : l .full ≡ true → Answers TooLong out out es
+  pub full-refused : l .len ≡ 0 → Answers TooLong out out es
   unfolding tooLong
   full-refused f = refused out es (rw (over-of q f))
 
-  pub short-refused : l .full ≡ false → length out < l .len → Answers TooLong out out es
+  pub short-refused : (l .len ≡ 0 → ⊥) → length out < l .len → Answers TooLong out out es
   unfolding tooLong
   short-refused f h =
       let s = kept-of q f .size in
       refused out es (or-right (overfull es) (ltb (length out) (length (listingBytes es))) (lt-ltb (length out) (length (listingBytes es)) (omega arith)))
 
-  pub listing-written : l .full ≡ false → l .len ≤ length out → {t : List ℕ} → t ≡ sets out 0 (take (l .len) w) → Answers (Listing (l .len)) out t es
+  pub listing-written : (l .len ≡ 0 → ⊥) → l .len ≤ length out → {t : List ℕ} → t ≡ sets out 0 (take (l .len) w) → Answers (Listing (l .len)) out t es
   unfolding tooLong finished finishedOut part
   listing-written f h e =
       let k = kept-of q f in

@@ -2,7 +2,7 @@
 -- In order: stores beside the listing and the cells; a list that is over stays so; an edge that is not added. Assumes nothing.
 use mathlib.Core.Path.{_≡_, refl, sym, _∙_}
 use mathlib.Core.Logic.{_⊎_, inl, inr}
-use mathlib.Core.Bool.{Bool, true, false, cond, _||_, true≢false}
+use mathlib.Core.Bool.{Bool, true, false, cond, _||_}
 use mathlib.Core.List.{List, [], _∷_, _++_}
 use Prim.Native.Nat.{ℕ, _+_, _*_, _≤_, _<_}
 use native.Mathlib.Omega.{arith}
@@ -20,19 +20,19 @@ use Rattle.lattice.proofs.KeptLaws.{length-edges-snoc, length-listing, 
 
 -- ---- a lattice that is not full is kept, one that is full is over
 module _ {w : List ℕ} {l : Lattice} {es : List Edge} (q : Holds w l es) where
-  pub kept-of : l .full ≡ false → Kept w (l .count) (l .len) es
+  pub kept-of : (l .len ≡ 0 → ⊥) → Kept w (l .count) (l .len) es
   kept-of f = go (q .state)
     where
-      go : ((l .full ≡ true) × (overfull es ≡ true)) ⊎ ((l .full ≡ false) × Kept w (l .count) (l .len) es) → Kept w (l .count) (l .len) es
-      go (inl x) = absurd (true≢false (sym (x .0) ∙ f))
+      go : ((l .len ≡ 0) × (overfull es ≡ true)) ⊎ ((l .len ≡ 0 → ⊥) × Kept w (l .count) (l .len) es) → Kept w (l .count) (l .len) es
+      go (inl x) = absurd (f (x .0))
       go (inr x) = x .1
 
-  pub over-of : l .full ≡ true → overfull es ≡ true
+  pub over-of : l .len ≡ 0 → overfull es ≡ true
   over-of f = go (q .state)
     where
-      go : ((l .full ≡ true) × (overfull es ≡ true)) ⊎ ((l .full ≡ false) × Kept w (l .count) (l .len) es) → overfull es ≡ true
+      go : ((l .len ≡ 0) × (overfull es ≡ true)) ⊎ ((l .len ≡ 0 → ⊥) × Kept w (l .count) (l .len) es) → overfull es ≡ true
       go (inl x) = x .1
-      go (inr x) = absurd (true≢false (sym f ∙ x .0))
+      go (inr x) = absurd (x .0 f)
 
 -- ---- stores behind the listing and before the cells, or from END on
 abbrev pub Beside : ℕ → ℕ → List ℕ → Type 0
@@ -63,8 +63,8 @@ kept-beside {w} {n} {len} {es} q i bs a =
 pub holds-beside : {w : List ℕ} {l : Lattice} {es : List Edge} → Holds w l es → (i : ℕ) (bs : List ℕ) → Beside (l .len) i bs → Holds (sets w i bs) l es
 holds-beside {w} {l} {es} q i bs a = record { room = let r = q .room in let x = length-sets w i bs in omega arith; short = q .short; state = go (q .state) }
   where
-    go : ((l .full ≡ true) × (overfull es ≡ true)) ⊎ ((l .full ≡ false) × Kept w (l .count) (l .len) es)
-        → ((l .full ≡ true) × (overfull es ≡ true)) ⊎ ((l .full ≡ false) × Kept (sets w i bs) (l .count) (l .len) es)
+    go : ((l .len ≡ 0) × (overfull es ≡ true)) ⊎ ((l .len ≡ 0 → ⊥) × Kept w (l .count) (l .len) es)
+        → ((l .len ≡ 0) × (overfull es ≡ true)) ⊎ ((l .len ≡ 0 → ⊥) × Kept (sets w i bs) (l .count) (l .len) es)
     go (inl x) = inl x
     go (inr x) = inr (x .0, kept-beside (x .1) i bs a)
 

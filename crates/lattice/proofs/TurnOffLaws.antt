@@ -202,7 +202,7 @@ module _ {w : List ℕ} {n len : ℕ} {es : List Edge} (q : Kept w n len es) (i 
       }
 
 -- at is the offset that was read, m the map, and m′ what is stored
-module _ {w : List ℕ} {l : Lattice} {es : List Edge} (q : Holds w l es) (f : l .full ≡ false) (i : ℕ) (x : i < l .count) {at m m′ : ℕ} (here : at ≡ offset es i) (read : m ≡ leAt w at 2) (off : m′ ≡ inactiveMap m) {t : List ℕ} (wrote : t ≡ sets w at (bytesOf 2 m′)) where
+module _ {w : List ℕ} {l : Lattice} {es : List Edge} (q : Holds w l es) (f : (l .len ≡ 0 → ⊥)) (i : ℕ) (x : i < l .count) {at m m′ : ℕ} (here : at ≡ offset es i) (read : m ≡ leAt w at 2) (off : m′ ≡ inactiveMap m) {t : List ℕ} (wrote : t ≡ sets w at (bytesOf 2 m′)) where
   pub holds-turned : Holds t l (turnOffAt es i)
   holds-turned =
       let k = kept-of q f in

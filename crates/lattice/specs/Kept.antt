@@ -127,11 +127,11 @@ pub record Stands (s : List ℕ) (at n to : ℕ) (e : Edge) : Type 0 where
   pub ends : to ≡ at + length (edgeBytes e)
   pub inside : to ≤ length s
 
--- edges that are too many or too long for a listing are not kept; work space and lattice stay as they were then
+-- edges that are too many or too long for a listing are not kept: the length is 0 then, which no listing has
 pub record Holds (w : List ℕ) (l : Lattice) (es : List Edge) : Type 0 where
   pub room : END ≤ length w
   pub short : l .len ≤ 32768
-  pub state : ((l .full ≡ true) × (overfull es ≡ true)) ⊎ ((l .full ≡ false) × Kept w (l .count) (l .len) es)
+  pub state : ((l .len ≡ 0) × (overfull es ≡ true)) ⊎ ((l .len ≡ 0 → ⊥) × Kept w (l .count) (l .len) es)
 
 -- a lattice, and a key in s of bucket b
 pub record Search (w s : List ℕ) (at n b : ℕ) : Type 0 where
@@ -145,9 +145,9 @@ pub record Search (w s : List ℕ) (at n b : ℕ) : Type 0 where
 
 -- what is to be done with an edge e, and why
 unfoldable pub AddingIs : Lattice → List Edge → Edge → Adding → Type 0
-AddingIs l es e Nothing = (l .full ≡ true) ⊎ (has es e ≡ true)
-AddingIs l es e TooMuch = (l .full ≡ false) × (has es e ≡ false) × (overfull (es ++ (e ∷ [])) ≡ true)
-AddingIs l es e (Into b) = (l .full ≡ false) × (has es e ≡ false) × (l .count < 1024) × (l .len + length (edgeBytes e) ≤ 32768) × (b ≡ bucket e)
+AddingIs l es e Nothing = (l .len ≡ 0) ⊎ (has es e ≡ true)
+AddingIs l es e TooMuch = (l .len ≡ 0 → ⊥) × (has es e ≡ false) × (overfull (es ++ (e ∷ [])) ≡ true)
+AddingIs l es e (Into b) = (l .len ≡ 0 → ⊥) × (has es e ≡ false) × (l .count < 1024) × (l .len + length (edgeBytes e) ≤ 32768) × (b ≡ bucket e)
 
 -- ---- the end: "over 1,024 edges, over 32,768 bytes, or longer than the output"
 unfoldable pub tooLong : ℕ → List Edge → Bool

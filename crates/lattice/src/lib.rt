@@ -14,11 +14,10 @@ ghost use Rattle.lattice.specs.Kept.{offset, inactiveMap, Holds};
 // Where the offset of each edge stands.
 const OFFSETS: usize = 34816;
 
-// A lattice: how many edges, the length of their listing, and whether they became too many or too long.
+// A lattice: how many edges, and the length of their listing; 0, which no listing has, where they became too many or too long.
 pub struct Lattice {
     pub count: usize,
     pub len: usize,
-    pub full: bool,
 }
 
 // What the end finds: the length of the listing written, or refusal 8.
@@ -36,7 +35,7 @@ pub enum Adding {
 
 // Where the i-th edge stands in the listing.
 pub fn offset_at(w: &[u8], l: Lattice, i: usize) -> usize
-    requires { ⌜ ((es : List Edge) × Holds (now w) l es) × (l .full ≡ false) × (i < l .count) ⌝ }
+    requires { ⌜ ((es : List Edge) × Holds (now w) l es) × (l .len ≡ 0 → ⊥) × (i < l .count) ⌝ }
     ensures { λ r. ⌜ ((es : List Edge) → Holds (now (w .entry)) l es → r ≡ offset es i) ⌝ }
 {
     fields::u16_at(w, OFFSETS + 2 * i) as usize
@@ -51,7 +50,7 @@ fn inactive_map(map: u16) -> u16
 
 // The i-th edge turns inactive.
 pub fn turn_off(w: &mut [u8], l: Lattice, i: usize)
-    requires { ⌜ ((es : List Edge) × Holds (now w) l es) × (l .full ≡ false) × (i < l .count) ⌝ }
+    requires { ⌜ ((es : List Edge) × Holds (now w) l es) × (l .len ≡ 0 → ⊥) × (i < l .count) ⌝ }
     ensures { λ _. ⌜ (drop 39424 (now (w .exit)) ≡ drop 39424 (now (w .entry))) × ((es : List Edge) → Holds (now (w .entry)) l es → Holds (now (w .exit)) l (turnOffAt es i)) ⌝ }
 {
     let at = offset_at(w, l, i);

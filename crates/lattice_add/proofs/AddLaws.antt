@@ -31,22 +31,22 @@ unfolding AddingIs
 copy-room q e b a d = let z = d .ends in let y = a .3 in omega arith
 
 -- ---- what then holds
-abbrev lattice : ℕ → ℕ → Bool → Lattice
-lattice n len full = record { count = n; len = len; full = full }
+abbrev lattice : ℕ → ℕ → Lattice
+lattice n len = record { count = n; len = len }
 
 module _ {w : List ℕ} {l : Lattice} {es : List Edge} (q : Holds w l es) (e : Edge) where
-  pub add-too-much : AddingIs l es e TooMuch → Holds w (lattice (l .count) (l .len) true) (add es e)
+  pub add-too-much : AddingIs l es e TooMuch → Holds w (lattice (l .count) 0) (add es e)
   unfolding AddingIs
-  add-too-much a = record { room = q .room; short = q .short; state = inl (refl, rw (add-new es e (a .1)) (a .2)) }
+  add-too-much a = record { room = q .room; short = omega arith; state = inl (refl, rw (add-new es e (a .1)) (a .2)) }
 
   -- the edge was composed behind the listing
-  pub add-into : (b k to : ℕ) → AddingIs l es e (Into b) → Stands w (l .len) k to e → {t : List ℕ} → t ≡ linked w (l .count) (l .len) b → Holds t (lattice (l .count + 1) to false) (add es e)
+  pub add-into : (b k to : ℕ) → AddingIs l es e (Into b) → Stands w (l .len) k to e → {t : List ℕ} → t ≡ linked w (l .count) (l .len) b → Holds t (lattice (l .count + 1) to) (add es e)
   unfolding AddingIs
   add-into b k to a d p =
       let z = d .ends in
       let y = a .3 in
       let g = grown w (l .count) (l .len) es (kept-of q (a .0)) k to e d (a .2) (omega arith) b (a .4) in
-      rw (p, add-new es e (a .1)) (record { room = g .room; short = omega arith; state = inr (refl, g) })
+      rw (p, add-new es e (a .1)) (record { room = g .room; short = omega arith; state = inr (λ h. a .0 (omega arith), g) })
 
 -- ---- a copy of an edge that stands in s
 module _ {w s : List ℕ} {l : Lattice} {es : List Edge} (q : Holds w l es) (at n to b : ℕ) (e : Edge) (d : Stands s at n to e) {t u : List ℕ} (copied : t ≡ sets w (l .len) (part s at (to - at))) (linked-in : u ≡ linked t (l .count) (l .len) b) where
@@ -58,7 +58,7 @@ module _ {w s : List ℕ} {l : Lattice} {es : List Edge} (q : Holds w l es) (at 
       let z = d .ends in
       link-frame t (l .count) (l .len) b few small linked-in ∙ ap (drop END) copy-is ∙ drop-sets w (l .len) (edgeBytes e) END (omega arith)
 
-  pub copy-into : AddingIs l es e (Into b) → Holds u (record { count = l .count + 1; len = l .len + (to - at); full = false }) (add es e)
+  pub copy-into : AddingIs l es e (Into b) → Holds u (record { count = l .count + 1; len = l .len + (to - at) }) (add es e)
   unfolding AddingIs
   copy-into a =
       let r = q .room in

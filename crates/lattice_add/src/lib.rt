@@ -48,17 +48,12 @@ pub fn add_edge(w: &mut [u8], l: Lattice, n: usize, to: usize) -> Lattice
     let len = l.len;
     match lattice_find::how_to_add(w, l, w, len, n, to) {
         Adding::Nothing => l,
-        Adding::TooMuch => Lattice {
-            count,
-            len,
-            full: true,
-        },
+        Adding::TooMuch => Lattice { count, len: 0 },
         Adding::Into(bucket) => {
             link(w, count, len, bucket);
             Lattice {
                 count: count + 1,
                 len: to,
-                full: false,
             }
         }
     }
@@ -73,18 +68,13 @@ pub fn add_given(w: &mut [u8], l: Lattice, s: &[u8], at: usize, to: usize) -> La
     let len = l.len;
     match lattice_find::how_to_add(w, l, s, at, to - at - 2, to) {
         Adding::Nothing => l,
-        Adding::TooMuch => Lattice {
-            count,
-            len,
-            full: true,
-        },
+        Adding::TooMuch => Lattice { count, len: 0 },
         Adding::Into(bucket) => {
             fields_copy::copy_in(w, len, &s[at..to]);
             link(w, count, len, bucket);
             Lattice {
                 count: count + 1,
                 len: len + (to - at),
-                full: false,
             }
         }
     }

@@ -55,13 +55,13 @@ no-edges : 2 ≡ length (listingBytes [])
 unfolding listingBytes edgesBytes bytesOf
 no-edges = refl
 
-pub all-cleared : (w₀ w : List ℕ) (b : ℕ) → Cleared w₀ w b → 256 ≤ b → END ≤ length w → Holds w (record { count = 0; len = 2; full = false }) []
+pub all-cleared : (w₀ w : List ℕ) (b : ℕ) → Cleared w₀ w b → 256 ≤ b → END ≤ length w → Holds w (record { count = 0; len = 2 }) []
 unfolding edgesBytes lastIn part
 all-cleared w₀ w b q k r = record {
   room = r;
   short = omega arith;
   state = inr (
-    refl,
+    λ h. absurd (omega arith),
     record {
       room = r;
       count = refl;

@@ -22,11 +22,7 @@ pub fn empty(w: &mut [u8]) -> Lattice
         fields_write::put_u16(w, HEADS + 2 * b, 0);
         b += 1;
     }
-    Lattice {
-        count: 0,
-        len: 2,
-        full: false,
-    }
+    Lattice { count: 0, len: 2 }
 }
 
 // The listing goes to the output, or is refused: the output is then as it was.
@@ -36,7 +32,7 @@ pub fn finish(w: &[u8], l: Lattice, out: &mut [u8]) -> Finished
     ensures output { λ _. ⌜ ((es : List Edge) → Holds (now (w .entry)) l es → now (out .exit) ≡ finishedOut (now (out .entry)) es) ⌝ }
 {
     let len = l.len;
-    if l.full {
+    if l.len == 0 {
         return Finished::TooLong;
     }
     if out.len() < len {

@@ -87,7 +87,7 @@ has-some (e ∷ es) c zero h p = rw p
 has-some (e ∷ es) c (suc i) h p = rw (has-some es c i (omega arith) p) (or-true (sameKey e c))
 
 -- ---- what is to be done with an edge
-module _ {w : List ℕ} {l : Lattice} {es : List Edge} (q : Holds w l es) (e : Edge) (f : l .full ≡ false) (h : has es e ≡ false) where
+module _ {w : List ℕ} {l : Lattice} {es : List Edge} (q : Holds w l es) (e : Edge) (f : (l .len ≡ 0 → ⊥)) (h : has es e ≡ false) where
   pub too-many : 1024 ≤ l .count → AddingIs l es e TooMuch
   unfolding AddingIs
   too-many x = let k = kept-of q f .count in let d = length-snoc es e in (f, h, over-many (es ++ (e ∷ [])) (omega arith))

@@ -83,7 +83,7 @@ pub fn how_to_add(w: &[u8], l: Lattice, s: &[u8], at: usize, n: usize, to: usize
     requires { ⌜ ((es : List Edge) × Holds (now w) l es) × ((e : Edge) × Stands (now s) at n to e) ⌝ }
     ensures { λ r. ⌜ ((es : List Edge) (e : Edge) → Holds (now (w .entry)) l es → Stands (now (s .entry)) at n to e → AddingIs l es e r) ⌝ }
 {
-    if l.full {
+    if l.len == 0 {
         return Adding::Nothing;
     }
     let key = at + 2;

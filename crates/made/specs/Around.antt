@@ -23,7 +23,7 @@ use Rattle.stages.specs.CallEdge.{CallEdges}
 pub record Keeps (w : List ℕ) (l : Lattice) (es : List Edge) : Type 0 where
   pub chars : ℕ
   pub few : chars ≤ 256
-  pub not-full : l .full ≡ false
+  pub not-full : (l .len ≡ 0 → ⊥)
   pub holds : Holds w l es
   pub edges : CallEdges chars es
 

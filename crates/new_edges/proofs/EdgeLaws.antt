@@ -50,7 +50,7 @@ only-some true p = (refl, some-inj p)
 only-some false p = absurd (none-some p)
 
 -- ---- the head of an edge
-module _ {n : ℕ} {w : List ℕ} {l : Lattice} {es : List Edge} (h : Has n w l es) (f : l .full ≡ false) where
+module _ {n : ℕ} {w : List ℕ} {l : Lattice} {es : List Edge} (h : Has n w l es) (f : (l .len ≡ 0 → ⊥)) where
   pub count-of : l .count ≡ length es
   count-of = sym (kept-of (h .holds) f .count)
 

@@ -74,7 +74,7 @@ module _ {w : List ℕ} {l : Lattice} (es : List Edge) (p : ℕ) (c : Choice) wh
   makes-nothing x y z h = rw (ne-eqb (c .form) 1 x, ne-eqb (c .form) 2 y, ne-eqb (c .form) 3 z) h
 
 -- a lattice that is full holds whatever is added
-pub full-stays : {w : List ℕ} {l : Lattice} {es : List Edge} → Holds w l es → l .full ≡ true → (m : Made) → Holds w l (addMade es m)
+pub full-stays : {w : List ℕ} {l : Lattice} {es : List Edge} → Holds w l es → l .len ≡ 0 → (m : Made) → Holds w l (addMade es m)
 unfolding AddingIs
 full-stays q f (made e is) = add-nothing q e (inl f)
 full-stays q f nothing = q

@@ -80,7 +80,7 @@ fn copy_script(buf: &mut [u8; 300], w: &[u8], map: u16, at: usize) -> Script
 
 // The head of the i-th edge.
 fn head_of(w: &[u8], l: Lattice, i: usize) -> EdgeView
-    requires { ⌜ ((n : ℕ) × ((es : List Edge) × Has n (now w) l es)) × (l .full ≡ false) × (i < l .count) ⌝ }
+    requires { ⌜ ((n : ℕ) × ((es : List Edge) × Has n (now w) l es)) × (l .len ≡ 0 → ⊥) × (i < l .count) ⌝ }
     ensures { λ r. ⌜ ((n : ℕ) (es : List Edge) → Has n (now (w .entry)) l es → HeadIs (now (w .entry)) (getD es i noEdge) r) ⌝ }
 {
     let at = lattice::offset_at(w, l, i);
@@ -89,7 +89,7 @@ fn head_of(w: &[u8], l: Lattice, i: usize) -> EdgeView
 
 // The value of the i-th edge, which has one.
 fn value_of(w: &[u8], l: Lattice, i: usize) -> u64
-    requires { ⌜ ((n : ℕ) × ((es : List Edge) × Has n (now w) l es × HasValue (getD es i noEdge))) × (l .full ≡ false) × (i < l .count) ⌝ }
+    requires { ⌜ ((n : ℕ) × ((es : List Edge) × Has n (now w) l es × HasValue (getD es i noEdge))) × (l .len ≡ 0 → ⊥) × (i < l .count) ⌝ }
     ensures { λ r. ⌜ ((n : ℕ) (es : List Edge) → Has n (now (w .entry)) l es → HasValue (getD es i noEdge) → r ≡ valueOr (getD es i noEdge)) ⌝ }
 {
     let e = head_of(w, l, i);
@@ -101,7 +101,7 @@ fn value_of(w: &[u8], l: Lattice, i: usize) -> u64
 
 // "right%" over all three.
 fn add_percent(w: &mut [u8], l: Lattice, left: usize, right: usize) -> Lattice
-    requires { ⌜ ((n : ℕ) × ((es : List Edge) × Has n (now w) l es × Two es left right)) × (l .full ≡ false) ⌝ }
+    requires { ⌜ ((n : ℕ) × ((es : List Edge) × Has n (now w) l es × Two es left right)) × (l .len ≡ 0 → ⊥) ⌝ }
     ensures { λ r. ⌜ (drop 39424 (now (w .exit)) ≡ drop 39424 (now (w .entry))) × ((n : ℕ) (es : List Edge) → Has n (now (w .entry)) l es → Two es left right → Holds (now (w .exit)) r (add es (percentOf es left right))) ⌝ }
 {
     let a = head_of(w, l, left);
@@ -114,7 +114,7 @@ fn add_percent(w: &mut [u8], l: Lattice, left: usize, right: usize) -> Lattice
 
 // The right edge's txt and "%", from a place on.
 fn add_txt_percent(w: &mut [u8], l: Lattice, p: Place, right: usize) -> Lattice
-    requires { ⌜ ((n : ℕ) × ((es : List Edge) × Has n (now w) l es × One es right)) × (l .full ≡ false) × (p .0 < 65536) ⌝ }
+    requires { ⌜ ((n : ℕ) × ((es : List Edge) × Has n (now w) l es × One es right)) × (l .len ≡ 0 → ⊥) × (p .0 < 65536) ⌝ }
     ensures { λ r. ⌜ (drop 39424 (now (w .exit)) ≡ drop 39424 (now (w .entry))) × ((n : ℕ) (es : List Edge) → Has n (now (w .entry)) l es → One es right → Holds (now (w .exit)) r (add es (txtPercentOf es (p .0) right))) ⌝ }
 {
     let b = head_of(w, l, right);
@@ -173,7 +173,7 @@ fn add_composed(
 
 // "right/left" over all three.
 fn add_fraction(w: &mut [u8], l: Lattice, left: usize, right: usize) -> Lattice
-    requires { ⌜ ((n : ℕ) × ((es : List Edge) × Has n (now w) l es × Two es left right × (0 < valueOr (getD es left noEdge)))) × (l .full ≡ false) ⌝ }
+    requires { ⌜ ((n : ℕ) × ((es : List Edge) × Has n (now w) l es × Two es left right × (0 < valueOr (getD es left noEdge)))) × (l .len ≡ 0 → ⊥) ⌝ }
     ensures { λ r. ⌜ (drop 39424 (now (w .exit)) ≡ drop 39424 (now (w .entry))) × ((n : ℕ) (es : List Edge) → Has n (now (w .entry)) l es → Two es left right → Holds (now (w .exit)) r (add es (fractionOf es left right))) ⌝ }
 {
     let a = head_of(w, l, left);
@@ -193,7 +193,7 @@ pub fn add_choice(w: &mut [u8], l: Lattice, p: usize, c: Choice) -> Lattice
     requires { ⌜ ((n : ℕ) × ((es : List Edge) × Over n (now w) l es c)) × (p < 65536) ⌝ }
     ensures { λ r. ⌜ (drop 39424 (now (w .exit)) ≡ drop 39424 (now (w .entry))) × ((n : ℕ) (es : List Edge) → Over n (now (w .entry)) l es c → Holds (now (w .exit)) r (addMade es (madeOf es p c))) ⌝ }
 {
-    if l.full {
+    if l.len == 0 {
         return l;
     }
     let left = c.left;

@@ -100,15 +100,15 @@ edge-short e c t = go (e .num) refl t
         omega arith
 
 -- ---- the i-th edge of the lattice; behind the last one the listing ends
-pub last-ends : {w : List ℕ} {l : Lattice} {es : List Edge} → Holds w l es → l .full ≡ false → (i : ℕ) → l .count ≤ i → l .len ≡ offset es i
+pub last-ends : {w : List ℕ} {l : Lattice} {es : List Edge} → Holds w l es → (l .len ≡ 0 → ⊥) → (i : ℕ) → l .count ≤ i → l .len ≡ offset es i
 unfolding offset
 last-ends {es = es} q f i h = let k = kept-of q f in let c = k .count in rw (take-all i es (omega arith)) (kept-size k)
 
 module _ {w : List ℕ} {l : Lattice} {es : List Edge} (q : Holds w l es) (i : ℕ) (in-list : i < length es) where
-  pub counted : l .full ≡ false → i < l .count
+  pub counted : (l .len ≡ 0 → ⊥) → i < l .count
   counted f = let k = kept-of q f .count in omega arith
 
-  module _ (f : l .full ≡ false) {n : ℕ} (call : CallEdge n (getD es i noEdge)) {at : ℕ} (here : at ≡ offset es i) where
+  module _ (f : (l .len ≡ 0 → ⊥)) {n : ℕ} (call : CallEdge n (getD es i noEdge)) {at : ℕ} (here : at ≡ offset es i) where
     edge-is : edgeAt w at ≡ getD es i noEdge
     edge-is = ap (edgeAt w) here ∙ edge-of-one q f i (counted f) (call .legal) .is
 
@@ -154,18 +154,18 @@ over-apart marks es i h = go (apartBy marks (getD es i noEdge))
     go true = over-turned (add es (copyOf (getD es i noEdge))) i (over-add es (copyOf (getD es i noEdge)) h)
     go false = h
 
-pub full-apart : {w : List ℕ} {l : Lattice} {es : List Edge} (marks : List Bool) (i : ℕ) → l .full ≡ true → Holds w l es → Holds w l (setApart marks es i)
+pub full-apart : {w : List ℕ} {l : Lattice} {es : List Edge} (marks : List Bool) (i : ℕ) → l .len ≡ 0 → Holds w l es → Holds w l (setApart marks es i)
 full-apart {es = es} marks i f q = holds-full q f (over-apart marks es i (over-of q f))
 
 -- the copy was added, and the lattice became full
-pub full-turned : {w : List ℕ} {l : Lattice} {es : List Edge} (i : ℕ) → l .full ≡ true → Holds w l es → Holds w l (turnOffAt es i)
+pub full-turned : {w : List ℕ} {l : Lattice} {es : List Edge} (i : ℕ) → l .len ≡ 0 → Holds w l es → Holds w l (turnOffAt es i)
 full-turned {es = es} i f q = holds-full q f (over-turned es i (over-of q f))
 
-pub still-counted : {w : List ℕ} {l : Lattice} (es : List Edge) (c : Edge) (i : ℕ) → i < length es → l .full ≡ false → Holds w l (add es c) → i < l .count
+pub still-counted : {w : List ℕ} {l : Lattice} (es : List Edge) (c : Edge) (i : ℕ) → i < length es → (l .len ≡ 0 → ⊥) → Holds w l (add es c) → i < l .count
 still-counted es c i h f q = let k = kept-of q f .count in let m = length-add es c in omega arith
 
 -- the whole of F1 on a lattice that is full
-pub full-separate : {w : List ℕ} {l : Lattice} {es : List Edge} → l .full ≡ true → Holds w l es → Holds w l (separate es)
+pub full-separate : {w : List ℕ} {l : Lattice} {es : List Edge} → l .len ≡ 0 → Holds w l es → Holds w l (separate es)
 unfolding separate
 full-separate {es = es} f q = holds-full q f (over-add-all _ (copies es es) (over-map-inactive (apart es) es ∙ over-of q f))
 

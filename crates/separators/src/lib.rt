@@ -35,7 +35,7 @@ fn mark(s: &[u8], at: usize, marks: &mut [bool; 257])
 
 // The marks of all places where an edge ends whose txt ends with a digit. One walk over the lattice.
 fn mark_ends(w: &[u8], l: Lattice, marks: &mut [bool; 257])
-    requires { ⌜ (l .full ≡ false) × ((n : ℕ) × (n ≤ 256) × ((es : List Edge) × Holds (now w) l es × Legals n es)) × (now marks ≡ replicate 257 false) ⌝ }
+    requires { ⌜ (l .len ≡ 0 → ⊥) × ((n : ℕ) × (n ≤ 256) × ((es : List Edge) × Holds (now w) l es × Legals n es)) × (now marks ≡ replicate 257 false) ⌝ }
     ensures { λ _. ⌜ ((n : ℕ) (es : List Edge) → n ≤ 256 → Holds (now (w .entry)) l es → Legals n es → (p : ℕ) → p < 257 → getD (now (marks .exit)) p false ≡ digitEnds es p) ⌝ }
 {
     let count = l.count;
@@ -81,7 +81,7 @@ fn add_separated(w: &mut [u8], l: Lattice, at: usize, next: usize) -> Lattice
 
 // Where the i-th edge ends: where the next one begins, or the listing ends.
 fn end_of(w: &[u8], l: Lattice, i: usize) -> usize
-    requires { ⌜ ((es : List Edge) × Holds (now w) l es) × (l .full ≡ false) × (i < l .count) ⌝ }
+    requires { ⌜ ((es : List Edge) × Holds (now w) l es) × (l .len ≡ 0 → ⊥) × (i < l .count) ⌝ }
     ensures { λ r. ⌜ ((es : List Edge) → Holds (now (w .entry)) l es → r ≡ offset es (i + 1)) ⌝ }
 {
     if i + 1 < l.count {
@@ -95,7 +95,7 @@ fn set_apart(w: &mut [u8], l: Lattice, i: usize, marks: &[bool; 257]) -> Lattice
     requires { ⌜ ((n : ℕ) × (n ≤ 256) × ((es : List Edge) × Holds (now w) l es × (i < length es) × CallEdge n (getD es i noEdge))) ⌝ }
     ensures { λ r. ⌜ (drop 39424 (now (w .exit)) ≡ drop 39424 (now (w .entry))) × ((n : ℕ) (es : List Edge) → n ≤ 256 → Holds (now (w .entry)) l es → i < length es → CallEdge n (getD es i noEdge) → Holds (now (w .exit)) r (setApart (now (marks .entry)) es i)) ⌝ }
 {
-    if l.full {
+    if l.len == 0 {
         return l;
     }
     let at = lattice::offset_at(w, l, i);
@@ -104,7 +104,7 @@ fn set_apart(w: &mut [u8], l: Lattice, i: usize, marks: &[bool; 257]) -> Lattice
     }
     let next = end_of(w, l, i);
     let added = add_separated(w, l, at, next);
-    if added.full {
+    if added.len == 0 {
         return added;
     }
     lattice::turn_off(w, added, i);
@@ -131,7 +131,7 @@ pub fn separate(w: &mut [u8], l: Lattice) -> Lattice
     requires { ⌜ ((n : ℕ) × (n ≤ 256) × ((es : List Edge) × Holds (now w) l es × CallEdges n es)) ⌝ }
     ensures { λ r. ⌜ (drop 39424 (now (w .exit)) ≡ drop 39424 (now (w .entry))) × ((n : ℕ) (es : List Edge) → n ≤ 256 → Holds (now (w .entry)) l es → CallEdges n es → Holds (now (w .exit)) r (separate es)) ⌝ }
 {
-    if l.full {
+    if l.len == 0 {
         return l;
     }
     let mut marks = [false; 257];

@@ -16,7 +16,7 @@ use Rattle.lattice.proofs.HoldsLaws.{over-add}
 use Rattle.lattice.proofs.TurnOffLaws.{inactive-length, length-turned, turned-size}
 
 -- ---- a full lattice stands for every list that is over
-pub holds-full : {w : List ℕ} {l : Lattice} {es fs : List Edge} → Holds w l es → l .full ≡ true → overfull fs ≡ true → Holds w l fs
+pub holds-full : {w : List ℕ} {l : Lattice} {es fs : List Edge} → Holds w l es → l .len ≡ 0 → overfull fs ≡ true → Holds w l fs
 holds-full q f o = record { room = q .room; short = q .short; state = inl (f, o) }
 
 -- ---- edges added

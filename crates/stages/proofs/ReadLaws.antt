@@ -45,7 +45,7 @@ pub record EdgeThere (n : ℕ) (w : List ℕ) (len : ℕ) (es : List Edge) (i : 
   pub legal : Legal false n (getD es i noEdge)
 
 -- of a lattice of which only this edge is known to be legal
-pub edge-of-one : {n : ℕ} {w : List ℕ} {l : Lattice} {es : List Edge} → Holds w l es → l .full ≡ false → (i : ℕ) → i < l .count → Legal false n (getD es i noEdge) → EdgeThere n w (l .len) es i
+pub edge-of-one : {n : ℕ} {w : List ℕ} {l : Lattice} {es : List Edge} → Holds w l es → (l .len ≡ 0 → ⊥) → (i : ℕ) → i < l .count → Legal false n (getD es i noEdge) → EdgeThere n w (l .len) es i
 edge-of-one {w = w} {l} {es} q f i x legal =
     let k = kept-of q f in
     let c : i < length es = let z = k .count in omega arith in
@@ -55,5 +55,5 @@ edge-of-one {w = w} {l} {es} q f i x legal =
     let y = offset-in k i x in
     record { is = r .is; map = r .map; next = omega arith; inside = omega arith; fits = legal .fits; legal = legal }
 
-pub edge-of : {n : ℕ} {w : List ℕ} {l : Lattice} {es : List Edge} → Holds w l es → l .full ≡ false → Legals n es → (i : ℕ) → i < l .count → EdgeThere n w (l .len) es i
+pub edge-of : {n : ℕ} {w : List ℕ} {l : Lattice} {es : List Edge} → Holds w l es → (l .len ≡ 0 → ⊥) → Legals n es → (i : ℕ) → i < l .count → EdgeThere n w (l .len) es i
 edge-of {l = l} {es} q f legals i x = edge-of-one q f i x (every-at noEdge legals (let z = kept-of q f .count in omega arith))

@@ -48,7 +48,7 @@ pub formed-append : (s t : List ℕ) → wellFormed s ≡ true → wellFormed t 
 formed-append s t h k = ap isNil (left-append s h t) ∙ k
 
 -- ---- the i-th edge of a lattice that is not full
-module _ {w : List ℕ} {l : Lattice} {es : List Edge} (q : Holds w l es) (f : l .full ≡ false) (i : ℕ) (x : i < l .count) {at : ℕ} (here : at ≡ offset es i) {n : ℕ} where
+module _ {w : List ℕ} {l : Lattice} {es : List Edge} (q : Holds w l es) (f : (l .len ≡ 0 → ⊥)) (i : ℕ) (x : i < l .count) {at : ℕ} (here : at ≡ offset es i) {n : ℕ} where
   -- of a lattice of which only this edge is known to be legal
   pub one-spanned : Legal false n (getD es i noEdge) → n ≤ 256 → Spanned 256 w at
   one-spanned legal few =

@@ -11,7 +11,7 @@ returns c = (refl, λ es q d. full-add-all es _ (c .if1 .taken) q)
 
 mark-covered-requires : tie.Need-mark-covered-requires
 mark-covered-requires c κs = let e = c .before .before in
-    let p = e .before .before .before .pre in
+    let p = e .before .before .before .before .pre in
     (e .if1 .left, (_, p .2, (p .3 .0, p .3 .1, p .3 .2)), refl)
 
 add-unmarked-requires : tie.Need-add-unmarked-requires
@@ -24,7 +24,7 @@ returns-2 : tie.Need-returns-2
 returns-2 c = let a = c .before .before in
     let m = a .before .before .before in
     let e = m .before .before .before in
-    let p = e .before .before .before .pre in
+    let p = e .before .before .before .before .pre in
     (a .add-unmarked .ensures .0, λ es q d. marks-add es (m .mark-covered .last .1 .1 .0) _ (m .mark-covered .ensures _ es (p .2) q d) (omega (arith, p .1, p .2)) (a .add-unmarked .ensures .1 es q))
 
 pub fallback-spec : {M : Type 1} → statement M

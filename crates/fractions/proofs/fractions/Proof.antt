@@ -15,9 +15,9 @@ use Rattle.fractions.proofs.fractions.Statement.{statement}
 use Rattle.fractions.proofs.fractions.Tie as tie
 
 abbrev start : tie.After-choose → tie.Start
-start c = c .before .before .before .before .before .before .before .before .before .before .before
+start c = c .before .before .before .before .before .before .before .before .before .before .before .before
 
-no-full : (c : tie.After-choose) → start c .args .l .full ≡ false
+no-full : (c : tie.After-choose) → start c .args .l .len ≡ 0 → ⊥
 no-full c = c .before .before .before .before .before .before .before .if1 .left
 
 decided : (c : tie.After-choose) {es : List Edge} → Holds (start c .args .w .now) (start c .args .l) es → CallEdges (start c .args .n) es
@@ -25,20 +25,20 @@ decided : (c : tie.After-choose) {es : List Edge} → Holds (start c .args .w .n
 decided c h k = c .choose .ensures _ (keeps-of (start c .pre .0 .few) (no-full c) h k)
 
 returns : tie.Need-returns
-returns c = let s = c .before .before .before .before in (refl, λ es h k. full-stage (tableOf (s .args .table .now) (s .args .h)) (chars (s .args .line .now)) h (c .if1 .taken))
+returns c = let s = c .before .before .before .before .before in (refl, λ es h k. full-stage (tableOf (s .args .table .now) (s .args .h)) (chars (s .args .line .now)) h (c .if1 .taken))
 
 any-marker-requires : tie.Need-any-marker-requires
-any-marker-requires c κs = let p = c .before .before .before .before .pre in (p .0, p .2)
+any-marker-requires c κs = let p = c .before .before .before .before .before .pre in (p .0, p .2)
 
 returns-2 : tie.Need-returns-2
 returns-2 c =
     let a = c .before in
-    let s = a .before .before .before .before .before in
+    let s = a .before .before .before .before .before .before in
     let e = sym (a .any-marker .ensures) ∙ not-true _ (c .if2 .taken) in
     (refl, λ es h k. subst (Holds (s .args .w .now) (s .args .l)) (no-marker-stage (tableOf (s .args .table .now) (s .args .h)) (chars (s .args .line .now)) es e) h)
 
 choose-requires : tie.Need-choose-requires
-choose-requires c κs = let e = c .before .before .before .before .before .before in let p = e .before .before .before .before .pre in (p .0, p .2, (p .1 .0, keeps-of (p .0 .few) (e .if1 .left) (p .1 .1) (p .1 .2)), refl, refl, refl)
+choose-requires c κs = let e = c .before .before .before .before .before .before in let p = e .before .before .before .before .before .pre in (p .0, p .2, (p .1 .0, keeps-of (p .0 .few) (e .if1 .left) (p .1 .1) (p .1 .2)), refl, refl, refl)
 
 turn-off-all-requires : tie.Need-turn-off-all-requires
 turn-off-all-requires c κs = let g = c .before .before .before .before in let p = start g .pre in ((p .1 .0, p .1 .1, λ q h. decided g (p .1 .1) (p .1 .2) q h .1), no-full g, p .0 .few)

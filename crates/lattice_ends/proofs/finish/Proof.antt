@@ -9,15 +9,15 @@ use Rattle.lattice_ends.proofs.finish.Statement.{statement}
 use Rattle.lattice_ends.proofs.finish.Tie as tie
 
 returns : tie.Need-returns
-returns c = let out = c .before .before .before .args .out .now in
+returns c = let out = c .before .before .before .before .args .out .now in
     (λ es q. full-refused q out (c .if1 .taken) .0, λ es q. full-refused q out (c .if1 .taken) .1)
 
 returns-2 : tie.Need-returns-2
-returns-2 c = let out = c .before .before .before .before .args .out .now in
+returns-2 c = let out = c .before .before .before .before .before .args .out .now in
     (λ es q. short-refused q out (c .before .if1 .left) (c .if2 .taken) .0, λ es q. short-refused q out (c .before .if1 .left) (c .if2 .taken) .1)
 
 slice-aggregate-copy-in : tie.Need-slice-aggregate-copy-in
-slice-aggregate-copy-in c = let h = c .before .before .before .before .before .before .pre .1 in let r = h .room in let l = h .short in sym (length-take-le _ _ (omega arith))
+slice-aggregate-copy-in c = let h = c .before .before .before .before .before .before .before .pre .1 in let r = h .room in let l = h .short in sym (length-take-le _ _ (omega arith))
 
 copy-in-requires : tie.Need-copy-in-requires
 copy-in-requires c κs = let x = c .before .before .if2 .left in simp length-take (omega arith)

@@ -15,7 +15,7 @@ use Rattle.lattice_find.proofs.how_to_add.Statement.{statement}
 use Rattle.lattice_find.proofs.how_to_add.Tie as tie
 
 abbrev start : tie.After-bucket-of → tie.Start
-start c = c .before .before .before .before
+start c = c .before .before .before .before .before
 
 abbrev H : tie.Start → List Edge → Type 0
 H s es = Holds (s .args .w .now) (s .args .l) es
@@ -40,7 +40,7 @@ add-key : tie.Need-add-key
 add-key c = search needs
 
 bucket-of-requires : tie.Need-bucket-of-requires
-bucket-of-requires c κs = let d = c .before .before .before .pre .1 in let k = stands-keyed _ _ _ _ _ (d .1) .inside in let n = d .1 .keyed in let l = length-key (d .0) in (omega arith, omega arith)
+bucket-of-requires c κs = let d = c .before .before .before .before .pre .1 in let k = stands-keyed _ _ _ _ _ (d .1) .inside in let n = d .1 .keyed in let l = length-key (d .0) in (omega arith, omega arith)
 
 has-key-requires : tie.Need-has-key-requires
 has-key-requires c κs = let p = start c .pre in asked c _ _ (p .0 .1) (p .1 .1)

@@ -6,10 +6,10 @@ use Rattle.new_edges.proofs.add_choice.Statement.{statement}
 use Rattle.new_edges.proofs.add_choice.Tie as tie
 
 returns : tie.Need-returns
-returns c = let s = c .before .before in (refl, λ n es o. full-stays (o .has .holds) (c .if1 .taken) (madeOf es (s .args .p) (s .args .c)))
+returns c = let s = c .before .before .before in (refl, λ n es o. full-stays (o .has .holds) (c .if1 .taken) (madeOf es (s .args .p) (s .args .c)))
 
 add-percent-requires : tie.Need-add-percent-requires
-add-percent-requires c κs = let s = c .before .before .before .before .before in let o = s .pre .0 .1 .1 in ((s .pre .0 .0, (s .pre .0 .1 .0, o .has, o .valid .percent (c .before .if2 .taken))), c .before .before .before .if1 .left)
+add-percent-requires c κs = let s = c .before .before .before .before .before .before in let o = s .pre .0 .1 .1 in ((s .pre .0 .0, (s .pre .0 .1 .0, o .has, o .valid .percent (c .before .if2 .taken))), c .before .before .before .if1 .left)
 
 same-length : tie.Need-same-length
 same-length c = c .before .before .add-percent .kept .0
@@ -21,7 +21,7 @@ returns-2 c =
     (g .add-percent .ensures .0, λ n es o. makes-percent es _ _ f (g .add-percent .ensures .1 n es (o .has) (o .valid .percent f)))
 
 add-fraction-requires : tie.Need-add-fraction-requires
-add-fraction-requires c κs = let s = c .before .before .before .before .before .before .before in let o = s .pre .0 .1 .1 in let f = c .before .if3 .taken in ((s .pre .0 .0, (s .pre .0 .1 .0, o .has, o .valid .fraction f, o .valid .not-zero f)), c .before .before .before .before .before .if1 .left)
+add-fraction-requires c κs = let s = c .before .before .before .before .before .before .before .before in let o = s .pre .0 .1 .1 in let f = c .before .if3 .taken in ((s .pre .0 .0, (s .pre .0 .1 .0, o .has, o .valid .fraction f, o .valid .not-zero f)), c .before .before .before .before .before .if1 .left)
 
 same-length-2 : tie.Need-same-length-2
 same-length-2 c = c .before .before .add-fraction .kept .0
@@ -33,7 +33,7 @@ returns-3 c =
     (g .add-fraction .ensures .0, λ n es o. makes-fraction es _ _ f (g .add-fraction .ensures .1 n es (o .has) (o .valid .fraction f)))
 
 add-txt-percent-requires : tie.Need-add-txt-percent-requires
-add-txt-percent-requires c κs = let s = c .before .before .before .before .before .before .before .before .before in let o = s .pre .0 .1 .1 in let f = c .before .if4 .taken in ((s .pre .0 .0, (s .pre .0 .1 .0, o .has, o .valid .txt f)), c .before .before .before .before .before .before .before .if1 .left, s .pre .1)
+add-txt-percent-requires c κs = let s = c .before .before .before .before .before .before .before .before .before .before in let o = s .pre .0 .1 .1 in let f = c .before .if4 .taken in ((s .pre .0 .0, (s .pre .0 .1 .0, o .has, o .valid .txt f)), c .before .before .before .before .before .before .before .if1 .left, s .pre .1)
 
 same-length-3 : tie.Need-same-length-3
 same-length-3 c = c .before .before .add-txt-percent .kept .0

@@ -16,14 +16,14 @@ returns c = (refl, λ n es few q d. full-separate (c .if1 .taken) q)
 mark-ends-requires : tie.Need-mark-ends-requires
 mark-ends-requires c κs =
     let e = c .before .before in
-    let p = e .before .before .pre in
+    let p = e .before .before .before .pre in
     (e .if1 .left, (p .0, p .1, (p .2 .0, p .2 .1, call-legals (p .2 .2))), refl)
 
 set-all-apart-requires : tie.Need-set-all-apart-requires
 set-all-apart-requires c κs =
     let m = c .before .before in
     let e = m .before .before .before in
-    let p = e .before .before .pre in
+    let p = e .before .before .before .pre in
     (p .0, p .1, (p .2 .0, p .2 .1, kept-of (p .2 .1) (e .if1 .left) .count, p .2 .2))
 
 same-length : tie.Need-same-length

@@ -21,7 +21,7 @@ abbrev left : tie.After-is-apart → tie.Else1
 left c = c .before .before .before .before
 
 abbrev start : tie.After-is-apart → tie.Start
-start c = left c .before .before
+start c = left c .before .before .before
 
 abbrev ended : tie.After-add-separated → tie.After-end-of
 ended c = c .before .before
@@ -52,10 +52,10 @@ returns : tie.Need-returns
 returns c = (refl, λ n es few q x call. full-apart _ _ (c .if1 .taken) q)
 
 offset-at-requires : tie.Need-offset-at-requires
-offset-at-requires c κs = let e = c .before in let p = e .before .before .pre in ((p .2 .0, p .2 .1), e .if1 .left, counted (p .2 .1) _ (p .2 .2) (e .if1 .left))
+offset-at-requires c κs = let e = c .before in let p = e .before .before .before .pre in ((p .2 .0, p .2 .1), e .if1 .left, counted (p .2 .1) _ (p .2 .2) (e .if1 .left))
 
 is-apart-requires : tie.Need-is-apart-requires
-is-apart-requires c κs = let o = c .before in let e = o .before .before in let p = e .before .before .pre in edge-spanned (p .2 .1) _ (p .2 .2) (e .if1 .left) (p .2 .3) (o .offset-at .ensures (p .2 .0) (p .2 .1)) (p .1)
+is-apart-requires c κs = let o = c .before in let e = o .before .before in let p = e .before .before .before .pre in edge-spanned (p .2 .1) _ (p .2 .2) (e .if1 .left) (p .2 .3) (o .offset-at .ensures (p .2 .0) (p .2 .1)) (p .1)
 
 same-length : tie.Need-same-length
 same-length c = search needs
@@ -67,7 +67,7 @@ returns-2 c =
     (refl, λ n es few q x call. not-apart q _ x (left k .if1 .left) call (o .offset-at .ensures es q) (start k .args .marks .now) (k .is-apart .ensures) (not-true _ (c .if2 .taken)))
 
 end-of-requires : tie.Need-end-of-requires
-end-of-requires c κs = let e = left (c .before .before) in let p = e .before .before .pre in ((p .2 .0, p .2 .1), e .if1 .left, counted (p .2 .1) _ (p .2 .2) (e .if1 .left))
+end-of-requires c κs = let e = left (c .before .before) in let p = e .before .before .before .pre in ((p .2 .0, p .2 .1), e .if1 .left, counted (p .2 .1) _ (p .2 .2) (e .if1 .left))
 
 add-separated-requires : tie.Need-add-separated-requires
 add-separated-requires c κs =
@@ -83,13 +83,13 @@ same-length-2 c = search needs
 
 returns-3 : tie.Need-returns-3
 returns-3 c =
-    let a = c .before .before .before in
+    let a = c .before .before .before .before in
     (a .add-separated .ensures .0, λ n es few q x call. turned a (a .add-separated .last .0) (a .add-separated .result) n es q x call (full-turned _ (c .if3 .taken) (added a n es q x call)))
 
 turn-off-requires : tie.Need-turn-off-requires
 turn-off-requires c κs =
     let e = c .before in
-    let a = e .before .before .before in
+    let a = e .before .before .before .before in
     let p = start (looked a) .pre in
     let h = added a _ (p .2 .0) (p .2 .1) (p .2 .2) (p .2 .3) in
     ((_, h), e .if3 .left, still-counted (p .2 .0) _ _ (p .2 .2) (e .if3 .left) h)
@@ -100,7 +100,7 @@ same-length-3 c = search needs
 returns-4 : tie.Need-returns-4
 returns-4 c =
     let f = c .before .before in
-    let a = f .before .before .before .before .before in (
+    let a = f .before .before .before .before .before .before in (
       f .turn-off .ensures .0 ∙ a .add-separated .ensures .0,
       λ n es few q x call. turned a (f .turn-off .last .0) (a .add-separated .result) n es q x call (f .turn-off .ensures .1 _ (added a n es q x call)),
     )
