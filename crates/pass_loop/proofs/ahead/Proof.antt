@@ -1,17 +1,16 @@
 -- `ahead` meets its contract. Assumes nothing.
 use Rattle.pass_loop.proofs.FilterLaws.{answer-ends}
-use borrow.Author.Needs.{needs}
 use Rattle.pass_loop.proofs.ahead.Statement.{statement}
 use Rattle.pass_loop.proofs.ahead.Tie as tie
 
 may-take-requires : tie.Need-may-take-requires
-may-take-requires c κs = search needs
+may-take-requires c κs = c .before .pre .1
 
 get-requires : tie.Need-get-requires
-get-requires c κs = search needs
+get-requires c κs = let p = c .before .before .before .pre in (p .1, p .2)
 
 next-requires : tie.Need-next-requires
-next-requires c κs = search needs
+next-requires c κs = (c .before .before .before .before .pre .0, (_, c .get .ensures))
 
 returns : tie.Need-returns
 returns c x e = c .next .ensures x _ e (c .before .get .ensures)

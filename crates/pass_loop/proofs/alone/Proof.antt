@@ -3,24 +3,23 @@ use native.Mathlib.Omega.{arith}
 use borrow.Author.Tests.{not-true}
 use Rattle.pass_loop.proofs.FilterLaws.{next-none}
 use Rattle.pass_loop.proofs.RunLaws.{first-alone}
-use borrow.Author.Needs.{needs}
 use Rattle.pass_loop.proofs.alone.Statement.{statement}
 use Rattle.pass_loop.proofs.alone.Tie as tie
 
 add-if1 : tie.Need-add-if1
-add-if1 c = search needs
+add-if1 c = omega (arith, c .before .pre .0, c .before .fits .n)
 
 mul-may-join : tie.Need-mul-may-join
-mul-may-join c = search needs
+mul-may-join c = let a = c .before .before in omega (arith, a .pre .0, a .pre .1, a .good)
 
 add-may-join : tie.Need-add-may-join
-add-may-join c = search needs
+add-may-join c = omega (arith, c .if1 .taken, c .before .before .fits .n)
 
 mul-may-join-2 : tie.Need-mul-may-join-2
-mul-may-join-2 c = search needs
+mul-may-join-2 c = let a = c .before .before in omega (arith, c .if1 .taken, a .pre .1, a .good)
 
 may-join-requires : tie.Need-may-join-requires
-may-join-requires c κs = search needs
+may-join-requires c κs = let p = c .before .before .pre in (omega (arith, p .0, p .1), omega (arith, c .if1 .taken, p .1))
 
 returns : tie.Need-returns
 returns c r = first-alone _ _ _ _ (c .before .before .before .pre .0) (λ h. next-none _ _ _ (c .may-join .ensures) (not-true _ r))

@@ -1,4 +1,5 @@
 -- `may_take` meets its contract: what each pass's rule needs is in `proofs/FilterLaws.antt`. Assumes nothing.
+use native.Mathlib.Omega.{arith}
 use Rattle.passes.specs.Passes.{D1, G1, G2, G3, G4}
 use Rattle.pass_loop.proofs.FilterLaws.{take-may}
 use borrow.Author.Needs.{needs}
@@ -6,37 +7,37 @@ use Rattle.pass_loop.proofs.may_take.Statement.{statement}
 use Rattle.pass_loop.proofs.may_take.Tie as tie
 
 u16-at-requires : tie.Need-u16-at-requires
-u16-at-requires c κs = search needs
+u16-at-requires c κs = omega (arith, c .before .pre)
 
 cast-start : tie.Need-cast-start
 cast-start c = search needs
 
 add-u16-at : tie.Need-add-u16-at
-add-u16-at c = search needs
+add-u16-at c = let a = c .before .before in omega (arith, a .pre, a .good)
 
 u16-at-requires-2 : tie.Need-u16-at-requires-2
-u16-at-requires-2 c κs = search needs
+u16-at-requires-2 c κs = omega (arith, c .before .before .pre)
 
 add-u64-at : tie.Need-add-u64-at
-add-u64-at c = search needs
+add-u64-at c = let a = c .before .before .before in omega (arith, a .pre, a .good)
 
 u64-at-requires : tie.Need-u64-at-requires
-u64-at-requires c κs = search needs
+u64-at-requires c κs = omega (arith, c .before .before .before .pre)
 
 enum-told : tie.Need-enum-told
-enum-told c = search needs
+enum-told c = c .match .keys1
 
 enum-told-2 : tie.Need-enum-told-2
-enum-told-2 c = search needs
+enum-told-2 c = c .match .keys2
 
 enum-told-3 : tie.Need-enum-told-3
-enum-told-3 c = search needs
+enum-told-3 c = c .match .keys3
 
 enum-told-4 : tie.Need-enum-told-4
-enum-told-4 c = search needs
+enum-told-4 c = c .match .keys4
 
 enum-told-5 : tie.Need-enum-told-5
-enum-told-5 c = search needs
+enum-told-5 c = c .match .keys5
 
 returns : tie.Need-returns
 returns c x e j = let a = c .before .before .before .before .before .before .before .args in rw (e, c .before .before .before .before .before .u16-at .ensures, c .before .before .before .before .u16-at2 .ensures) (take-may (a .s .now) (a .at) D1 x (rw (c .enum-told .given .1) at j))

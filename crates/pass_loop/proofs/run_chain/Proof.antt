@@ -19,7 +19,7 @@ abbrev μ-loop : tie.MeasureT-loop
 μ-loop list n k i pass chain₀ j₀ to₀ chain j to = to - j
 
 mul-get : tie.Need-mul-get Inv-loop μ-loop
-mul-get c = search needs
+mul-get c = let a = c .before .before in omega (arith, a .pre .1, a .pre .2, a .good)
 
 get-requires : tie.Need-get-requires Inv-loop μ-loop
 get-requires c κs = let p = c .before .before .pre in (omega (arith, p .1, p .2), small-one _ _ _ _ (omega arith) (p .1) (p .3))
@@ -28,13 +28,13 @@ begin-requires : tie.Need-begin-requires Inv-loop μ-loop
 begin-requires c κs = search needs
 
 add-j : tie.Need-add-j Inv-loop μ-loop
-add-j c = search needs
+add-j c = let a = c .before .before .before .before in omega (arith, a .pre .1, a .fits .n)
 
 loop-holds : tie.Need-loop-holds Inv-loop μ-loop
 loop-holds c = let e = c .before .get .ensures in opens _ _ _ _ _ (c .before .before .before .before .pre .1) e (c .begin .ensures _ (e .is))
 
 mul-ahead : tie.Need-mul-ahead Inv-loop μ-loop
-mul-ahead c = search needs
+mul-ahead c = let a = c .before .before .before .before .before .before .before in omega (arith, c .before .loop-test .taken, c .before .before .loop .inv .inside, a .pre .2, a .good)
 
 ahead-requires : tie.Need-ahead-requires Inv-loop μ-loop
 ahead-requires c κs = let g = c .before .before .loop .inv in
@@ -43,13 +43,13 @@ ahead-requires c κs = let g = c .before .before .loop .inv in
     ((g .model, g .is), omega (arith, h, g .inside, p .2), small-one _ _ _ _ (omega (arith, g .later)) (omega (arith, h, g .inside)) (p .3))
 
 enum-known-c : tie.Need-enum-known-c Inv-loop μ-loop
-enum-known-c c = search needs
+enum-known-c c = c .match .keys1
 
 add-j-2 : tie.Need-add-j-2 Inv-loop μ-loop
 add-j-2 c = omega (arith, c .before .before .before .before .before .loop-test .taken, c .before .before .before .before .before .before .loop .inv .inside, c .before .before .before .before .before .before .before .before .before .before .before .fits .n)
 
 loop-less : tie.Need-loop-less Inv-loop μ-loop
-loop-less c = search needs
+loop-less c = omega (arith, c .before .before .before .before .before .loop-test .taken)
 
 loop-again : tie.Need-loop-again Inv-loop μ-loop
 loop-again c = let l = c .before .before .before .before .before .before in
@@ -60,16 +60,16 @@ loop-again c = let l = c .before .before .before .before .before .before in
     takes _ _ _ _ _ _ _ g h _ (itemAt-fits _ _ (λ q. c .before .before .before .before .before .before .before .before .before .before .slice-known .given q .fits) small) (sym (c .before .before .before .ahead .ensures _ (g .is)) ∙ c .before .c .given .1)
 
 enum-told : tie.Need-enum-told Inv-loop μ-loop
-enum-told c = search needs
+enum-told c = c .match .keys2
 
 loop-less-2 : tie.Need-loop-less-2 Inv-loop μ-loop
-loop-less-2 c = search needs
+loop-less-2 c = omega (arith, c .before .before .before .before .loop-test .taken)
 
 loop-again-2 : tie.Need-loop-again-2 Inv-loop μ-loop
 loop-again-2 c = let g = c .before .before .before .before .before .loop .inv in ends _ _ _ _ _ _ _ g (c .before .before .before .before .loop-test .taken) (sym (c .before .before .ahead .ensures _ (g .is)) ∙ c .enum-told .given .1)
 
 enum-told-2 : tie.Need-enum-told-2 Inv-loop μ-loop
-enum-told-2 c = search needs
+enum-told-2 c = c .match .keys3
 
 same-length : tie.Need-same-length Inv-loop μ-loop
 same-length c = search needs
@@ -79,13 +79,13 @@ unfolding RunIs
 returns c = let g = c .before .before .before .before .before .before .loop .inv in above _ _ _ _ _ _ _ g (c .before .before .before .before .before .loop-test .taken) (sym (c .before .before .before .ahead .ensures _ (g .is)) ∙ c .before .enum-told2 .given .1)
 
 mul-put : tie.Need-mul-put Inv-loop μ-loop
-mul-put c = search needs
+mul-put c = let a = c .before .before .before .before .before .before .before in omega (arith, a .pre .0, a .pre .1, a .pre .2, a .good)
 
 put-requires : tie.Need-put-requires Inv-loop μ-loop
 put-requires c κs = let g = c .before .before .loop .inv in let p = c .before .before .before .before .before .before .before .pre in (omega (arith, p .0, p .1, p .2), (g .model .edge, chain-edge (g .is)))
 
 same-length-2 : tie.Need-same-length-2 Inv-loop μ-loop
-same-length-2 c = search needs
+same-length-2 c = c .before .before .put .kept .0
 
 returns-2 : tie.Need-returns-2 Inv-loop μ-loop
 unfolding RunIs

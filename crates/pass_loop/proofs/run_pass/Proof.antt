@@ -5,7 +5,6 @@ use Prim.Native.Nat.{_-_}
 use native.Mathlib.Omega.{arith}
 use Rattle.pass_list.specs.Answers.{passOf}
 use Rattle.pass_loop.proofs.RunLaws.{ran-to, ran-above, Going, begins, goes-on, stops, finishes}
-use borrow.Author.Needs.{needs}
 use Rattle.pass_loop.proofs.run_pass.Statement.{statement}
 use Rattle.pass_loop.proofs.run_pass.Tie as tie
 
@@ -22,7 +21,7 @@ step-requires : tie.Need-step-requires Inv-loop μ-loop
 step-requires c κs = let g = c .before .before .loop .inv in (g .behind, c .before .loop-test .taken, omega (arith, g .long, c .before .before .before .before .pre .0), g .rest)
 
 enum-known-to : tie.Need-enum-known-to Inv-loop μ-loop
-enum-known-to c = search needs
+enum-known-to c = c .match .keys1
 
 add-k : tie.Need-add-k Inv-loop μ-loop
 add-k c = omega (arith, c .before .before .before .before .before .before .before .before .loop .inv .behind, c .before .before .before .before .before .before .before .loop-test .taken, c .before .before .before .before .before .before .before .before .before .before .fits .n)
@@ -34,7 +33,7 @@ loop-again : tie.Need-loop-again Inv-loop μ-loop
 loop-again c = goes-on _ _ _ _ _ _ (c .before .before .before .before .before .before .before .before .loop .inv) _ _ (c .before .before .before .before .before .step .kept .0) (ran-to _ _ _ _ _ _ (c .before .before .before .before .before .step .ensures) (c .before .to .given .1))
 
 enum-known-p : tie.Need-enum-known-p Inv-loop μ-loop
-enum-known-p c = search needs
+enum-known-p c = c .match .keys2
 
 same-length : tie.Need-same-length Inv-loop μ-loop
 same-length c = c .before .before .before .before .before .step .kept .0 ∙ c .before .before .before .before .before .before .before .before .loop .inv .long
