@@ -1,5 +1,5 @@
 -- A copy inside a list, and the bytes of an edge with a longer txt. No contract cites this file.
--- In order: a turn of a loop that copies bytes; a front part and an end part that meet, a word; the copy's bytes in four steps; where the items of an edge stand; the copy's bytes; the copy in the lattice. Assumes nothing.
+-- In order: a turn of a loop that copies bytes; a front part and an end part that meet; words; the copy's bytes in four steps; where the items of an edge stand; the copy's bytes; the copy in the lattice. Assumes nothing.
 use mathlib.Core.Path.{_≡_, refl, sym, ap, _∙_}
 use mathlib.Core.Logic.{inl, inr}
 use mathlib.Core.List.{List, [], _∷_, _++_, append-assoc}
@@ -59,22 +59,24 @@ module _ (s : List ℕ) (from to k j m : ℕ) {t : List ℕ} (apart : from + (j 
       let l = length-part s from j (omega arith) in
       first ∙ ap (λ (z : ℕ). sets s to (part s from z)) e ∙ ap (sets s to) (part-add s from j (k - j)) ∙ sets-append s to (part s from j) (part s (from + j) (k - j)) ∙ rw l
 
-  inside-more : {u : List ℕ} → u ≡ sets t (to + j) (part t (from + j) m) → u ≡ sets s to (part s from (j + m))
-  inside-more then =
+  pub inside-more : {u : List ℕ} (n : ℕ) → n ≡ j + m → u ≡ sets t (to + j) (part t (from + j) m) → u ≡ sets s to (part s from n)
+  inside-more n e then =
       let l = length-part s from j (omega arith) in
       let x = length-part s (from + j) (k - j) (omega arith) in
       let y = length-part s (from + j) m (omega arith) in
       let o = sets-over (sets s to (part s from j)) (to + j) (part s (from + j) (k - j)) (part s (from + j) m) (omega arith) in
       let w : sets t (to + j) (part s (from + j) m) ≡ sets (sets s to (part s from j)) (to + j) (part s (from + j) m) = ap (λ (z : List ℕ). sets z (to + j) (part s (from + j) m)) front-twice ∙ o in
-      then ∙ ap (sets t (to + j)) inside-kept ∙ w ∙ rw (part-add s from j m, sets-append s to (part s from j) (part s (from + j) m), l)
+      then ∙ ap (sets t (to + j)) inside-kept ∙ w ∙ rw (e, part-add s from j m, sets-append s to (part s from j) (part s (from + j) m), l)
 
--- the last word of n bytes, with k of them copied: it is read and written
-pub inside-word : (s : List ℕ) (from to n j k v : ℕ) {now next : List ℕ} → n ≡ j + 8 → from + n ≤ to → to + n ≤ length s → j ≤ k → k ≤ n → length now ≡ length s → ((i : ℕ) → getD now i 0 < 256)
-    → now ≡ sets s to (part s from k) → v ≡ leAt now (from + j) 8 → next ≡ sets now (to + j) (bytesOf 8 v) → next ≡ sets s to (part s from n)
-inside-word s from to n j k v {now} {next} long apart room meets more same bytes e read wrote =
-    inside-more s from to k j 8 (omega arith) (omega arith) meets (omega arith) e
-    (wrote ∙ ap (sets now (to + j)) (ap (bytesOf 8) read ∙ sym (word-there now bytes (from + j) 8 (omega arith))))
-    ∙ ap (λ (z : ℕ). sets s to (part s from z)) (sym long)
+-- ---- words: their bytes are read and written; the second is read before the first is written
+module _ (s : List ℕ) (bytes : (i : ℕ) → getD s i 0 < 256) (from to v : ℕ) {t : List ℕ} (read : v ≡ leAt s from 8) (wrote : t ≡ sets s to (bytesOf 8 v)) where
+  pub word-copied : from + 8 ≤ length s → t ≡ sets s to (part s from 8)
+  word-copied h = wrote ∙ ap (sets s to) (ap (bytesOf 8) read ∙ sym (word-there s bytes from 8 h))
+
+  pub pair-copied : (u : ℕ) → from + 16 ≤ length s → u ≡ leAt s (from + 8) 8 → {z : List ℕ} → z ≡ sets t (to + 8) (bytesOf 8 u) → z ≡ sets s to (part s from 16)
+  pair-copied u h behind then =
+      let l = length-part s from 8 (omega arith) in
+      then ∙ rw (behind, ← word-there s bytes (from + 8) 8 (omega arith), word-copied (omega arith)) (rw (part-add s from 8 8, sets-append s to (part s from 8) (part s (from + 8) 8), l))
 
 -- ---- the copy's bytes in four steps
 module _ (s x : List ℕ) (len at txt n to head behind : ℕ) (a : at + 2 ≤ txt) (b : txt ≤ to) (d : to ≤ len) (room : len + (to - at) + length x ≤ length s) (is-head : head ≡ txt - 2 - at) (is-behind : behind ≡ len + head + 2) {t u v z : List ℕ} (first : t ≡ sets s len (part s at head)) (second : u ≡ sets t (len + head) (bytesOf 2 (length x + n))) (third : v ≡ sets u behind x) (fourth : z ≡ sets v (behind + length x) (part v txt (to - txt))) where

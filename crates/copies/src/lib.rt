@@ -12,20 +12,27 @@ ghost use Rattle.lattice.specs.Kept.{Holds};
 ghost use Rattle.copies.specs.Copy.{prefixed, prefixedBytes, Source};
 use lattice::Lattice;
 
-// Copies n words of eight bytes of w from one offset to a later one, behind them.
-fn copy_words(w: &mut [u8], from: usize, to: usize, n: usize)
-    requires { ⌜ (from + 8 * n ≤ to) × (to + 8 * n ≤ length (now w)) ⌝ }
-    ensures { λ _. ⌜ now (w .exit) ≡ sets (now (w .entry)) to (part (now (w .entry)) from (8 * n)) ⌝ }
+// Copies eight bytes of w from one offset to another.
+fn copy_word(w: &mut [u8], from: usize, to: usize)
+    requires { ⌜ (from + 8 ≤ length (now w)) × (to + 8 ≤ length (now w)) ⌝ }
+    ensures { λ _. ⌜ now (w .exit) ≡ sets (now (w .entry)) to (part (now (w .entry)) from 8) ⌝ }
 {
-    let mut i = 0;
-    while i < n {
-        let v = fields::u64_at(w, from + 8 * i);
-        fields_write::put_u64(w, to + 8 * i, v);
-        i += 1;
-    }
+    let v = fields::u64_at(w, from);
+    fields_write::put_u64(w, to, v);
 }
 
-// The same of n bytes, one by one.
+// The same of sixteen bytes. Both words are read before one is written: then the two are one move.
+fn copy_pair(w: &mut [u8], from: usize, to: usize)
+    requires { ⌜ (from + 16 ≤ length (now w)) × (to + 16 ≤ length (now w)) ⌝ }
+    ensures { λ _. ⌜ now (w .exit) ≡ sets (now (w .entry)) to (part (now (w .entry)) from 16) ⌝ }
+{
+    let v = fields::u64_at(w, from);
+    let u = fields::u64_at(w, from + 8);
+    fields_write::put_u64(w, to, v);
+    fields_write::put_u64(w, to + 8, u);
+}
+
+// The same of n bytes to an offset behind them, one by one.
 fn copy_bytes(w: &mut [u8], from: usize, to: usize, n: usize)
     requires { ⌜ (from + n ≤ to) × (to + n ≤ length (now w)) ⌝ }
     ensures { λ _. ⌜ now (w .exit) ≡ sets (now (w .entry)) to (part (now (w .entry)) from n) ⌝ }
@@ -37,7 +44,21 @@ fn copy_bytes(w: &mut [u8], from: usize, to: usize, n: usize)
     }
 }
 
-// The same of n bytes. From eight on by words alone: the last one ends with the last byte, and may begin in the word before it.
+// The same, for sixteen bytes and more by sixteen. The last sixteen end with the last byte, and may begin in those before them.
+fn copy_long(w: &mut [u8], from: usize, to: usize, n: usize)
+    requires { ⌜ (16 ≤ n) × (from + n ≤ to) × (to + n ≤ length (now w)) ⌝ }
+    ensures { λ _. ⌜ now (w .exit) ≡ sets (now (w .entry)) to (part (now (w .entry)) from n) ⌝ }
+{
+    let last = n - 16;
+    let mut i = 0;
+    while i < last {
+        copy_pair(w, from + i, to + i);
+        i += 16;
+    }
+    copy_pair(w, from + last, to + last);
+}
+
+// The same, in the fewest moves: of eight bytes and more, a part from the front and one up to the last byte.
 fn copy_inside(w: &mut [u8], from: usize, to: usize, n: usize)
     requires { ⌜ (from + n ≤ to) × (to + n ≤ length (now w)) ⌝ }
     ensures { λ _. ⌜ now (w .exit) ≡ sets (now (w .entry)) to (part (now (w .entry)) from n) ⌝ }
@@ -46,10 +67,13 @@ fn copy_inside(w: &mut [u8], from: usize, to: usize, n: usize)
         copy_bytes(w, from, to, n);
         return;
     }
-    let last = n - 8;
-    copy_words(w, from, to, (last + 7) / 8);
-    let v = fields::u64_at(w, from + last);
-    fields_write::put_u64(w, to + last, v);
+    if n < 16 {
+        let last = n - 8;
+        copy_word(w, from, to);
+        copy_word(w, from + last, to + last);
+        return;
+    }
+    copy_long(w, from, to, n);
 }
 
 // Composes from len on the bytes from at to the offset to, with sep before the n bytes of the string at txt. The string's length stands before it.
