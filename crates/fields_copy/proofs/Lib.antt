@@ -1,0 +1,2 @@
+-- Laws of a copy by words.
+pub mod CopyLaws
