@@ -1,1 +1,2 @@
--- No laws of its own: those of `dicts`.
+-- Laws for the proofs of this crate's functions, besides those of `dicts`.
+pub mod StepLaws

@@ -1,1 +1,2 @@
--- No definitions of its own: those of `dicts`.
+-- The definitions that the contracts of `table_check` cite besides those of `dicts`.
+pub mod Step

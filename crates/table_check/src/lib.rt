@@ -3,6 +3,7 @@ ghost use mathlib.Core.Path.{_≡_};
 ghost use Rattle.dicts.specs.Layout.{text, readRecord};
 ghost use Rattle.dicts.specs.Check.{item, legalMark, legalRecord, readTexts, readList, readRecords, readTable};
 ghost use Rattle.dicts.specs.Answers.{endOf, recordItem, tableAnswer};
+ghost use Rattle.table_check.specs.Step.{StepIs};
 use dicts::layout::RecordAt;
 use dicts::layout::TextAt;
 use dicts::layout::record_at;
@@ -11,11 +12,16 @@ use dicts::shape::Items;
 use dicts::shape::RecordItem;
 use dicts::shape::Shape;
 use dicts::shape::TableCheck;
-use table_content::legal_besides;
 use table_content::legal_record;
-use table_content::plain::Plain;
-use table_content::plain::plain_at;
+use table_plain::Plain;
+use table_plain::plain_at;
 use table_texts::legal_mark;
+
+// What checking a record gives: its code point and the offset behind it, or the refusal's number.
+pub enum Step {
+    Next(u32, usize),
+    Refused(u8),
+}
 
 fn mark_item(s: &[u8], at: usize) -> Items
     ensures { λ r. ⌜ r ≡ endOf (item at legalMark (text (now (s .entry)) at)) ⌝ }
@@ -79,19 +85,16 @@ fn any_item(s: &[u8], at: usize, least: u64) -> RecordItem
     }
 }
 
-// A record. Most are as those of the plain table.
-fn record_item(s: &[u8], at: usize, least: u64) -> RecordItem
-    ensures { λ r. ⌜ recordItem (now (s .entry)) at r ≡ item at (legalRecord least) (readRecord (now (s .entry)) at) ⌝ }
+// A record. Most are told by few tests.
+fn record_item(s: &[u8], at: usize, least: u64) -> Step
+    ensures { λ r. ⌜ StepIs (now (s .entry)) at least r ⌝ }
 {
-    match plain_at(s, at) {
-        Plain::Record(p) => {
-            if legal_besides(s, p, least) {
-                RecordItem::Record(p)
-            } else {
-                RecordItem::Refused(5)
-            }
-        }
-        Plain::Other => any_item(s, at, least),
+    match plain_at(s, at, least) {
+        Plain::Legal(code, next) => Step::Next(code, next),
+        Plain::Other => match any_item(s, at, least) {
+            RecordItem::Record(p) => Step::Next(p.code_point, p.next),
+            RecordItem::Refused(number) => Step::Refused(number),
+        },
     }
 }
 
@@ -104,12 +107,12 @@ fn records_end(s: &[u8], from: usize, n: usize) -> Items
     let mut least: u64 = 0;
     while 0 < left {
         match record_item(s, at, least) {
-            RecordItem::Record(p) => {
-                at = p.next;
-                least = p.code_point as u64 + 1;
+            Step::Next(code, next) => {
+                at = next;
+                least = code as u64 + 1;
                 left -= 1;
             }
-            RecordItem::Refused(number) => {
+            Step::Refused(number) => {
                 return Items::Refused(number, at);
             }
         }

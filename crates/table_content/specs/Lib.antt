@@ -1,2 +1,1 @@
--- The definitions that the contracts of `table_content` cite besides those of `dicts`.
-pub mod Plain
+-- No definitions of its own: those of `dicts`.

@@ -8,8 +8,6 @@ use dicts::layout::NumProp;
 use dicts::layout::Numbers;
 use dicts::layout::Part;
 
-pub mod plain; // plain.rt: records as those of the plain table
-
 const TOP: u64 = 9007199254740991;
 
 // A scalar value, and at least `least`.
@@ -125,7 +123,7 @@ fn wide(x: u8) -> u64
 }
 
 // The content besides the strings. They were found well-formed.
-pub fn legal_besides(s: &[u8], p: NumProp, least: u64) -> bool
+fn legal_besides(s: &[u8], p: NumProp, least: u64) -> bool
     requires { ⌜ Inside (now s) p ⌝ }
     ensures { λ r. ⌜ (legalTexts (recordOf (now (s .entry)) p) ≡ true → r ≡ legalRecord least (recordOf (now (s .entry)) p)) ⌝ }
 {

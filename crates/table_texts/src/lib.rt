@@ -10,8 +10,6 @@ ghost use Rattle.dicts.specs.Answers.{Ascii, partOf, Within};
 ghost use Rattle.table_texts.specs.Threes.{plainThree, Threes};
 use dicts::layout::Part;
 
-pub mod short; // short.rt: strings of a few ASCII bytes
-
 // The offset of the first byte of a part that is not ASCII, or of the part's end.
 fn ascii_end(s: &[u8], from: usize, end: usize) -> usize
     requires { ⌜ (from ≤ end) × (end ≤ length (now s)) ⌝ }

@@ -1,10 +1,11 @@
 -- `table_check::records_end` meets its contract. The loop's invariant: the records that are left end where all of them end; the measure is how many are left.
-use mathlib.Core.Path.{_≡_, refl, sym, _∙_}
+use mathlib.Core.Path.{_≡_, refl, sym, subst, _∙_}
 use native.Mathlib.Omega.{arith}
 use Rattle.dicts.specs.Check.{readRecords}
-use Rattle.dicts.specs.Answers.{endOf, recordOf, recordItem}
-use Rattle.dicts.proofs.LayoutLaws.{told}
-use Rattle.dicts.proofs.CheckLaws.{records-none, records-turn, records-stop}
+use Rattle.dicts.specs.Answers.{endOf}
+use Rattle.dicts.proofs.CheckLaws.{records-none, records-stop}
+use Rattle.table_check.specs.Step.{StepIs}
+use Rattle.table_check.proofs.StepLaws.{passed-turn}
 use borrow.Author.Needs.{needs}
 use Rattle.table_check.proofs.records_end.Statement.{statement}
 use Rattle.table_check.proofs.records_end.Tie as tie
@@ -21,8 +22,8 @@ loop-holds c = refl
 record-item-requires : tie.Need-record-item-requires Inv-loop μ-loop
 record-item-requires c κs = search needs
 
-enum-known-p : tie.Need-enum-known-p Inv-loop μ-loop
-enum-known-p c = search needs
+enum-known-code : tie.Need-enum-known-code Inv-loop μ-loop
+enum-known-code c = search needs
 
 cast-least : tie.Need-cast-least Inv-loop μ-loop
 cast-least c = search needs
@@ -37,14 +38,13 @@ loop-less : tie.Need-loop-less Inv-loop μ-loop
 loop-less c = omega arith
 
 loop-again : tie.Need-loop-again Inv-loop μ-loop
-unfolding recordOf
-loop-again c = let m = c .before .before .before .before in sym (records-turn _ _ _ _ (m .before .loop-test .taken) (told (recordItem (m .before .before .before .before .args .s .now) (m .before .before .loop .at)) (m .record-item .ensures) (c .before .before .p .given .1))) ∙ m .before .before .loop .inv
+loop-again c = let m = c .before .before .before in sym (passed-turn _ _ _ _ (m .before .loop-test .taken) (subst (StepIs _ _ _) (c .before .code .given .1) (m .record-item .ensures))) ∙ m .before .before .loop .inv
 
 enum-known-number : tie.Need-enum-known-number Inv-loop μ-loop
 enum-known-number c = search needs
 
 returns : tie.Need-returns Inv-loop μ-loop
-returns c = let m = c .before .before .before in records-stop _ _ _ _ (m .before .loop-test .taken) (told (recordItem (m .before .before .before .before .args .s .now) (m .before .before .loop .at)) (m .record-item .ensures) (c .before .number .given .1)) ∙ m .before .before .loop .inv
+returns c = let m = c .before .before .before in records-stop _ _ _ _ (m .before .loop-test .taken) (subst (StepIs _ _ _) (c .before .number .given .1) (m .record-item .ensures)) ∙ m .before .before .loop .inv
 
 returns-2 : tie.Need-returns-2 Inv-loop μ-loop
 returns-2 c = records-none _ _ _ _ (c .loop-test .left) ∙ c .before .loop .inv
@@ -57,7 +57,7 @@ records-end-spec =
     μ-loop
     loop-holds
     record-item-requires
-    enum-known-p
+    enum-known-code
     cast-least
     add-least
     sub-left

@@ -1,7 +1,7 @@
 -- `table_content::legal_record` meets its contract: the strings, and then the rest.
 use mathlib.Core.Path.{sym, _∙_}
 use borrow.Author.Tests.{not-true, not-false}
-use Rattle.table_content.proofs.PlainLaws.{texts-ill-formed}
+use Rattle.table_content.proofs.RecordLaws.{texts-ill-formed}
 use borrow.Author.Needs.{needs}
 use Rattle.table_content.proofs.legal_record.Statement.{statement}
 use Rattle.table_content.proofs.legal_record.Tie as tie

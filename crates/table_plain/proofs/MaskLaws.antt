@@ -1,0 +1,92 @@
+-- Laws of ASCII bytes: looked at by a mask, and joined. No contract cites this file.
+-- In order: bytes whose highest bits a mask finds clear; the bytes from an offset on; two parts that meet, and three; a part of them; UTF-8.
+use mathlib.Core.Path.{_≡_, refl, sym, ap, _∙_, subst}
+use mathlib.Core.Bool.{true}
+use mathlib.Core.List.{List, [], _∷_}
+use Prim.Native.Nat.{ℕ, zero, suc, _+_, _-_, _*_, _/_, _%_, _^_, _≤_, _<_}
+use native.Mathlib.Omega.{arith}
+use native.Mathlib.Decide.{decLt}
+use lib.ListN.{length, getD}
+use lib.Dec.{lit<}
+use lib.Bits.{bitAnd, and-block, and-shr, and-mask}
+use Rattle.fields.specs.Fields.{le, leAt}
+use Rattle.fields.specs.Part.{part}
+use Rattle.fields.proofs.PartLaws.{length-part, part-at}
+use Rattle.text.specs.Text.{wellFormed}
+use Rattle.text.proofs.TextLaws.{left-nil}
+use Rattle.dicts.specs.Answers.{Ascii}
+use Rattle.dicts.proofs.ContentLaws.{behind-ascii}
+
+-- the highest bit of each of m bytes
+unfoldable highs : ℕ → ℕ
+highs zero = 0
+highs (suc m) = highs m * 256 + 128
+
+byte-low : (b : ℕ) → b < 256 → bitAnd b 128 ≡ 0 → b < 128
+byte-low b h e =
+    let k : b / 128 % 2 ≡ 0 = sym (and-mask (b / 128) 1) ∙ sym (and-shr b 128 7) ∙ ap (λ (x : ℕ). x / 128) e in
+    omega arith
+
+both-zero : (x y : ℕ) → x * 256 + y ≡ 0 → (x ≡ 0) × (y ≡ 0)
+both-zero x y e = (omega arith, omega arith)
+
+cons-low : (b : ℕ) (bs : List ℕ) → b < 128 → ((i : ℕ) → i < length bs → getD bs i 0 < 128) → (i : ℕ) → i < suc (length bs) → getD (b ∷ bs) i 0 < 128
+cons-low b bs h f zero k = h
+cons-low b bs h f (suc i) k = f i (omega arith)
+
+le-low : (m : ℕ) (bs : List ℕ) → length bs ≤ m → ((i : ℕ) → i < length bs → getD bs i 0 < 256) → bitAnd (le bs) (highs m) ≡ 0 → (i : ℕ) → i < length bs → getD bs i 0 < 128
+unfolding le highs
+le-low m [] h f e i k = absurd (omega arith)
+le-low zero (b ∷ bs) h f e i k = absurd (omega arith)
+le-low (suc m) (b ∷ bs) h f e i k =
+    let g : b + 256 * le bs ≡ le bs * 2 ^ 8 + b = omega arith in
+    let d : bitAnd (b + 256 * le bs) (highs m * 256 + 128) ≡ bitAnd (le bs) (highs m) * 256 + bitAnd b 128
+    = ap (λ (x : ℕ). bitAnd x (highs m * 256 + 128)) g ∙ and-block 8 (le bs) (highs m) b 128 (f 0 (omega arith)) (lit< tt) in
+    let z = both-zero (bitAnd (le bs) (highs m)) (bitAnd b 128) (sym d ∙ e) in
+    cons-low b bs (byte-low b (f 0 (omega arith)) (z .1)) (le-low m bs (omega arith) (λ j l. f (suc j) (omega arith)) (z .0)) i k
+
+-- ---- w bytes from an offset on
+module _ (s : List ℕ) (at : ℕ) (f : (i : ℕ) → getD s i 0 < 256) where
+  word-low : (w : ℕ) → at + w ≤ length s → bitAnd (leAt s at w) (highs w) ≡ 0 → Ascii s at (at + w) (at + w)
+  unfolding leAt
+  word-low w h e =
+      let c : length (part s at w) ≡ w = length-part s at w h in
+      let low = le-low w (part s at w) (omega arith) (λ i z. rw (part-at s at w i (omega arith)) (f (at + i))) e in
+      record {
+        behind = omega arith;
+        before = omega arith;
+        ascii = λ i z k. (let a : at + (i - at) ≡ i = omega arith in subst (λ (x : ℕ). x < 0x80) (part-at s at w (i - at) (omega arith) ∙ ap (λ (j : ℕ). getD s j 0) a) (low (i - at) (omega arith)));
+      }
+
+  pub eight-low : at + 8 ≤ length s → {x : ℕ} → x ≡ leAt s at 8 → bitAnd x 0x8080808080808080 ≡ 0 → Ascii s at (at + 8) (at + 8)
+  unfolding highs
+  eight-low h d e = word-low 8 h (rw (← d) e)
+
+  pub four-low : at + 4 ≤ length s → {x : ℕ} → x ≡ leAt s at 4 → bitAnd x 0x80808080 ≡ 0 → Ascii s at (at + 4) (at + 4)
+  unfolding highs
+  four-low h d e = word-low 4 h (rw (← d) e)
+
+-- ---- parts that meet
+module _ (s : List ℕ) where
+  ascii-join : (a b c d : ℕ) → c ≤ b → b ≤ d → Ascii s a b b → Ascii s c d d → Ascii s a d d
+  ascii-join a b c d h k p q = record { behind = omega (arith, p .behind); before = omega arith; ascii = λ i z w. go i z w (decLt i b) }
+    where
+      go : (i : ℕ) → a ≤ i → i < d → Dec (i < b) → getD s i 0 < 0x80
+      go i z w (yes v) = p .ascii i z v
+      go i z w (no v) = q .ascii i (omega arith) w
+
+  pub three-low : (at end : ℕ) → at + 8 ≤ end → end ≤ at + 24
+      → Ascii s at (at + 8) (at + 8) → Ascii s (at + (end - 8 - at) / 2) (at + (end - 8 - at) / 2 + 8) (at + (end - 8 - at) / 2 + 8) → Ascii s (end - 8) (end - 8 + 8) (end - 8 + 8)
+      → Ascii s at end end
+  three-low at end h k p q r =
+      let m = at + (end - 8 - at) / 2 in
+      let e : end - 8 + 8 ≡ end = omega arith in
+      ascii-join at (m + 8) (end - 8) end (omega arith) (omega arith) (ascii-join at (at + 8) m (m + 8) (omega arith) (omega arith) p q) (subst (λ (x : ℕ). Ascii s (end - 8) x x) e r)
+
+  pub ascii-part : (a b c d : ℕ) → a ≤ c → c ≤ d → d ≤ b → Ascii s a b b → Ascii s c d d
+  ascii-part a b c d h k l p = record { behind = k; before = omega arith; ascii = λ i z w. p .ascii i (omega arith) (omega arith) }
+
+  -- ---- UTF-8
+  pub ascii-formed : (at n : ℕ) → at + n ≤ length s → Ascii s at (at + n) (at + n) → wellFormed (part s at n) ≡ true
+  unfolding part
+  ascii-formed at n w a = behind-ascii s at n (at + n) w a ∙ (let z : at + n - (at + n) ≡ 0 = omega arith in rw (z, left-nil))

@@ -1,0 +1,164 @@
+-- Laws of `specs/Plain.antt`. No contract cites this file.
+-- In order: the fields that a map of 43 says there are; the digit rule; a legal record of such fields; strings; what the functions answer.
+use mathlib.Core.Path.{_≡_, refl, sym, ap, _∙_, subst}
+use mathlib.Core.Bool.{Bool, true, false, cond, _&&_, _||_, true≢false}
+use mathlib.Core.List.{List, [], _∷_}
+use mathlib.Core.Option.{none, some}
+use Prim.Native.Nat.{ℕ, _+_, _-_, _*_, _/_, _%_, _≤_, _<_}
+use native.Mathlib.Omega.{arith}
+use native.Mathlib.Decide.{decLe}
+use lib.ListN.{length, getD}
+use lib.Seq.{drop-cons}
+use lib.Dec.{leb, ltb, eqb}
+use borrow.Author.Tests.{eq-eqb, le-leb, lt-ltb, le-ltb, eqb-true, eqb-false, leb-true, ltb-true, ltb-false}
+use Rattle.fields.specs.Fields.{leAt}
+use Rattle.fields.specs.Part.{part}
+use Rattle.fields.proofs.FieldsLaws.{leAt-add, leAt-one}
+use Rattle.text.specs.Bytes.{same}
+use Rattle.text.specs.Text.{wellFormed}
+use Rattle.text.proofs.BytesLaws.{same-refl}
+use Rattle.text.proofs.RowLaws.{and-true}
+use Rattle.whole.specs.Whole.{TOP}
+use Rattle.dicts.specs.Table.{Text, Record}
+use Rattle.dicts.specs.Layout as Layout
+use Rattle.dicts.specs.Layout.{Field, Is, mapField, bit, text, optional, readNumbers, recordWith, readFields, readRecord}
+use Rattle.dicts.specs.Check.{allOf, isDigitType, legalDigit, digitRule, legalTexts, legalNumbers, legalRecord}
+use Rattle.dicts.specs.Answers.{Ascii}
+use Rattle.dicts.proofs.LayoutLaws.{number-is, text-is, optional-there, fields-are, record-is}
+use Rattle.dicts.proofs.ContentLaws.{code-first}
+use Rattle.table_plain.specs.Plain.{LegalAt, Head, Digit, Numbers, Tail, TailIs, FieldsIs, PlainIs}
+use Rattle.table_plain.specs.declared.Behind.{Behind}
+use Rattle.table_plain.specs.declared.Behind.the-variants as Behind
+use Rattle.table_plain.proofs.MaskLaws.{ascii-part, ascii-formed}
+
+-- ---- the map
+odd : (n : ℕ) → (2 * n + 1) % 2 ≡ 1
+odd n = omega arith
+
+even : (n : ℕ) → 2 * n % 2 ≡ 0
+even n = omega arith
+
+abbrev numbersWith : ℕ → ℕ → Layout.Numbers
+numbersWith v b = record { value = some v; fraction = none; base = some b; mult = none }
+
+module _ (m : ℕ) (e : m % 64 ≡ 43) where
+  rom-there : bit m 0 ≡ true
+  rom-there = let b : m / 1 % 2 ≡ 1 = omega arith in eq-eqb _ _ b
+
+  script-there : bit m 5 ≡ true
+  script-there = let d : m / 32 ≡ 2 * (m / 64) + 1 = omega arith in eq-eqb _ _ (ap (λ (n : ℕ). n % 2) d ∙ odd (m / 64))
+
+  numbers-there : (s : List ℕ) (at : ℕ) → at + 16 ≤ length s → readNumbers m s at ≡ Is (numbersWith (leAt s at 8) (leAt s (at + 8) 8)) (at + 16)
+  unfolding readNumbers optional
+  numbers-there s at h =
+      let b1 : m / 2 % 2 ≡ 1 = omega arith in
+      let b2 : m / 4 % 2 ≡ 0 = omega arith in
+      let d : m / 8 ≡ 2 * (4 * (m / 64) + 2) + 1 = omega arith in
+      let b3 : m / 8 % 2 ≡ 1 = ap (λ (n : ℕ). n % 2) d ∙ odd (4 * (m / 64) + 2) in
+      let f : m / 16 ≡ 2 * (2 * (m / 64) + 1) = omega arith in
+      let b4 : m / 16 % 2 ≡ 0 = ap (λ (n : ℕ). n % 2) f ∙ even (2 * (m / 64) + 1) in
+      let k : at + 8 + 8 ≡ at + 16 = omega arith in
+      rw (b1, b2, b3, b4, number-is s at 8 (omega arith), number-is s (at + 8) 8 (omega arith), k)
+
+-- ---- the digit rule: it asks for the one digit at most, whatever the type
+digit-holds : (t : Bool) (v : ℕ) (rom : Text) → (v ≤ 9 → rom ≡ (48 + v) ∷ []) → cond t (legalDigit (some v) (some rom)) true ≡ true
+unfolding legalDigit
+digit-holds false v rom f = refl
+digit-holds true v rom f = go (decLe v 9)
+  where
+    go : Dec (v ≤ 9) → legalDigit (some v) (some rom) ≡ true
+    go (yes h) = rw (le-ltb 9 v h, f h, same-refl ((48 + v) ∷ []))
+    go (no h) = rw (lt-ltb 9 v (omega arith))
+
+part-one : (s : List ℕ) (at : ℕ) → at < length s → part s at 1 ≡ getD s at 0 ∷ []
+unfolding part
+part-one s at h = rw (drop-cons s at 0 h)
+
+-- the first two bytes of a rom say that it is one digit
+one-digit : (s : List ℕ) (rom v : ℕ) → rom + 2 ≤ length s → ((i : ℕ) → getD s i 0 < 256) → Digit (leAt s rom 2) v → v ≤ 9 → part s (rom + 1) (getD s rom 0) ≡ (48 + v) ∷ []
+one-digit s rom v h f d k =
+    let e : leAt s rom 2 ≡ getD s rom 0 + 256 * getD s (rom + 1) 0
+    = leAt-add s rom 1 1 (omega arith) ∙ rw (leAt-one s rom (omega arith), leAt-one s (rom + 1) (omega arith)) in
+    let a : getD s rom 0 ≡ 1 = omega (arith, f rom, f (rom + 1), d k) in
+    let b : getD s (rom + 1) 0 ≡ 48 + v = omega (arith, f rom, f (rom + 1), d k) in
+    ap (part s (rom + 1)) a ∙ part-one s (rom + 1) (omega arith) ∙ ap (λ (x : ℕ). x ∷ []) b
+
+-- ---- a string, well-formed
+record Formed (s : List ℕ) (at : ℕ) (t : Text) (next : ℕ) : Type 0 where
+  is : text s at ≡ Is t next
+  formed : wellFormed t ≡ true
+
+formed-is : (s : List ℕ) (at next : ℕ) → getD s at 0 ≤ 60 → next ≡ at + 1 + getD s at 0 → next ≤ length s → Ascii s (at + 1) next next → Formed s at (part s (at + 1) (getD s at 0)) next
+formed-is s at next k e l a = record {
+  is = text-is s at (omega arith) k (omega arith) ∙ ap (Is (part s (at + 1) (getD s at 0))) (sym e);
+  formed = ascii-formed s (at + 1) (getD s at 0) (omega arith) (subst (λ (x : ℕ). Ascii s (at + 1) x x) e a);
+}
+
+-- ---- a record of such fields
+legal-plain : (least c m v b : ℕ) (type rom script : Text) → Head least c m → wellFormed type ≡ true → wellFormed rom ≡ true → wellFormed script ≡ true
+    → v ≤ TOP → 0 < b → b ≤ TOP → (v ≤ 9 → rom ≡ (48 + v) ∷ []) → legalRecord least (recordWith c m type (some rom) (numbersWith v b) (some script)) ≡ true
+unfolding legalRecord legalTexts legalNumbers digitRule allOf
+legal-plain least c m v b type rom script h ft fr fs sv pb sb d =
+    rw (
+      sym (code-first least c (h .rises) (h .below)),
+      ft,
+      fr,
+      fs,
+      le-leb v TOP sv,
+      lt-ltb 0 b pb,
+      le-leb b TOP sb,
+      digit-holds (isDigitType type) v rom d,
+    )
+
+fields-plain : (least c m : ℕ) (s : List ℕ) (at : ℕ) {type rom script : Text} {a b next : ℕ} → Head least c m → Formed s at type a → Formed s a rom b → Formed s (b + 16) script next
+    → b + 16 ≤ length s → Numbers (leAt s a 2) (leAt s b 8) (leAt s (b + 8) 8) → (leAt s b 8 ≤ 9 → rom ≡ (48 + leAt s b 8) ∷ [])
+    → LegalAt least c (readFields c m s at) next
+fields-plain least c m s at {type} {rom} {script} {a} {b} h t r u l n d = record {
+  it = recordWith c m type (some rom) (numbersWith (leAt s b 8) (leAt s (b + 8) 8)) (some script);
+  is = sym (fields-are c m s at (t .is) (optional-there text s a (rom-there m (h .fields)) ∙ ap (mapField some) (r .is)) (numbers-there m (h .fields) s b l) (optional-there text s (b + 16) (script-there m (h .fields)) ∙ ap (mapField some) (u .is)));
+  legal = legal-plain least c m (leAt s b 8) (leAt s (b + 8) 8) type rom script h (t .formed) (r .formed) (u .formed) (n .small) (n .positive) (n .base-small) d;
+  point = refl;
+}
+
+-- ---- what the functions answer
+or-false : (a b : Bool) → (a || b) ≡ false → (a ≡ false) × (b ≡ false)
+or-false false b e = (refl, e)
+or-false true b e = absurd (true≢false e)
+
+pub head-is : (least c m : ℕ) {x : ℕ} → x ≡ c → (((eqb (m % 64) 43 && ltb m 128) && leb least x) && leb x 0xD7FF) ≡ true → Head least c m
+head-is least c m {x} d e =
+    let three = and-true ((eqb (m % 64) 43 && ltb m 128) && leb least x) (leb x 0xD7FF) e in
+    let two = and-true (eqb (m % 64) 43 && ltb m 128) (leb least x) (three .0) in
+    let one = and-true (eqb (m % 64) 43) (ltb m 128) (two .0) in
+    record { fields = eqb-true _ _ (one .0); map = ltb-true _ _ (one .1); rises = rw (← d) (leb-true _ _ (two .1)); below = rw (← d) (leb-true _ _ (three .1)) }
+
+pub numbers-is : (x v b : ℕ) {w d : ℕ} → w ≡ v → d ≡ b → ((ltb TOP w || eqb d 0) || ltb TOP d) ≡ false → Digit x w → Numbers x v b
+numbers-is x v b {w} {d} ev eb e h =
+    let two = or-false (ltb TOP w || eqb d 0) (ltb TOP d) e in
+    let one = or-false (ltb TOP w) (eqb d 0) (two .0) in
+    let z : d ≡ 0 → ⊥ = eqb-false _ _ (one .1) in
+    record { small = rw (← ev) (ltb-false _ _ (one .0)); positive = rw (← eb) (omega arith); base-small = rw (← eb) (ltb-false _ _ (two .1)); digit = rw (← ev) h }
+
+pub tail-is : (s : List ℕ) (rom at : ℕ) → 17 ≤ length s - at → getD s (at + 16) 0 ≤ 4 → getD s (at + 16) 0 ≤ length s - at - 17
+    → Ascii s (at + 17 + getD s (at + 16) 0 - 4) (at + 17 + getD s (at + 16) 0 - 4 + 4) (at + 17 + getD s (at + 16) 0 - 4 + 4) → Numbers (leAt s rom 2) (leAt s at 8) (leAt s (at + 8) 8)
+    → Tail s rom at (at + 17 + getD s (at + 16) 0)
+tail-is s rom at h k l a n =
+    let next = at + 17 + getD s (at + 16) 0 in
+    record { numbers = n; room = omega arith; short = k; behind = refl; ends = omega arith; script = ascii-part s (next - 4) (next - 4 + 4) (at + 17) next (omega arith) (omega arith) (omega arith) a }
+
+pub fields-is : (s : List ℕ) (at n q : ℕ) (r : Behind) → n ≡ getD s at 0 → q ≡ getD s (at + 1 + n) 0 → n + q ≤ 22 → ((i : ℕ) → getD s i 0 < 256) → at + 2 + (n + q) ≤ length s
+    → Ascii s at (at + 2 + (n + q)) (at + 2 + (n + q)) → TailIs s (at + 1 + n) (at + 2 + (n + q)) r → FieldsIs s at r
+fields-is s at n q Behind.Other en eq l f w a t = tt
+fields-is s at n q (Behind.At next) en eq l f w a t =
+    let end = at + 2 + (n + q) in
+    λ least c m h. fields-plain least c m s at h
+    (formed-is s at (at + 1 + n) (omega arith) (omega arith) (omega arith) (ascii-part s at end (at + 1) (at + 1 + n) (omega arith) (omega arith) (omega arith) a))
+    (formed-is s (at + 1 + n) end (omega arith) (omega arith) w (ascii-part s at end (at + 1 + n + 1) end (omega arith) (omega arith) (omega arith) a))
+    (formed-is s (end + 16) next (omega (arith, t .short)) (omega (arith, t .behind)) (t .ends) (let g : end + 17 ≡ end + 16 + 1 = omega arith in subst (λ (x : ℕ). Ascii s x next next) g (t .script)))
+    (omega (arith, t .room)) (t .numbers) (one-digit s (at + 1 + n) (leAt s end 8) (omega (arith, t .room)) f (t .numbers .digit))
+
+pub record-is-plain : (s : List ℕ) (at least : ℕ) {code next : ℕ} → at + 5 ≤ length s → Head least (leAt s at 4) (getD s (at + 4) 0) → FieldsIs s (at + 5) (Behind.At next) → code ≡ leAt s at 4
+    → LegalAt least code (readRecord s at) next
+record-is-plain s at least {code} {next} l h f e =
+    let k = f least (leAt s at 4) (getD s (at + 4) 0) h in
+    record { it = k .it; is = sym (record-is s at l refl (h .map) (sym (k .is))); legal = k .legal; point = k .point ∙ sym e }

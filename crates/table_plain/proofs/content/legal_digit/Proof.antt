@@ -1,0 +1,28 @@
+-- `table_plain::content::legal_digit` meets its contract.
+use mathlib.Core.Path.{sym, _∙_}
+use borrow.Author.Tests.{eqb-true}
+use borrow.Author.Needs.{needs}
+use Rattle.table_plain.proofs.content.legal_digit.Statement.{statement}
+use Rattle.table_plain.proofs.content.legal_digit.Tie as tie
+
+returns : tie.Need-returns
+returns c = search needs
+
+u16-at-requires : tie.Need-u16-at-requires
+u16-at-requires c κs = search needs
+
+cast-result : tie.Need-cast-result
+cast-result c = search needs
+
+mul-result : tie.Need-mul-result
+mul-result c = search needs
+
+add-result : tie.Need-add-result
+add-result c = search needs
+
+returns-2 : tie.Need-returns-2
+returns-2 c = λ e h. sym (c .u16-at .ensures) ∙ eqb-true _ _ e
+
+pub legal-digit-spec : {M : Type 1} → statement M
+legal-digit-spec =
+    tie.close (tie.spec returns u16-at-requires cast-result mul-result add-result returns-2)

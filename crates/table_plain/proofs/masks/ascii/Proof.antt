@@ -1,0 +1,47 @@
+-- `table_plain::masks::ascii` meets its contract: the three parts meet.
+use mathlib.Core.Bool.{_&&_}
+use Rattle.text.proofs.RowLaws.{and-true}
+use Rattle.table_plain.proofs.MaskLaws.{three-low}
+use borrow.Author.Needs.{needs}
+use Rattle.table_plain.proofs.masks.ascii.Statement.{statement}
+use Rattle.table_plain.proofs.masks.ascii.Tie as tie
+
+sub-last : tie.Need-sub-last
+sub-last c = search needs
+
+sub-middle : tie.Need-sub-middle
+sub-middle c = search needs
+
+add-middle : tie.Need-add-middle
+add-middle c = search needs
+
+low-eight-requires : tie.Need-low-eight-requires
+low-eight-requires c κs = search needs
+
+low-eight-requires-2 : tie.Need-low-eight-requires-2
+low-eight-requires-2 c κs = search needs
+
+low-eight-requires-3 : tie.Need-low-eight-requires-3
+low-eight-requires-3 c κs = search needs
+
+returns : tie.Need-returns
+returns c =
+    let first = c .before .before .low-eight in
+    let middle = c .before .low-eight2 in
+    let last = c .low-eight3 in
+    let p = c .before .before .before .before .pre in
+    λ e. (let two = and-true (first .result && middle .result) (last .result) e in
+    let one = and-true (first .result) (middle .result) (two .0) in
+    three-low _ _ _ (p .0 .0) (p .0 .1) (first .ensures (one .0)) (middle .ensures (one .1)) (last .ensures (two .1)))
+
+pub ascii-spec : {M : Type 1} → statement M
+ascii-spec =
+    tie.close
+    (tie.spec
+    sub-last
+    sub-middle
+    add-middle
+    low-eight-requires
+    low-eight-requires-2
+    low-eight-requires-3
+    returns)

@@ -1,0 +1,15 @@
+-- `table_plain::masks::low_four` meets its contract: the mask finds the highest bits.
+use borrow.Author.Tests.{eqb-true}
+use Rattle.table_plain.proofs.MaskLaws.{four-low}
+use borrow.Author.Needs.{needs}
+use Rattle.table_plain.proofs.masks.low_four.Statement.{statement}
+use Rattle.table_plain.proofs.masks.low_four.Tie as tie
+
+u32-at-requires : tie.Need-u32-at-requires
+u32-at-requires c κs = search needs
+
+returns : tie.Need-returns
+returns c = let p = c .before .before .pre in λ e. four-low _ _ (p .1) (p .0) (c .u32-at .ensures) (eqb-true _ _ e)
+
+pub low-four-spec : {M : Type 1} → statement M
+low-four-spec = tie.close (tie.spec u32-at-requires returns)

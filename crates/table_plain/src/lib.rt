@@ -1,0 +1,94 @@
+// Records as most of a table are, those of the plain table among them: with rom, value, base and script, no other field, and short ASCII strings.
+// They are read and found legal in one go, by few tests: of a record that is not told by them nothing is said, and the general reading decides.
+mod masks; // masks.rt: ASCII bytes looked at 8 at once
+mod content; // content.rt: the code point and the numbers
+
+ghost use mathlib.Core.Path.{_≡_};
+ghost use Prim.Native.Nat.{ℕ, _+_, _≤_, _<_};
+ghost use lib.ListN.{length, getD};
+ghost use Rattle.table_plain.specs.Plain.{TailIs, FieldsIs, PlainIs};
+use crate::content::legal_head;
+use crate::content::legal_numbers;
+use crate::masks::ascii;
+use crate::masks::low_four;
+
+// A legal record: its code point, and the offset behind it; any other, or none.
+pub enum Plain {
+    Legal(u32, usize),
+    Other,
+}
+
+// The offset behind fields that are told by few tests.
+pub enum Behind {
+    At(usize),
+    Other,
+}
+
+// The value and the base, and a script of at most 4 bytes. The rom stands before them.
+fn tail_end(s: &[u8], rom: usize, at: usize) -> Behind
+    requires { ⌜ (rom + 1 ≤ at) × (at < length (now s)) ⌝ }
+    ensures { λ r. ⌜ TailIs (now (s .entry)) rom at r ⌝ }
+{
+    if s.len() - at < 17 {
+        return Behind::Other;
+    }
+    let k = s[at + 16] as usize;
+    if 4 < k {
+        return Behind::Other;
+    }
+    if s.len() - at - 17 < k {
+        return Behind::Other;
+    }
+    let next = at + 17 + k;
+    if !low_four(s, next - 4) {
+        return Behind::Other;
+    }
+    if legal_numbers(s, rom, at) {
+        Behind::At(next)
+    } else {
+        Behind::Other
+    }
+}
+
+// The fields behind the map: a type of at most 8 bytes, which has 6 to 22 together with the rom, and what stands behind them.
+fn fields_end(s: &[u8], at: usize) -> Behind
+    requires { ⌜ at + 28 ≤ length (now s) ⌝ }
+    ensures { λ r. ⌜ FieldsIs (now (s .entry)) at r ⌝ }
+{
+    let n = s[at] as usize;
+    if 8 < n {
+        return Behind::Other;
+    }
+    let rom_at = at + 1 + n;
+    let both = n + s[rom_at] as usize;
+    if both < 6 {
+        return Behind::Other;
+    }
+    if 22 < both {
+        return Behind::Other;
+    }
+    let value_at = at + 2 + both;
+    if !ascii(s, at, value_at) {
+        return Behind::Other;
+    }
+    tail_end(s, rom_at, value_at)
+}
+
+// The record at an offset, if it is told by few tests.
+pub fn plain_at(s: &[u8], at: usize, least: u64) -> Plain
+    ensures { λ r. ⌜ PlainIs (now (s .entry)) at least r ⌝ }
+{
+    if s.len() < 33 {
+        return Plain::Other;
+    }
+    if s.len() - 33 < at {
+        return Plain::Other;
+    }
+    if !legal_head(s, at, least) {
+        return Plain::Other;
+    }
+    match fields_end(s, at + 5) {
+        Behind::At(next) => Plain::Legal(fields::u32_at(s, at), next),
+        Behind::Other => Plain::Other,
+    }
+}

@@ -1,0 +1,33 @@
+// Whether bytes are ASCII, looked at 8 at once: a mask finds their highest bits.
+ghost use mathlib.Core.Path.{_≡_};
+ghost use mathlib.Core.Bool.{true};
+ghost use Prim.Native.Nat.{ℕ, _+_, _≤_, _<_};
+ghost use lib.ListN.{length, getD};
+ghost use Rattle.dicts.specs.Answers.{Ascii};
+
+fn low_eight(s: &[u8], at: usize) -> bool
+    requires { ⌜ at + 8 ≤ length (now s) ⌝ }
+    requires bytes { ⌜ ((i : ℕ) → getD (now s) i 0 < 256) ⌝ }
+    ensures { λ r. ⌜ (r ≡ true → Ascii (now (s .entry)) at (at + 8) (at + 8)) ⌝ }
+{
+    fields::u64_at(s, at) & 0x8080808080808080 == 0
+}
+
+pub fn low_four(s: &[u8], at: usize) -> bool
+    requires { ⌜ at + 4 ≤ length (now s) ⌝ }
+    requires bytes { ⌜ ((i : ℕ) → getD (now s) i 0 < 256) ⌝ }
+    ensures { λ r. ⌜ (r ≡ true → Ascii (now (s .entry)) at (at + 4) (at + 4)) ⌝ }
+{
+    fields::u32_at(s, at) & 0x80808080 == 0
+}
+
+// The bytes from an offset on up to another, 8 to 24: the first 8, the middle 8 and the last 8.
+pub fn ascii(s: &[u8], at: usize, end: usize) -> bool
+    requires { ⌜ (at + 8 ≤ end) × (end ≤ at + 24) × (end ≤ length (now s)) ⌝ }
+    requires bytes { ⌜ ((i : ℕ) → getD (now s) i 0 < 256) ⌝ }
+    ensures { λ r. ⌜ (r ≡ true → Ascii (now (s .entry)) at end end) ⌝ }
+{
+    let last = end - 8;
+    let middle = at + (last - at) / 2;
+    low_eight(s, at) & low_eight(s, middle) & low_eight(s, last)
+}
