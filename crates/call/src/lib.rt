@@ -7,6 +7,7 @@ ghost use Rattle.text.specs.Text.{chars};
 ghost use Rattle.dicts.specs.Answers.{tableOf};
 ghost use Rattle.edge.specs.Layout.{listed};
 ghost use Rattle.numbers.specs.Call.{withAll, addNumbers};
+ghost use Rattle.table_check.specs.Indexed.{RecordIndex};
 ghost use Rattle.checks.specs.Checks.{Sound};
 ghost use Rattle.ending.specs.Answers.{AnswerIs};
 pub use answers::Answer;
@@ -26,13 +27,15 @@ fn checked_call(
     n: usize,
     edges: &[u8],
     count: usize,
+    index: &[u32; 256],
+    entries: usize,
     work: &mut [u8],
     out: &mut [u8],
 ) -> Answer
-    requires { ⌜ Offsets (now line) (now offs) × (65536 ≤ length (now work)) × Sound (now line) (now table) (now edges) n h count ⌝ }
+    requires { ⌜ Offsets (now line) (now offs) × (65536 ≤ length (now work)) × Sound (now line) (now table) (now edges) n h count × RecordIndex (now table) h (now index) entries ⌝ }
     ensures { λ r. ⌜ AnswerIs (now (out .entry)) (now (out .exit)) r (withAll (tableOf (now (table .entry)) h) (chars (now (line .entry))) (length (now (out .entry))) (listed (now (edges .entry)))) ⌝ }
 {
-    match first_stages::passed(work, line, offs, table, h, edges, count) {
+    match first_stages::passed(work, line, offs, table, h, edges, count, index, entries) {
         Passes::Above(p) => Answer::Refused(Refusal::AboveTop(p)),
         Passes::Added(m, k) => {
             let l = rest::rest_of_call(work, m, line, offs, table, h, n, k);
@@ -54,12 +57,16 @@ pub fn add_numbers(
     if work.len() < 65536 {
         return Answer::Refused(Refusal::ShortWork);
     }
-    match checks::check(line, table, edges) {
+    let mut index = [0u32; 256];
+    let mut entries: usize = 0;
+    match checks::check(line, table, edges, &mut index, &mut entries) {
         Lent::Refused(r) => Answer::Refused(r),
         Lent::Sound(n, h, count) => {
             let mut offs = [0usize; 257];
             places::place_offsets(line, &mut offs);
-            checked_call(line, &offs, table, h, n, edges, count, work, out)
+            checked_call(
+                line, &offs, table, h, n, edges, count, &index, entries, work, out,
+            )
         }
     }
 }

@@ -159,6 +159,12 @@ index-short all n h = go (decLe 256 n)
     go (no k) = omega arith
 
 -- an entry is due: there is room for it, and it is the next one
+pub due-room : (all : ℕ) (x : Index) → x .due ≡ all - x .n * strideOf all → 0 < x .due → x .n < 256
+due-room all x next h = index-short all (x .n) (omega (arith, next))
+
+pub due-next : (all : ℕ) (x : Index) → x .due ≡ all - x .n * strideOf all → x .due - strideOf all ≡ all - (x .n + 1) * strideOf all
+due-next all x next = omega (arith, next, add-mul (x .n) 1 (strideOf all))
+
 module _ (t : List ℕ) (rs : List Record) (os : List ℕ) (all : ℕ) (x : Index) (g : Growing t rs os all x) (left : ℕ) (here : left ≡ x .due) (some-left : 0 < left) where
   abbrev n : ℕ
   n = x .n
@@ -166,13 +172,13 @@ module _ (t : List ℕ) (rs : List Record) (os : List ℕ) (all : ℕ) (x : Inde
   due-inner : n * strideOf all < all
   due-inner = omega (arith, g .next)
 
-  pub due-room : n < 256
-  due-room = index-short all n due-inner
+  room : n < 256
+  room = index-short all n due-inner
 
   pub index-more : (at : ℕ) → Entry t rs at left → Growing t rs (set os n at) all (record { n = n + 1; due = left - strideOf all })
   index-more at e = record {
     made = record {
-      few = omega (arith, due-room);
+      few = omega (arith, room);
       long = length-set os n at ∙ g .made .long;
       inner = λ i k. ⊎-elim (λ q. rw q due-inner) (g .made .inner i) (eq-or-lt-of-le {n = i} {m = n} (omega arith));
       entries = λ i k. ⊎-elim (new i) (λ q. other i q (λ z. omega arith)) (eq-or-lt-of-le {n = i} {m = n} (omega arith));
@@ -183,7 +189,7 @@ module _ (t : List ℕ) (rs : List Record) (os : List ℕ) (all : ℕ) (x : Inde
       new : (i : ℕ) → i ≡ n → Entry t rs (getD (set os n at) i 0) (all - i * strideOf all)
       new i q =
           let l : all - n * strideOf all ≡ left = omega (arith, g .next) in
-          rw (q, getD-set-same os n at 0 (omega (arith, g .made .long, due-room)), l) e
+          rw (q, getD-set-same os n at 0 (omega (arith, g .made .long, room)), l) e
 
       other : (i : ℕ) → i < n → (i ≡ n → ⊥) → Entry t rs (getD (set os n at) i 0) (all - i * strideOf all)
       other i q d = rw (getD-set-other os n i at 0 d) (g .made .entries i q)

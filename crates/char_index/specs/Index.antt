@@ -8,6 +8,7 @@
 --     strideOf all             from one entry of the index to the next there are so many of all records
 --     Indexed t rs os all n    the index over rs, which are all records, has n entries: their offsets os; the i-th is record number i * strideOf all
 --     Growing t rs os all x    the same of an index x that is being made, whose next entry is due
+--     IndexIf t at all os n    if all records from the offset at on are laid out and rise, then the index over them has n entries, their offsets os
 -- Assumes nothing.
 use mathlib.Core.Path.{_≡_}
 use mathlib.Core.Bool.{true}
@@ -65,3 +66,6 @@ pub record Indexed (t : List ℕ) (rs : List Record) (os : List ℕ) (all n : �
 pub record Growing (t : List ℕ) (rs : List Record) (os : List ℕ) (all : ℕ) (x : Index) : Type 0 where
   pub made : Indexed t rs os all (x .n)
   pub next : x .due ≡ all - x .n * strideOf all
+
+abbrev pub IndexIf : List ℕ → ℕ → ℕ → List ℕ → ℕ → Type 0
+IndexIf t at all os n = Whole t at all → Indexed t (recordsAt all t at) os all n

@@ -1,12 +1,12 @@
 // The record of a character, and where it stands. Records have no fixed size, so an index keeps the offset of every stride-th one, 256 at most.
-// The cost: one walk over the records for the index; for each character at most nine looks into the index and stride records, a 256th of all. So the
+// The check of the table makes it in its own walk. The cost: for each character at most nine looks into the index and stride records, a 256th of all. So the
 // 256 characters of the longest line cost about one walk more, and not a walk each. For a table of up to 255 records the stride is 1.
 mod walk; // walk.rt: the offset behind a record
 mod known; // known.rt: a record that is known to stand at an offset
 
 ghost use mathlib.Core.Path.{_≡_};
 ghost use mathlib.Core.List.{List};
-ghost use Prim.Native.Nat.{ℕ, _-_, _<_};
+ghost use Prim.Native.Nat.{ℕ, _-_, _*_, _<_};
 ghost use lib.ListN.{length};
 ghost use Rattle.dicts.specs.Table.{Record};
 ghost use Rattle.dicts.specs.Layout.{recordsAt};
@@ -73,43 +73,24 @@ fn wide(x: u32) -> usize
     x as usize
 }
 
-// Takes a record into the index where it is its turn.
-fn enter(offs: &mut [u32; 256], index: Index, stride: usize, here: Rest) -> Index
-    requires { ⌜ (here .at < 4294967296) × (here .left ≡ index .due → index .n < 256) ⌝ }
-    ensures { λ r. ⌜ ((t : List ℕ) (rs : List Record) (all : ℕ) → strideOf all ≡ stride → 0 < here .left → Entry t rs (here .at) (here .left) → Growing t rs (now (offs .entry)) all index → Growing t rs (now (offs .exit)) all r) ⌝ }
+// Takes a record into the index over so many records, where it is its turn. An offset that takes more than 32 bits ends the index.
+pub fn enter(offs: &mut [u32; 256], index: Index, all: usize, here: Rest) -> Index
+    requires { ⌜ (index .due ≡ all - index .n * strideOf all) × (0 < here .left) ⌝ }
+    ensures next { λ r. ⌜ r .due ≡ all - r .n * strideOf all ⌝ }
+    ensures grows { λ r. ⌜ ((t : List ℕ) (rs : List Record) → Entry t rs (here .at) (here .left) → Growing t rs (now (offs .entry)) all index → Growing t rs (now (offs .exit)) all r) ⌝ }
 {
     if here.left != index.due {
+        return index;
+    }
+    if 0xFFFF_FFFF < here.at {
         return index;
     }
     let n = index.n;
     offs[n] = here.at as u32;
     Index {
         n: n + 1,
-        due: less(here.left, stride),
+        due: less(here.left, stride_of(all)),
     }
-}
-
-// Makes the index: the offset of every stride-th record. Gives the index's length. An offset that takes more than 32 bits ends it.
-pub fn index_records(table: &[u8], all: Rest, offs: &mut [u32; 256]) -> usize
-    requires { ⌜ Whole (now table) (all .at) (all .left) × (length (now offs) ≡ 256) ⌝ }
-    ensures { λ r. ⌜ Indexed (now (table .entry)) (recordsAt (all .left) (now (table .entry)) (all .at)) (now (offs .exit)) (all .left) r ⌝ }
-{
-    let stride = stride_of(all.left);
-    let mut at = all.at;
-    let mut left = all.left;
-    let mut index = Index {
-        n: 0,
-        due: all.left,
-    };
-    while 0 < left {
-        if 0xFFFF_FFFF < at {
-            return index.n;
-        }
-        index = enter(offs, index, stride, Rest { at: at, left: left });
-        at = record_end(table, at);
-        left -= 1;
-    }
-    index.n
 }
 
 // From where to look for a character: the last record of the index that is not above it, by halving; all records where there is none.

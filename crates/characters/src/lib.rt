@@ -13,6 +13,7 @@ ghost use Rattle.dicts.specs.Answers.{Inside};
 ghost use Rattle.char_index.specs.Index.{Indexed};
 ghost use Rattle.pass_list.specs.Item.{Small, Fits};
 ghost use Rattle.pass_list.specs.Stored.{recordBytes};
+ghost use Rattle.table_check.specs.Indexed.{RecordIndex};
 ghost use Rattle.stages.specs.Ready.{Ready};
 ghost use Rattle.characters.specs.CharItem.{charItem};
 ghost use Rattle.characters.specs.Initial.{recordsIn, Records, SoFar, Initial};
@@ -20,7 +21,6 @@ use crate::character::char_edge;
 use char_index::CharRecord;
 use char_index::Rest;
 use char_index::find_char;
-use char_index::index_records;
 use dicts::layout::NumProp;
 use dicts::shape::Shape;
 use pass_record::put;
@@ -90,18 +90,23 @@ fn add_chars(
     n
 }
 
-// The edges of the line's characters, at the start of the list; gives their count.
-pub fn initialize_num_edges(list: &mut [u8], line: &[u8], table: &[u8], h: Shape) -> usize
-    requires { ⌜ (14336 ≤ length (now list)) × ((n : ℕ) × Ready (now line) (now table) h n) ⌝ }
+// The edges of the line's characters, at the start of the list; gives their count. offs is the index over the table's records.
+pub fn initialize_num_edges(
+    list: &mut [u8],
+    line: &[u8],
+    table: &[u8],
+    h: Shape,
+    offs: &[u32; 256],
+    entries: usize,
+) -> usize
+    requires { ⌜ (14336 ≤ length (now list)) × ((n : ℕ) × Ready (now line) (now table) h n) × RecordIndex (now table) h (now offs) entries ⌝ }
     ensures { λ r. ⌜ Initial (now (line .entry)) (now (table .entry)) h (now (list .exit)) r ⌝ }
 {
-    let mut offs: [u32; 256] = [0; 256];
     // the table begins with the count of its records
     let count = fields::u16_at(table, 0) as usize;
     let all = Rest {
         at: h.records,
         left: count,
     };
-    let entries = index_records(table, all, &mut offs);
-    add_chars(list, line, table, all, &offs, entries)
+    add_chars(list, line, table, all, offs, entries)
 }

@@ -3,6 +3,7 @@
 --     Sound line table given ..  line, table and given edges passed their checks: so many characters, the table's shape, so many edges
 --     LentIs line table given r  the checks 2 to 6 found r: the definition's answer is that refusal, or they are passed
 --     RestIs n table given r     the same of the checks 4 to 6, after a line of n characters
+--     LentIndexed table os k r   where the checks are passed, the index over the table's records has k entries, their offsets os
 --     Assumes nothing.
 use mathlib.Core.Path.{_≡_}
 use mathlib.Core.Bool.{true, cond}
@@ -16,6 +17,7 @@ use Rattle.dicts.specs.Answers.{tableOf}
 use Rattle.dicts.specs.declared.shape.Shape.{Shape}
 use Rattle.edge.specs.Check.{checkListing}
 use Rattle.edge.specs.declared.ListingCheck.the-variants.{Edges}
+use Rattle.table_check.specs.Indexed.{RecordIndex}
 use Rattle.stages.specs.Ready.{Ready}
 use Rattle.numbers.specs.Call.{refused, withTable, withLine}
 use Rattle.answers.specs.declared.Refusal.{Refusal}
@@ -38,3 +40,7 @@ LentIs line table given (Lent.Refused r) = (out : ℕ) → withLine line table g
 unfoldable pub RestIs : ℕ → List ℕ → List ℕ → Lent → Type 0
 RestIs n table given (Lent.Sound m h count) = (m ≡ n) × (readTable table ≡ Fine (tableOf table h) (length table)) × (checkListing true n given ≡ Edges count)
 RestIs n table given (Lent.Refused r) = (w : List ℕ) → length w ≡ n → (out : ℕ) → withTable w out given (readTable table) ≡ refused (number r) (place r)
+
+unfoldable pub LentIndexed : List ℕ → List ℕ → ℕ → Lent → Type 0
+LentIndexed table os k (Lent.Sound n h count) = RecordIndex table h os k
+LentIndexed table os k (Lent.Refused r) = Unit {0}

@@ -1,6 +1,7 @@
 // The checks 2 to 6 of the call, in their order (01, "What a call is lent"): line, table, given edges.
 ghost use mathlib.Core.Path.{_≡_};
-ghost use Rattle.checks.specs.Checks.{tableRefusal, RestIs, LentIs};
+ghost use lib.ListN.{length};
+ghost use Rattle.checks.specs.Checks.{tableRefusal, RestIs, LentIs, LentIndexed};
 use answers::Refusal;
 use dicts::shape::Shape;
 use dicts::shape::TableCheck;
@@ -25,10 +26,18 @@ fn table_refusal(number: u8, at: usize) -> Refusal
 }
 
 // The checks 4 to 6, of a line of so many characters.
-fn check_rest(chars: usize, table: &[u8], edges: &[u8]) -> Lent
+fn check_rest(
+    chars: usize,
+    table: &[u8],
+    edges: &[u8],
+    offs: &mut [u32; 256],
+    entries: &mut usize,
+) -> Lent
+    requires { ⌜ length (now offs) ≡ 256 ⌝ }
     ensures { λ r. ⌜ RestIs chars (now (table .entry)) (now (edges .entry)) r ⌝ }
+    ensures indexed { λ r. ⌜ LentIndexed (now (table .entry)) (now (offs .exit)) (now (entries .exit)) r ⌝ }
 {
-    match table_check::check_table(table) {
+    match table_check::check_table(table, offs, entries) {
         TableCheck::Refused(number, at) => Lent::Refused(table_refusal(number, at)),
         TableCheck::Table(h) => match edge_check::check_listing(edges, chars, true) {
             ListingCheck::Refused(at) => Lent::Refused(Refusal::BadEdges(at)),
@@ -37,13 +46,21 @@ fn check_rest(chars: usize, table: &[u8], edges: &[u8]) -> Lent
     }
 }
 
-// The checks 2 to 6, in this order.
-pub fn check(line: &[u8], table: &[u8], edges: &[u8]) -> Lent
+// The checks 2 to 6, in this order. The index over the table's records is left in offs, with so many entries.
+pub fn check(
+    line: &[u8],
+    table: &[u8],
+    edges: &[u8],
+    offs: &mut [u32; 256],
+    entries: &mut usize,
+) -> Lent
+    requires { ⌜ length (now offs) ≡ 256 ⌝ }
     ensures { λ r. ⌜ LentIs (now (line .entry)) (now (table .entry)) (now (edges .entry)) r ⌝ }
+    ensures indexed { λ r. ⌜ LentIndexed (now (table .entry)) (now (offs .exit)) (now (entries .exit)) r ⌝ }
 {
     match text_line::check_line(line) {
         LineCheck::IllFormed(at) => Lent::Refused(Refusal::NotUtf8(at)),
         LineCheck::TooLong(at) => Lent::Refused(Refusal::OverLong(at)),
-        LineCheck::Chars(chars) => check_rest(chars, table, edges),
+        LineCheck::Chars(chars) => check_rest(chars, table, edges, offs, entries),
     }
 }

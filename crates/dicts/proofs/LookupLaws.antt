@@ -141,7 +141,7 @@ module _ (c : ℕ) (l : List Record) (h : rising 0 l ≡ true) where
   found-none e = ap (λ (x : List Record). find x c) e ∙ find-dropped c c l (omega arith)
 
 -- ---- a table's records rise
-item-fine : {A : Type 0} (at : ℕ) (legal : A → Bool) (f : Field A) {a : A} {next : ℕ} → item at legal f ≡ Fine a next → (f ≡ Is a next) × (legal a ≡ true)
+pub item-fine : {A : Type 0} (at : ℕ) (legal : A → Bool) (f : Field A) {a : A} {next : ℕ} → item at legal f ≡ Fine a next → (f ≡ Is a next) × (legal a ≡ true)
 unfolding item
 item-fine at legal Fault e = let z : _≡_ {A = ℕ} 0 1 = cc in absurd (omega arith)
 item-fine at legal (Is b m) {a} {next} e = go (legal b) refl e

@@ -8,7 +8,9 @@ use dicts::shape::TableCheck;
 fn report(buffer: &[u8], n: usize)
     requires { ⌜ n ≤ length (now buffer) ⌝ }
 {
-    match table_check::check_table(&buffer[..n]) {
+    let mut offs = [0u32; 256];
+    let mut entries: usize = 0;
+    match table_check::check_table(&buffer[..n], &mut offs, &mut entries) {
         TableCheck::Table(shape) => {
             io::write_all(1, b"table of ");
             io::print_decimal(1, shape.count as u64);

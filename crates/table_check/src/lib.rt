@@ -3,7 +3,13 @@ ghost use mathlib.Core.Path.{_≡_};
 ghost use Rattle.dicts.specs.Layout.{text, readRecord};
 ghost use Rattle.dicts.specs.Check.{item, legalMark, legalRecord, readTexts, readList, readRecords, readTable};
 ghost use Rattle.dicts.specs.Answers.{endOf, recordItem, tableAnswer};
+ghost use lib.ListN.{length};
+ghost use Rattle.char_index.specs.Index.{IndexIf};
 ghost use Rattle.table_check.specs.Step.{StepIs};
+ghost use Rattle.table_check.specs.Indexed.{TableIndexed};
+use char_index::Index;
+use char_index::Rest;
+use char_index::enter;
 use dicts::layout::RecordAt;
 use dicts::layout::TextAt;
 use dicts::layout::record_at;
@@ -98,31 +104,45 @@ fn record_item(s: &[u8], at: usize, least: u64) -> Step
     }
 }
 
-// The records, n of them, their code points rising.
-fn records_end(s: &[u8], from: usize, n: usize) -> Items
+// The records, n of them, their code points rising. Their index is made on the way, and how many entries it has.
+fn records_end(
+    s: &[u8],
+    from: usize,
+    n: usize,
+    offs: &mut [u32; 256],
+    entries: &mut usize,
+) -> Items
+    requires { ⌜ length (now offs) ≡ 256 ⌝ }
     ensures { λ r. ⌜ r ≡ endOf (readRecords n 0 (now (s .entry)) from) ⌝ }
+    ensures indexed { λ _. ⌜ IndexIf (now (s .entry)) from n (now (offs .exit)) (now (entries .exit)) ⌝ }
 {
     let mut at = from;
     let mut left = n;
     let mut least: u64 = 0;
+    let mut index = Index { n: 0, due: n };
     while 0 < left {
         match record_item(s, at, least) {
             Step::Next(code, next) => {
+                index = enter(offs, index, n, Rest { at: at, left: left });
                 at = next;
                 least = code as u64 + 1;
                 left -= 1;
             }
             Step::Refused(number) => {
+                *entries = index.n;
                 return Items::Refused(number, at);
             }
         }
     }
+    *entries = index.n;
     Items::End(at)
 }
 
-// The table that the bytes are, or why they are none.
-pub fn check_table(s: &[u8]) -> TableCheck
+// The table that the bytes are, or why they are none. The index over its records is left in offs, with so many entries.
+pub fn check_table(s: &[u8], offs: &mut [u32; 256], entries: &mut usize) -> TableCheck
+    requires { ⌜ length (now offs) ≡ 256 ⌝ }
     ensures { λ r. ⌜ tableAnswer (now (s .entry)) r ≡ readTable (now (s .entry)) ⌝ }
+    ensures indexed { λ r. ⌜ TableIndexed (now (s .entry)) (now (offs .exit)) (now (entries .exit)) r ⌝ }
 {
     if s.len() < 2 {
         return TableCheck::Refused(4, 0);
@@ -136,7 +156,7 @@ pub fn check_table(s: &[u8]) -> TableCheck
                 Items::Refused(number, at) => TableCheck::Refused(number, at),
                 Items::End(minus) => match list_end(s, minus) {
                     Items::Refused(number, at) => TableCheck::Refused(number, at),
-                    Items::End(records) => match records_end(s, records, count) {
+                    Items::End(records) => match records_end(s, records, count, offs, entries) {
                         Items::Refused(number, at) => TableCheck::Refused(number, at),
                         Items::End(end) => {
                             if end != s.len() {

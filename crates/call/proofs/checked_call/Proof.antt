@@ -62,7 +62,7 @@ final a =
     (a .rest-of-call .ensures es (d .holds) (in-line m es (d .call)))
 
 passed-requires : tie.Need-passed-requires
-passed-requires c κs = let s = c .before .before .before .before .before .before in (s .pre .0, s .pre .1, (s .args .n, s .pre .2 .ready, s .pre .2 .edges))
+passed-requires c κs = let s = c .before .before .before .before .before .before in (s .pre .0, s .pre .1, (s .args .n, s .pre .2 .ready, s .pre .2 .edges), s .pre .3)
 
 enum-known-p : tie.Need-enum-known-p
 enum-known-p c = search needs

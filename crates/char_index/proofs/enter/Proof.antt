@@ -1,34 +1,58 @@
 -- `enter` meets its contract: the index stays, or has an entry more.
+use mathlib.Core.Path.{_≡_, _∙_}
+use Prim.Native.Nat.{_<_}
 use native.Mathlib.Omega.{arith}
-use Rattle.char_index.proofs.IndexLaws.{index-more}
+use Rattle.char_index.proofs.IndexLaws.{due-room, due-next, index-more}
 use borrow.Author.Needs.{needs}
 use Rattle.char_index.proofs.enter.Statement.{statement}
 use Rattle.char_index.proofs.enter.Tie as tie
 
+-- an entry is due: there is room for it
+room : (c : tie.Else2) → let s = c .before .before .before .before .before in s .args .index .n < 256
+room c = let s = c .before .before .before .before .before in due-room (s .args .all) (s .args .index) (s .pre .0) (omega (arith, s .pre .1, c .before .before .if1 .left))
+
 returns : tie.Need-returns
-returns c = search needs
+returns c = let s = c .before .before .before in (s .pre .0, λ t rs e g. g)
+
+returns-2 : tie.Need-returns-2
+returns-2 c = let s = c .before .before .before .before .before in (s .pre .0, λ t rs e g. g)
 
 cast-offs : tie.Need-cast-offs
-cast-offs c = search needs
+cast-offs c = omega (arith, c .before .if2 .left)
 
 mul-offs : tie.Need-mul-offs
-mul-offs c = omega (arith, c .before .before .before .before .pre .1 (c .before .if1 .left))
+mul-offs c = omega (arith, room (c .before))
 
 element-write-offs : tie.Need-element-write-offs
-element-write-offs c = omega (arith, c .before .before .before .before .pre .1 (c .before .if1 .left))
+element-write-offs c = room (c .before)
 
 add-t8 : tie.Need-add-t8
-add-t8 c = omega (arith, c .before .before .before .before .pre .1 (c .before .if1 .left))
+add-t8 c = omega (arith, room (c .before))
+
+stride-of-requires : tie.Need-stride-of-requires
+stride-of-requires c κs = search needs
 
 less-requires : tie.Need-less-requires
 less-requires c κs = search needs
 
-returns-2 : tie.Need-returns-2
-returns-2 c = λ t rs all stride some-left e g.
-    let here = c .before .before .if1 .left in
-    rw (c .less .ensures, ← stride) (index-more t rs _ all _ g _ here some-left _ e)
+returns-3 : tie.Need-returns-3
+returns-3 c =
+    let e = c .before .before .before in
+    let s = e .before .before .before .before .before in
+    let here = e .before .before .if1 .left in
+    let l = rw (c .before .stride-of .ensures) at (c .less .ensures) in
+    (l ∙ rw here (due-next (s .args .all) (s .args .index) (s .pre .0)), λ t rs e g. rw l (index-more t rs _ _ _ g _ here (s .pre .1) _ e))
 
 pub enter-spec : {M : Type 1} → statement M
 enter-spec =
     tie.close
-    (tie.spec returns cast-offs mul-offs element-write-offs add-t8 less-requires returns-2)
+    (tie.spec
+    returns
+    returns-2
+    cast-offs
+    mul-offs
+    element-write-offs
+    add-t8
+    stride-of-requires
+    less-requires
+    returns-3)

@@ -15,18 +15,13 @@ u16-at-requires c κs = table-told _ (c .before .before .before .pre .1 .1 .chec
 cast-count : tie.Need-cast-count
 cast-count c = search needs
 
-index-records-requires : tie.Need-index-records-requires
-index-records-requires c κs =
-    let s = c .before .before .before .before .before in
-    (records-whole _ _ (said-records _ (s .args .h) (s .pre .1 .1 .checked) (c .before .u16-at .ensures)), length-replicate {A = ℕ} 256 0)
-
 add-chars-requires : tie.Need-add-chars-requires
 add-chars-requires c κs =
-    let i = c .before .before in
-    let u = i .before .before in
+    let u = c .before in
     let s = u .before .before .before .before in
     let ready = s .pre .1 .1 in
-    (s .pre .0, ready .formed, omega (arith, ready .count, ready .few), said-records _ (s .args .h) (ready .checked) (u .u16-at .ensures), i .index-records .ensures)
+    let records = said-records _ (s .args .h) (ready .checked) (u .u16-at .ensures) in
+    (s .pre .0, ready .formed, omega (arith, ready .count, ready .few), records, rw (← (u .u16-at .ensures)) at (s .pre .2) (records-whole _ _ records))
 
 same-length : tie.Need-same-length
 same-length c = search needs
@@ -34,11 +29,9 @@ same-length c = search needs
 returns : tie.Need-returns
 returns c =
     let a = c .before .before in
-    let u = a .before .before .before .before .before in
+    let u = a .before .before in
     let s = u .before .before .before .before in
     said-initial _ (s .args .h) (s .pre .1 .1 .checked) (u .u16-at .ensures) (s .args .line .now) (a .add-chars .ensures)
 
 pub initialize-num-edges-spec : {M : Type 1} → statement M
-initialize-num-edges-spec =
-    tie.close
-    (tie.spec u16-at-requires cast-count index-records-requires add-chars-requires same-length returns)
+initialize-num-edges-spec = tie.close (tie.spec u16-at-requires cast-count add-chars-requires same-length returns)

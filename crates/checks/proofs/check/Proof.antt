@@ -1,4 +1,5 @@
 -- `checks::check` meets its contract, by what the line's check answers. Assumes nothing.
+use Rattle.checks.specs.Checks.{LentIndexed}
 use borrow.Author.Needs.{needs}
 use Rattle.checks.proofs.CheckLaws.{lent-ill, lent-long, lent-chars}
 use Rattle.checks.proofs.check.Statement.{statement}
@@ -20,13 +21,15 @@ check-rest-requires : tie.Need-check-rest-requires
 check-rest-requires c κs = search needs
 
 returns : tie.Need-returns
-returns c = lent-ill _ _ _ (c .before .before .before .check-line .ensures) (c .before .at .given .1)
+unfolding LentIndexed
+returns c = (lent-ill _ _ _ (c .before .before .before .check-line .ensures) (c .before .at .given .1), tt)
 
 returns-2 : tie.Need-returns-2
-returns-2 c = lent-long _ _ _ (c .before .before .before .check-line .ensures) (c .before .at2 .given .1)
+unfolding LentIndexed
+returns-2 c = (lent-long _ _ _ (c .before .before .before .check-line .ensures) (c .before .at2 .given .1), tt)
 
 returns-3 : tie.Need-returns-3
-returns-3 c = let k = c .before .before in lent-chars _ _ _ (k .before .before .check-line .ensures) (k .chars .given .1) _ (c .check-rest .ensures)
+returns-3 c = let k = c .before .before .before .before in (lent-chars _ _ _ (k .before .before .check-line .ensures) (k .chars .given .1) _ (c .check-rest .ensures .0), c .check-rest .ensures .1)
 
 pub check-spec : {M : Type 1} → statement M
 check-spec =

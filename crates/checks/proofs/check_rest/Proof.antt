@@ -1,4 +1,7 @@
 -- `checks::check_rest` meets its contract, by what the table's check and the listing's answer. Assumes nothing.
+use mathlib.Core.Path.{subst}
+use Rattle.table_check.specs.Indexed.{TableIndexed}
+use Rattle.checks.specs.Checks.{LentIndexed}
 use borrow.Author.Needs.{needs}
 use Rattle.checks.proofs.CheckLaws.{rest-table, rest-edges, rest-sound}
 use Rattle.checks.proofs.check_rest.Statement.{statement}
@@ -26,13 +29,16 @@ enum-known-count : tie.Need-enum-known-count
 enum-known-count c = search needs
 
 returns : tie.Need-returns
-returns c = let k = c .before .before in rest-table _ _ _ (k .before .before .check-table .ensures) (k .number .given .1) (c .table-refusal .ensures)
+unfolding LentIndexed
+returns c = let k = c .before .before in (rest-table _ _ _ (k .before .before .check-table .ensures .0) (k .number .given .1) (c .table-refusal .ensures), tt)
 
 returns-2 : tie.Need-returns-2
-returns-2 c = let l = c .before .before .before in let h = l .before .before in rest-edges _ _ _ (h .before .before .check-table .ensures) (h .h .given .1) (l .check-listing .ensures) (c .before .at .given .1)
+unfolding LentIndexed
+returns-2 c = let l = c .before .before .before in let h = l .before .before in (rest-edges _ _ _ (h .before .before .check-table .ensures .0) (h .h .given .1) (l .check-listing .ensures) (c .before .at .given .1), tt)
 
 returns-3 : tie.Need-returns-3
-returns-3 c = let l = c .before .before .before in let h = l .before .before in rest-sound _ _ _ (h .before .before .check-table .ensures) (h .h .given .1) (l .check-listing .ensures) (c .before .count .given .1)
+unfolding LentIndexed TableIndexed
+returns-3 c = let l = c .before .before .before in let h = l .before .before in (rest-sound _ _ _ (h .before .before .check-table .ensures .0) (h .h .given .1) (l .check-listing .ensures) (c .before .count .given .1), subst (TableIndexed _ _ _) (h .h .given .1) (h .before .before .check-table .ensures .1))
 
 pub check-rest-spec : {M : Type 1} → statement M
 check-rest-spec =

@@ -28,7 +28,7 @@ add-all-given-requires c κs = search needs
 first-edges-requires : tie.Need-first-edges-requires
 first-edges-requires c κs = let g = c .before .before .before in
     let p = start g .pre in
-    ((_, held g), p .0, omega (arith, p .1, g .before .before .before .before .empty .kept .0, g .add-all-given .kept .0), (p .2 .0, p .2 .1))
+    ((_, held g), p .0, omega (arith, p .1, g .before .before .before .before .empty .kept .0, g .add-all-given .kept .0), (p .2 .0, p .2 .1), p .3)
 
 five-passes-requires : tie.Need-five-passes-requires
 five-passes-requires c κs = let r = c .before .before .before .before in
