@@ -42,11 +42,11 @@ module _ (c : ItemChain) (y : Item) where
   unfolding g1Rule
   g1-needs h = let t = all-five (not (c .more)) (eqb (c .edge .base) 1) (leb 1 (c .edge .value)) (ltb 1 (y .base)) (not (y .large-power)) h in rw (t .0, t .1, t .3, t .4)
 
-  g2-needs : g2Rule c y ≡ true → (c .edge .has-value && not (c .edge .large-power) && (ltb (y .base) (c .near) || y .gap)) ≡ true
+  g2-needs : g2Rule c y ≡ true → (not (c .edge .large-power) && (ltb (y .base) (c .near) || y .gap)) ≡ true
   unfolding g2Rule
   g2-needs h =
       let t = all-four (c .edge .has-value) (not (c .edge .large-power)) (not (y .large-power)) _ h in
-      rw (t .0, t .1) (go (comparable c y) (ltb (y .value) (c .near)) (t .3))
+      rw (t .1) (go (comparable c y) (ltb (y .value) (c .near)) (t .3))
     where
       go : (a b : Bool) → ((a && (b && ltb (y .base) (c .near))) || (not a && y .gap)) ≡ true → (ltb (y .base) (c .near) || y .gap) ≡ true
       go true true h = either (or-true (ltb (y .base) (c .near)) false h)
@@ -57,9 +57,9 @@ module _ (c : ItemChain) (y : Item) where
       go true false h = absurd (let z : _≡_ {A = ℕ} 0 1 = cc in omega arith)
       go false b h = or-right (ltb (y .base) (c .near)) (y .gap) h
 
-  g3-needs : g3Rule c y ≡ true → (not (c .more) && (c .edge .has-value && not (c .edge .large-power) && y .large-power)) ≡ true
+  g3-needs : g3Rule c y ≡ true → (not (c .more) && (not (c .edge .large-power) && y .large-power)) ≡ true
   unfolding g3Rule
-  g3-needs h = let t = all-five (not (c .more)) (c .edge .has-value) (not (c .edge .large-power)) (y .has-value) (y .large-power) h in rw (t .0, t .1, t .2, t .4)
+  g3-needs h = let t = all-five (not (c .more)) (c .edge .has-value) (not (c .edge .large-power)) (y .has-value) (y .large-power) h in rw (t .0, t .2, t .4)
 
   retags-thousand : retags (c .edge) y ≡ true → leb 1000 (c .edge .base) ≡ true
   unfolding retags
@@ -91,8 +91,8 @@ mayTake G4 c y = leb 1000 (c .edge .base) || ltb (y .base) (c .edge .base)
 abbrev pub mayJoin : Pass → Item → Item → Bool
 mayJoin D1 x y = x .digit && y .digit
 mayJoin G1 x y = eqb (x .base) 1 && ltb 1 (y .base) && not (y .large-power)
-mayJoin G2 x y = x .has-value && not (x .large-power) && (ltb (y .base) (x .base) || y .gap)
-mayJoin G3 x y = x .has-value && not (x .large-power) && y .large-power
+mayJoin G2 x y = not (x .large-power) && (ltb (y .base) (x .base) || y .gap)
+mayJoin G3 x y = not (x .large-power) && y .large-power
 mayJoin G4 x y = leb 1000 (x .base) || ltb (y .base) (x .base)
 
 joins-both : (p : Pass) (c : ItemChain) (y : Item) → joins p c y ≡ true → (touches c y ≡ true) × (rule p c (counted p (c .edge) y) ≡ true)
@@ -103,7 +103,7 @@ may-take : (p : Pass) (c : ItemChain) (y : Item) → rule p c (counted p (c .edg
 unfolding d1Rule counted withNumbers
 may-take D1 c y h = and-true (c .more || c .edge .digit) (y .digit) h .1
 may-take G1 c y h = and-true (not (c .more)) _ (g1-needs c y h) .0
-may-take G2 c y h = and-true (c .edge .has-value && not (c .edge .large-power)) _ (g2-needs c y h) .1
+may-take G2 c y h = and-true (not (c .edge .large-power)) _ (g2-needs c y h) .1
 may-take G3 c y h = and-true (not (c .more)) _ (g3-needs c y h) .0
 may-take G4 c y h = g4-needs c y h
 
@@ -113,8 +113,8 @@ may-join D1 x y h = h
 may-join G1 x y h = g1-needs (begin x) y h
 may-join G2 x y h = go (x .gap) (g2-needs (begin x) y h)
   where
-    go : (g : Bool) → (x .has-value && not (x .large-power) && (ltb (y .base) (cond g 0 (x .base)) || y .gap)) ≡ true → (x .has-value && not (x .large-power) && (ltb (y .base) (x .base) || y .gap)) ≡ true
-    go true h = let t = all-three (x .has-value) (not (x .large-power)) (ltb (y .base) 0 || y .gap) h in rw (t .0, t .1) (either (or-true (ltb (y .base) 0) (y .gap) (t .2)))
+    go : (g : Bool) → (not (x .large-power) && (ltb (y .base) (cond g 0 (x .base)) || y .gap)) ≡ true → (not (x .large-power) && (ltb (y .base) (x .base) || y .gap)) ≡ true
+    go true h = let t = and-true (not (x .large-power)) (ltb (y .base) 0 || y .gap) h in rw (t .0) (either (or-true (ltb (y .base) 0) (y .gap) (t .1)))
       where
         either : (ltb (y .base) 0 ≡ true) ⊎ (y .gap ≡ true) → (ltb (y .base) (x .base) || y .gap) ≡ true
         either (inl k) = absurd (omega (arith, ltb-true (y .base) 0 k))

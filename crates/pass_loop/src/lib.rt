@@ -42,8 +42,8 @@ fn may_join(s: &[u8], a: usize, b: usize, pass: Pass) -> bool
     match pass {
         Pass::D1 => (l / 256 % 2 == 1) & (r / 256 % 2 == 1),
         Pass::G1 => (base == 1) & (1 < next) & !(r / 64 % 2 == 1),
-        Pass::G2 => (l / 2 % 2 == 1) & !(l / 64 % 2 == 1) & ((next < base) | (r / 512 % 2 == 1)),
-        Pass::G3 => (l / 2 % 2 == 1) & !(l / 64 % 2 == 1) & (r / 64 % 2 == 1),
+        Pass::G2 => !(l / 64 % 2 == 1) & ((next < base) | (r / 512 % 2 == 1)),
+        Pass::G3 => !(l / 64 % 2 == 1) & (r / 64 % 2 == 1),
         Pass::G4 => (1000 <= base) | (next < base),
     }
 }

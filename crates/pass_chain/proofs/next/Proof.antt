@@ -22,26 +22,23 @@ touching c x y p q = eq-eqb _ _ (sym (ap (λ (k : Chain). k .edge .end .0) (p .i
 as-counted : (c : tie.After-counted) (x : ItemChain) (y : Item) → ChainIs (c .before .before .before .before .before .args .c) x → EdgeIs (c .before .before .before .before .before .args .e) y → EdgeIs (c .counted .result) (counted (passOf (c .before .before .before .before .before .args .pass)) (x .edge) y)
 as-counted c x y p q = record { is = c .counted .ensures (x .edge) y (chain-edge p) q; fits = counted-fits _ _ _ (p .fits) (q .fits) }
 
-ruled : (c : tie.After-rule) (x : ItemChain) (y : Item) → ChainIs (c .before .before .before .before .before .before .before .before .args .c) x → EdgeIs (c .before .before .before .before .before .before .before .before .args .e) y → c .rule .result ≡ rule (passOf (c .before .before .before .before .before .before .before .before .args .pass)) x (counted (passOf (c .before .before .before .before .before .before .before .before .args .pass)) (x .edge) y)
-ruled c x y p q =
-    let r = as-counted (c .before .before .before) x y p q in
-    c .rule .ensures x _ (p .is) (c .before .before .to-u64 .ensures (x .edge .value) (p .fits .small .value) (ap (λ (k : Chain). k .edge .num .value) (p .is))) (r .is)
-    (c .before .to-u642 .ensures _ (r .fits .small .value) (ap (λ (e : PassEdge). e .num .value) (r .is)))
+judged : (c : tie.After-ruled) (x : ItemChain) (y : Item) → ChainIs (c .before .before .before .before .before .before .args .c) x → EdgeIs (c .before .before .before .before .before .before .args .e) y → c .ruled .result ≡ rule (passOf (c .before .before .before .before .before .before .args .pass)) x (counted (passOf (c .before .before .before .before .before .before .args .pass)) (x .edge) y)
+judged c x y p q = c .ruled .ensures x _ p (as-counted (c .before) x y p q)
 
-valued : (c : tie.After-joined-value) (x : ItemChain) (y : Item) → ChainIs (c .before .before .before .before .before .before .before .before .before .before .args .c) x → EdgeIs (c .before .before .before .before .before .before .before .before .before .before .args .e) y → c .joined-value .result ≡ value (joinedValue (passOf (c .before .before .before .before .before .before .before .before .before .before .args .pass)) x y)
+valued : (c : tie.After-joined-value) (x : ItemChain) (y : Item) → ChainIs (c .before .before .before .before .before .before .before .before .args .c) x → EdgeIs (c .before .before .before .before .before .before .before .before .args .e) y → c .joined-value .result ≡ value (joinedValue (passOf (c .before .before .before .before .before .before .before .before .args .pass)) x y)
 valued c x y p q =
-    let r = as-counted (c .before .before .before .before .before) x y p q in
+    let r = as-counted (c .before .before .before) x y p q in
     c .joined-value .ensures _ _ (p .fits .small .value) (r .fits .small .value) (ap (λ (k : Chain). k .edge .num .value) (p .is)) (ap (λ (e : PassEdge). e .num .value) (r .is))
 
-joined : (c : tie.After-over) (x : ItemChain) (y : Item) → ChainIs (c .before .before .before .before .before .before .before .before .before .before .before .before .before .before .args .c) x → EdgeIs (c .before .before .before .before .before .before .before .before .before .before .before .before .before .before .args .e) y → c .over .result ≡ passEdge (over (passOf (c .before .before .before .before .before .before .before .before .before .before .before .before .before .before .args .pass)) (x .edge) (counted (passOf (c .before .before .before .before .before .before .before .before .before .before .before .before .before .before .args .pass)) (x .edge) y) (joinedValue (passOf (c .before .before .before .before .before .before .before .before .before .before .before .before .before .before .args .pass)) x y))
+joined : (c : tie.After-over) (x : ItemChain) (y : Item) → ChainIs (c .before .before .before .before .before .before .before .before .before .before .before .before .args .c) x → EdgeIs (c .before .before .before .before .before .before .before .before .before .before .before .before .args .e) y → c .over .result ≡ passEdge (over (passOf (c .before .before .before .before .before .before .before .before .before .before .before .before .args .pass)) (x .edge) (counted (passOf (c .before .before .before .before .before .before .before .before .before .before .before .before .args .pass)) (x .edge) y) (joinedValue (passOf (c .before .before .before .before .before .before .before .before .before .before .before .before .args .pass)) x y))
 joined c x y p q =
-    let v = value-fits (joinedValue (passOf (c .before .before .before .before .before .before .before .before .before .before .before .before .before .before .args .pass)) x y) (sym (valued (c .before .before .before .before) x y p q) ∙ c .before .before .v .given .1) in
-    c .over .ensures _ _ _ (chain-edge p .is) (as-counted (c .before .before .before .before .before .before .before .before .before) x y p q .is) (v .1)
+    let v = value-fits (joinedValue (passOf (c .before .before .before .before .before .before .before .before .before .before .before .before .args .pass)) x y) (sym (valued (c .before .before .before .before) x y p q) ∙ c .before .before .v .given .1) in
+    c .over .ensures _ _ _ (chain-edge p .is) (as-counted (c .before .before .before .before .before .before .before) x y p q .is) (v .1)
 
-joined-answer : (c : tie.After-over) (x : ItemChain) (y : Item) → ChainIs (c .before .before .before .before .before .before .before .before .before .before .before .before .before .before .args .c) x → EdgeIs (c .before .before .before .before .before .before .before .before .before .before .before .before .before .before .args .e) y → Longer (passChain (longer (passOf (c .before .before .before .before .before .before .before .before .before .before .before .before .before .before .args .pass)) x y)) ≡ answer (passOf (c .before .before .before .before .before .before .before .before .before .before .before .before .before .before .args .pass)) x y
+joined-answer : (c : tie.After-over) (x : ItemChain) (y : Item) → ChainIs (c .before .before .before .before .before .before .before .before .before .before .before .before .args .c) x → EdgeIs (c .before .before .before .before .before .before .before .before .before .before .before .before .args .e) y → Longer (passChain (longer (passOf (c .before .before .before .before .before .before .before .before .before .before .before .before .args .pass)) x y)) ≡ answer (passOf (c .before .before .before .before .before .before .before .before .before .before .before .before .args .pass)) x y
 joined-answer c x y p q =
-    let v = value-fits (joinedValue (passOf (c .before .before .before .before .before .before .before .before .before .before .before .before .before .before .args .pass)) x y) (sym (valued (c .before .before .before .before) x y p q) ∙ c .before .before .v .given .1) in
-    longer-answer _ x y (touching (c .before .before .before .before .before .before .before .before .before .before .before) x y p q) (sym (ruled (c .before .before .before .before .before .before) x y p q) ∙ not-false _ (c .before .before .before .before .before .if2 .left)) (v .0)
+    let v = value-fits (joinedValue (passOf (c .before .before .before .before .before .before .before .before .before .before .before .before .args .pass)) x y) (sym (valued (c .before .before .before .before) x y p q) ∙ c .before .before .v .given .1) in
+    longer-answer _ x y (touching (c .before .before .before .before .before .before .before .before .before) x y p q) (sym (judged (c .before .before .before .before .before .before) x y p q) ∙ not-false _ (c .before .before .before .before .before .if2 .left)) (v .0)
 
 returns : tie.Need-returns
 returns c x y p q =
@@ -50,17 +47,11 @@ returns c x y p q =
 counted-requires : tie.Need-counted-requires
 counted-requires c κs = let p = c .before .before .before .before .pre .0 in let q = c .before .before .before .before .pre .1 in ((p .0 .edge, chain-edge (p .1)), q)
 
-to-u64-requires : tie.Need-to-u64-requires
-to-u64-requires c κs = search needs
-
-to-u64-requires-2 : tie.Need-to-u64-requires-2
-to-u64-requires-2 c κs = search needs
-
-rule-requires : tie.Need-rule-requires
-rule-requires c κs = search needs
+ruled-requires : tie.Need-ruled-requires
+ruled-requires c κs = search needs
 
 returns-2 : tie.Need-returns-2
-returns-2 c x y p q = refused _ x y (touching (c .before .before .before .before .before .before) x y p q) (sym (ruled (c .before) x y p q) ∙ not-true _ (c .if2 .taken))
+returns-2 c x y p q = refused _ x y (touching (c .before .before .before .before) x y p q) (sym (judged (c .before) x y p q) ∙ not-true _ (c .if2 .taken))
 
 joined-value-requires : tie.Need-joined-value-requires
 joined-value-requires c κs = search needs
@@ -79,7 +70,7 @@ take-requires c κs = search needs
 
 returns-3 : tie.Need-returns-3
 returns-3 c x y p q =
-    too-large _ x y (touching (c .before .before .before .before .before .before .before .before .before) x y p q) (sym (ruled (c .before .before .before .before) x y p q) ∙ not-false _ (c .before .before .before .if2 .left)) (value-above (joinedValue (passOf (c .before .before .before .before .before .before .before .before .before .before .before .before .args .pass)) x y) (sym (valued (c .before .before) x y p q) ∙ c .enum-told .given .1))
+    too-large _ x y (touching (c .before .before .before .before .before .before .before) x y p q) (sym (judged (c .before .before .before .before) x y p q) ∙ not-false _ (c .before .before .before .if2 .left)) (value-above (joinedValue (passOf (c .before .before .before .before .before .before .before .before .before .before .args .pass)) x y) (sym (valued (c .before .before) x y p q) ∙ c .enum-told .given .1))
 
 returns-4 : tie.Need-returns-4
 unfolding longer
@@ -91,9 +82,7 @@ next-spec =
     (tie.spec
     returns
     counted-requires
-    to-u64-requires
-    to-u64-requires-2
-    rule-requires
+    ruled-requires
     returns-2
     joined-value-requires
     enum-told
