@@ -1,57 +1,93 @@
--- A line without markers, and the loop that looks for one. No contract cites this file.
--- In order: what the code's answer says; the loop; the stage over a line without markers. Assumes nothing.
-use mathlib.Core.Path.{_≡_, refl, sym, ap, _∙_}
-use mathlib.Core.Logic.{_⊎_, inl, inr}
-use mathlib.Core.Bool.{Bool, true, false, _||_, true≢false}
+-- A line without markers. No contract cites this file.
+-- In order: tests; the texts of the lists at all places, and the marker that counts at each; the stage over a line without markers. Assumes nothing.
+use mathlib.Core.Path.{_≡_, refl, _∙_}
+use mathlib.Core.Bool.{Bool, true, false, cond, not, _||_, true≢false}
 use mathlib.Core.List.{List, [], _∷_}
-use Prim.Native.Nat.{ℕ, zero, suc, _+_, _-_, _≤_, _<_}
-use native.Mathlib.Nat.{sub-zero}
-use native.Mathlib.Numerals.{add-one}
+use Prim.Native.Nat.{ℕ, zero, suc, _≤_, _<_}
 use native.Mathlib.Omega.{arith}
+use native.Mathlib.Decide.{decLe}
 use lib.ListN.{length}
-use denote.Enum.Declared.{tagOf}
-use Rattle.dicts.specs.Table.{Table}
+use lib.Dec.{leb, eqb}
+use borrow.Author.Tests.{ne-eqb}
+use Rattle.text.specs.Text.{chars}
+use Rattle.dicts.specs.Table.{Text, Table}
 use Rattle.edge.specs.Edge.{Edge}
 use Rattle.lattice.specs.Lattice.{addAll, turnOff}
-use Rattle.markers.specs.declared.Marker.{Marker}
-use Rattle.markers.specs.declared.Marker.the-variants as Marker
-use Rattle.markers.proofs.Marker.{the-type}
-use Rattle.markers.specs.Marks.{markerOf}
+use Rattle.pass_list.specs.Item.{nil, cons}
+use Rattle.markers.specs.Marks.{standsFrom, anyStands, marked}
+use Rattle.markers.proofs.MarkLaws.{larger-le, larger-lt, Legal, legal-count, Marks}
 use Rattle.numbers.specs.Fractions as numbers
-use Rattle.numbers.specs.Fractions.{nothing, markerAt, byMarker, madeAt, madeFrom, newEdges, usedEdges, fractions}
+use Rattle.numbers.specs.Fractions.{standsAt, larger, longest, longer, nothing, markerAt, byMarker, madeAt, madeFrom, newEdges, usedEdges, fractions}
 use Rattle.fractions.specs.AnyMarker.{isMarker, markerFrom, anyMarker}
 
--- ---- the variants other than `NoMarker` have the numbers 0 and 1
-pub a-marker : (m : Marker) → (tagOf the-type m ≡ 0) ⊎ (tagOf the-type m ≡ 1) → isMarker (markerOf m) ≡ true
-a-marker (Marker.Percentage n) e = refl
-a-marker (Marker.Connector n) e = refl
-a-marker Marker.NoMarker (inl e) = absurd (omega arith)
-a-marker Marker.NoMarker (inr e) = absurd (omega arith)
+-- ---- tests
+or-four : (a b c d : Bool) → (a || b) || (c || d) ≡ (a || c) || (b || d)
+or-four true b c d = refl
+or-four false true true d = refl
+or-four false true false d = refl
+or-four false false c d = refl
 
--- ---- the loop: no marker stands before p
-pub record NoneBefore (t : Table) (w : List ℕ) (n p : ℕ) : Type 0 where
-  pub most : p ≤ n
-  pub rest : markerFrom t w p (n - p) ≡ anyMarker t w
+some-larger : (a b : ℕ) → not (eqb (larger a b) 0) ≡ not (eqb a 0) || not (eqb b 0)
+some-larger zero b = rw (larger-le 0 b (omega arith))
+some-larger (suc a) b = rw (ne-eqb (larger (suc a) b) 0 (go (decLe (suc a) b)), ne-eqb (suc a) 0 (λ e. omega arith))
+  where
+    go : Dec (suc a ≤ b) → larger (suc a) b ≡ 0 → ⊥
+    go (yes h) e = omega (arith, larger-le (suc a) b h)
+    go (no h) e = omega (arith, larger-lt (suc a) b (omega arith))
 
-module _ {t : Table} {w : List ℕ} {n : ℕ} where
-  pub none-start : length w ≡ n → NoneBefore t w n 0
-  none-start e = record { most = omega arith; rest = ap (markerFrom t w 0) (sub-zero n ∙ sym e) }
+some-if : (b : Bool) (k : ℕ) → 0 < k → not (eqb (cond b k 0) 0) ≡ b
+some-if true k h = rw (ne-eqb k 0 (λ e. omega arith))
+some-if false k h = refl
 
-  module _ {p : ℕ} (k : NoneBefore t w n p) where
-    module _ (h : p < n) where
-      one-more : isMarker (markerAt t w p) || markerFrom t w (suc p) (n - suc p) ≡ anyMarker t w
-      unfolding markerFrom
-      one-more = let e : n - p ≡ suc (n - suc p) = omega arith in rw e at (k .rest)
+is-longer : (a b : ℕ) → isMarker (longer a b) ≡ not (eqb (larger a b) 0)
+is-longer a b = go (eqb (larger a b) 0) (leb b a)
+  where
+    go : (x y : Bool) → isMarker (cond x numbers.noMarker (cond y (numbers.percentage a) (numbers.connector b))) ≡ not x
+    go true y = refl
+    go false true = refl
+    go false false = refl
 
-      pub marker-found : isMarker (markerAt t w p) ≡ true → true ≡ anyMarker t w
-      marker-found e = rw e at one-more
+-- ---- a marker counts at some place where a text of the lists stands at one
+-- one of the texts ms stands at place p
+abbrev atPlace : List ℕ → ℕ → List Text → Bool
+atPlace w p [] = false
+atPlace w p (m ∷ ms) = standsAt w p m || atPlace w p ms
 
-      pub none-more : isMarker (markerAt t w p) ≡ false → NoneBefore t w n (p + 1)
-      none-more e = record { most = omega arith; rest = rw (add-one p) (rw e at one-more) }
+module _ (w : List ℕ) where
+  nowhere : (p : ℕ) (ms : List Text) → anyStands w p 0 ms ≡ false
+  unfolding anyStands standsFrom
+  nowhere p [] = refl
+  nowhere p (m ∷ ms) = nowhere p ms
 
-    pub none-ends : n ≤ p → false ≡ anyMarker t w
+  from-place : (p k : ℕ) (ms : List Text) → anyStands w p (suc k) ms ≡ atPlace w p ms || anyStands w (suc p) k ms
+  unfolding anyStands standsFrom
+  from-place p k [] = refl
+  from-place p k (m ∷ ms) = rw (from-place p k ms) (or-four (standsAt w p m) (standsFrom w (suc p) k m) (atPlace w p ms) (anyStands w (suc p) k ms))
+
+  some-longest : (p : ℕ) (ms : List Text) → Legal ms → not (eqb (longest w p ms) 0) ≡ atPlace w p ms
+  unfolding longest
+  some-longest p [] nil = refl
+  some-longest p (m ∷ ms) (cons h hs) =
+      some-larger (cond (standsAt w p m) (length (chars m)) 0) (longest w p ms)
+      ∙ rw (some-if (standsAt w p m) (length (chars m)) (legal-count m h), some-longest p ms hs)
+
+  module _ (t : Table) (l : Marks t) where
+    at-marker : (p : ℕ) → isMarker (markerAt t w p) ≡ atPlace w p (t .percentage-markers) || atPlace w p (t .fraction-connectors)
+    unfolding markerAt
+    at-marker p =
+        is-longer (longest w p (t .percentage-markers)) (longest w p (t .fraction-connectors))
+        ∙ some-larger (longest w p (t .percentage-markers)) (longest w p (t .fraction-connectors))
+        ∙ rw (some-longest p (t .percentage-markers) (l .percentages), some-longest p (t .fraction-connectors) (l .connectors))
+
+    marked-from : (p k : ℕ) → anyStands w p k (t .percentage-markers) || anyStands w p k (t .fraction-connectors) ≡ markerFrom t w p k
     unfolding markerFrom
-    none-ends h = let e : n - p ≡ 0 = omega arith in rw e at (k .rest)
+    marked-from p zero = rw (nowhere p (t .percentage-markers), nowhere p (t .fraction-connectors))
+    marked-from p (suc k) =
+        rw (from-place p k (t .percentage-markers), from-place p k (t .fraction-connectors), at-marker p, ← marked-from (suc p) k)
+        (or-four (atPlace w p (t .percentage-markers)) (anyStands w (suc p) k (t .percentage-markers)) (atPlace w p (t .fraction-connectors)) (anyStands w (suc p) k (t .fraction-connectors)))
+
+    pub marked-any : marked t w ≡ anyMarker t w
+    marked-any = marked-from 0 (length w)
 
 -- ---- the stage
 module _ (t : Table) (w : List ℕ) (es : List Edge) where

@@ -15,31 +15,9 @@ ghost use Rattle.stages.specs.CallEdge.{CallEdges};
 ghost use Rattle.numbers.specs.Fractions.{usedEdges, newEdges, fractions};
 ghost use Rattle.made.specs.Choice.{Valid};
 ghost use Rattle.fractions.specs.Mades.{madesOf, usedBy, AllValid, Planned};
-ghost use Rattle.fractions.specs.AnyMarker.{anyMarker};
 use dicts::shape::Shape;
 use lattice::Lattice;
 use made::Choice;
-use markers::Marker;
-use text::Place;
-
-// Whether a marker stands at any of the n places.
-fn any_marker(line: &[u8], offs: &[usize; 257], table: &[u8], h: Shape, n: usize) -> bool
-    requires { ⌜ Ready (now line) (now table) h n × Offsets (now line) (now offs) ⌝ }
-    ensures { λ r. ⌜ r ≡ anyMarker (tableOf (now (table .entry)) h) (chars (now (line .entry))) ⌝ }
-{
-    let mut p = 0;
-    while p < n {
-        match markers::marker_at(line, offs, table, h, Place(p)) {
-            Marker::NoMarker => {
-                p += 1;
-            }
-            _ => {
-                return true;
-            }
-        }
-    }
-    false
-}
 
 // The edges that a choice uses turn inactive.
 fn turn_off_used(w: &mut [u8], l: Lattice, c: Choice)
@@ -125,7 +103,7 @@ pub fn fractions(
     if l.len == 0 {
         return l;
     }
-    if !any_marker(line, offs, table, h, n) {
+    if !markers::any_marker(line, offs, table, h, n) {
         return l;
     }
     let mut forms = [0usize; 256];

@@ -1,15 +1,15 @@
 -- Laws of markers and signs by their bytes (`specs/Marks.antt`), for this crate's proofs and its callers'.
--- In order: a well-formed text stands at an offset as at its place; the longest of a list; the lists of a checked table are well-formed; a list's walk.
+-- In order: a well-formed text stands at an offset as at its place; the longest of a list; the lists of a checked table are legal; a list's walk.
 use mathlib.Core.Path.{_≡_, refl, sym, ap, _∙_}
-use mathlib.Core.Bool.{Bool, true, false, cond}
+use mathlib.Core.Bool.{Bool, true, false, cond, true≢false}
 use mathlib.Core.List.{List, [], _∷_, _++_, append-assoc}
 use Prim.Native.Nat.{ℕ, zero, suc, _+_, _-_, _≤_, _<_}
 use native.Mathlib.Omega.{arith}
 use native.Mathlib.Decide.{decLe}
 use lib.ListN.{length, take, drop, getD, take-append-drop, length-take, length-drop}
 use lib.Seq.{take-append-seam}
-use lib.Dec.{ltb, eqb}
-use borrow.Author.Tests.{le-leb, lt-leb, eq-eqb, ne-eqb}
+use lib.Dec.{leb, ltb, eqb}
+use borrow.Author.Tests.{le-leb, lt-leb, eq-eqb, ne-eqb, leb-true, ltb-true}
 use Rattle.fields.specs.Part.{part}
 use Rattle.text.specs.Bytes.{same}
 use Rattle.text.specs.Line.{walked}
@@ -19,12 +19,12 @@ use Rattle.text.specs.Text.{chars, left, wellFormed, encodes, offsetOf}
 use Rattle.text.proofs.BytesLaws.{same-refl, same-true, same-lengths}
 use Rattle.text.proofs.RowLaws.{and-true}
 use Rattle.text.proofs.TextLaws.{text-split, well-formed-split, chars-append, encodes-append}
-use Rattle.text.proofs.PlaceLaws.{reached-place}
+use Rattle.text.proofs.PlaceLaws.{offset-part, reached-place}
 use Rattle.dicts.specs.Table.{Text, Table}
 use Rattle.dicts.specs.Layout.{Field, Is, Fault, number, text, textsAt, listAt}
 use Rattle.dicts.specs.Check.{Fine, Refused, item, legalMark, readTexts, readList, readRecords, readTable}
 use Rattle.dicts.proofs.LookupLaws.{then-fine}
-use Rattle.pass_list.specs.Item.{nil, cons}
+use Rattle.pass_list.specs.Item.{Every, nil, cons}
 use Rattle.dicts.specs.Answers.{tableOf}
 use Rattle.dicts.specs.declared.shape.Shape.{Shape}
 use Rattle.dicts.proofs.LayoutLaws.{many-nil, many-fault, many-cons, list-texts, number-cut}
@@ -32,7 +32,7 @@ use Rattle.stages.specs.Ready.{Ready}
 use Rattle.numbers.specs.Fractions.{standsAt, larger, longest, longer, markerAt}
 use Rattle.numbers.specs.Fractions as numbers
 use Rattle.numbers.specs.Signs.{endsAt}
-use Rattle.markers.specs.Marks.{bytesAt, sizeAt, longestAt, signOf, Formed}
+use Rattle.markers.specs.Marks.{bytesAt, NotBefore, sizeAt, longestAt, signOf, Formed}
 use Rattle.markers.specs.declared.Sign.the-variants as Sign
 
 -- ---- a test and another that say the same
@@ -158,34 +158,56 @@ module _ (line : List ℕ) (at : ℕ) (s : List ℕ) where
   pub longest-list : (list : ℕ) → list < length s → {r : ℕ} → r ≡ longestAt line at (textsAt (getD s list 0) s (list + 1)) → r ≡ longestAt line at (listAt s list)
   longest-list list h e = e ∙ ap (longestAt line at) (sym (list-texts s list h))
 
--- ---- the lists of a checked table are well-formed
-mark-formed : (at : ℕ) (f : Field Text) {m : Text} {next : ℕ} → item at legalMark f ≡ Fine m next → wellFormed m ≡ true
-unfolding item legalMark
-mark-formed at Fault e = let z : _≡_ {A = ℕ} 0 1 = cc in absurd (omega arith)
-mark-formed at (Is b k) {m} {next} e = go (legalMark b) refl e
+-- ---- the texts of a checked table's lists are legal: well-formed, and not empty
+abbrev pub Legal : List Text → Type 0
+Legal = Every (λ m. legalMark m ≡ true)
+
+pub legal-formed : (m : Text) → legalMark m ≡ true → wellFormed m ≡ true
+unfolding legalMark
+legal-formed m h = and-true (ltb 0 (length m)) (wellFormed m) h .1
+
+-- so each has a character
+pub legal-count : (m : Text) → legalMark m ≡ true → 0 < length (chars m)
+unfolding legalMark encodes
+legal-count m h =
+    let k = and-true (ltb 0 (length m)) (wellFormed m) h in
+    go (chars m) (ltb-true 0 (length m) (k .0)) (well-formed-split m (k .1))
   where
-    go : (t : Bool) → legalMark b ≡ t → cond t (Fine b k) (Refused 5 at) ≡ Fine m next → wellFormed m ≡ true
-    go true t f = let q : b ≡ m = cc in rw (← q) (and-true (ltb 0 (length b)) (wellFormed b) t .1)
+    go : (cs : List ℕ) → 0 < length m → m ≡ encodes cs → 0 < length cs
+    go [] p e = absurd (omega (arith, ap length e))
+    go (c ∷ cs) p e = omega arith
+
+pub all-formed : (ms : List Text) → Legal ms → Formed ms
+all-formed [] nil = nil
+all-formed (m ∷ ms) (cons h hs) = cons (legal-formed m h) (all-formed ms hs)
+
+mark-legal : (at : ℕ) (f : Field Text) {m : Text} {next : ℕ} → item at legalMark f ≡ Fine m next → legalMark m ≡ true
+unfolding item
+mark-legal at Fault e = let z : _≡_ {A = ℕ} 0 1 = cc in absurd (omega arith)
+mark-legal at (Is b k) {m} {next} e = go (legalMark b) refl e
+  where
+    go : (t : Bool) → legalMark b ≡ t → cond t (Fine b k) (Refused 5 at) ≡ Fine m next → legalMark m ≡ true
+    go true t f = let q : b ≡ m = cc in rw (← q) t
     go false t f = let z : _≡_ {A = ℕ} 0 1 = cc in absurd (omega arith)
 
-texts-formed : (n : ℕ) (s : List ℕ) (at : ℕ) {ts : List Text} {end : ℕ} → readTexts n s at ≡ Fine ts end → Formed ts
+texts-legal : (n : ℕ) (s : List ℕ) (at : ℕ) {ts : List Text} {end : ℕ} → readTexts n s at ≡ Fine ts end → Legal ts
 unfolding readTexts
-texts-formed zero s at {ts} e = let q : [] ≡ ts = cc in rw (← q) nil
-texts-formed (suc n) s at {ts} e =
+texts-legal zero s at {ts} e = let q : [] ≡ ts = cc in rw (← q) nil
+texts-legal (suc n) s at {ts} e =
     let one = then-fine (item at legalMark (text s at)) _ e in
     let more = then-fine (readTexts n s (one .next)) _ (one .rest) in
     let q : one .value ∷ more .value ≡ ts = cc in
-    rw (← q) (cons (mark-formed at (text s at) (one .first)) (texts-formed n s (one .next) (more .first)))
+    rw (← q) (cons (mark-legal at (text s at) (one .first)) (texts-legal n s (one .next) (more .first)))
 
-list-formed : (s : List ℕ) (at : ℕ) {ts : List Text} {end : ℕ} → readList s at ≡ Fine ts end → Formed ts
+list-legal : (s : List ℕ) (at : ℕ) {ts : List Text} {end : ℕ} → readList s at ≡ Fine ts end → Legal ts
 unfolding readList
-list-formed s at e = let count = then-fine (item at (λ n. true) (number 1 s at)) _ e in texts-formed (count .value) s (count .next) (count .rest)
+list-legal s at e = let count = then-fine (item at (λ n. true) (number 1 s at)) _ e in texts-legal (count .value) s (count .next) (count .rest)
 
 pub record Marks (t : Table) : Type 0 where
-  pub percentages : Formed (t .percentage-markers)
-  pub connectors : Formed (t .fraction-connectors)
-  pub plus : Formed (t .plus-signs)
-  pub minus : Formed (t .minus-signs)
+  pub percentages : Legal (t .percentage-markers)
+  pub connectors : Legal (t .fraction-connectors)
+  pub plus : Legal (t .plus-signs)
+  pub minus : Legal (t .minus-signs)
 
 pub table-marks : (s : List ℕ) {t : Table} {end : ℕ} → readTable s ≡ Fine t end → Marks t
 unfolding readTable
@@ -197,7 +219,7 @@ table-marks s {t} {end} e =
     let m = then-fine (readList s (u .next)) _ (u .rest) in
     let rs = then-fine (readRecords (count .value) 0 s (m .next)) _ (m .rest) in
     go (record { percentage-markers = p .value; fraction-connectors = f .value; plus-signs = u .value; minus-signs = m .value; records = rs .value }) (rs .next) (eqb (rs .next) (length s)) (rs .rest)
-    (record { percentages = list-formed s _ (p .first); connectors = list-formed s _ (f .first); plus = list-formed s _ (u .first); minus = list-formed s _ (m .first) })
+    (record { percentages = list-legal s _ (p .first); connectors = list-legal s _ (f .first); plus = list-legal s _ (u .first); minus = list-legal s _ (m .first) })
   where
     go : (x : Table) (k : ℕ) (b : Bool) → cond b (Fine x k) (Refused 4 k) ≡ Fine t end → Marks x → Marks t
     go x k true g h = let q : x ≡ t = cc in rw (← q) h
@@ -221,7 +243,7 @@ pub marker-is : (line table : List ℕ) (h : Shape) {n : ℕ} → Ready line tab
 unfolding markerAt tableOf
 marker-is line table h r p k e f g =
     let m = table-marks table (r .checked) in
-    rw (f, g, e, longest-place line p k (listAt table (h .percentages)) (m .percentages), longest-place line p k (listAt table (h .connectors)) (m .connectors))
+    rw (f, g, e, longest-place line p k (listAt table (h .percentages)) (all-formed _ (m .percentages)), longest-place line p k (listAt table (h .connectors)) (all-formed _ (m .connectors)))
 
 -- ---- a sign before a place
 module _ (w : List ℕ) (p : ℕ) (m : Text) {k : ℕ} (e : k ≡ length (chars m)) where
@@ -237,3 +259,28 @@ module _ (w : List ℕ) (p : ℕ) (m : Text) {k : ℕ} (e : k ≡ length (chars 
 
     pub sign-other : b ≡ false → Sign.NoSign ≡ signOf w p m
     sign-other t = rw (is-there, t)
+
+-- it is none, where the sign's bytes do not stand before the place's offset
+pub short-before : (s : List ℕ) (end : ℕ) (m : Text) → end < length m → NotBefore s end m
+short-before s end m h at e = absurd (omega arith)
+
+module _ (s : List ℕ) (p : ℕ) (m : Text) (h : p ≤ length (chars s)) (f : wellFormed m ≡ true) where
+  -- the bytes of a sign that ends at the place
+  sign-bytes : length (chars m) ≤ p → standsAt (chars s) (p - length (chars m)) m ≡ true → offsetOf s (p - length (chars m)) + length m ≡ offsetOf s p
+  unfolding standsAt
+  sign-bytes l t =
+      let a = p - length (chars m) in
+      let e : p - a ≡ length (chars m) = omega arith in
+      let part : encodes (take (p - a) (drop a (chars s))) ≡ m = rw e (ap encodes (same-true _ _ t) ∙ sym (well-formed-split m f)) in
+      sym (offset-part s a p (omega arith) ∙ ap (λ (x : Text). offsetOf s a + length x) part)
+
+  pub sign-not-before : {end : ℕ} → end ≡ offsetOf s p → NotBefore s end m → Sign.NoSign ≡ signOf (chars s) p m
+  sign-not-before {end} e n = go (endsAt (chars s) p m) refl
+    where
+      go : (b : Bool) → endsAt (chars s) p m ≡ b → Sign.NoSign ≡ signOf (chars s) p m
+      go false t = rw t
+      go true t =
+          let k = and-true (leb (length (chars m)) p) (standsAt (chars s) (p - length (chars m)) m) t in
+          let l = leb-true (length (chars m)) p (k .0) in
+          let there = stands-place s (p - length (chars m)) m (omega arith) f ∙ k .1 in
+          absurd (true≢false (sym there ∙ n (offsetOf s (p - length (chars m))) (sign-bytes l (k .1) ∙ sym e)))

@@ -1,21 +1,25 @@
 -- Markers and signs as the code finds them: by their bytes, at an offset of the line. Definitions only.
 --     bytesAt s at m        the bytes m stand in s at the offset at
+--     NotBefore s end m     they don't stand in s directly before the offset end
 --     sizeAt s at m         how many characters m has, where it stands there; otherwise 0
 --     longestAt s at ms     how many characters the longest of the texts ms has that stand in s at the offset at; 0 where none does
 --     markerOf r            an answer of `marker_at` as the definitions have it
+--     standsFrom w p n m    the text m stands at one of the n places from p on of the line's characters w
+--     anyStands w p n ms    one of the texts ms does
+--     marked t w            a marker of the table t stands at some place of the line's characters w
 --     signOf w p m          what `sign_before` answers: the sign m stands directly before place p of the line's characters w, or it does not
 --     Formed ms             each of the texts ms is well-formed
 --     Assumes nothing.
-use Prim.Native.Nat.{ℕ}
+use Prim.Native.Nat.{ℕ, zero, suc, _+_}
 use mathlib.Core.Path.{_≡_}
-use mathlib.Core.Bool.{Bool, true, cond}
+use mathlib.Core.Bool.{Bool, true, false, cond, _||_}
 use mathlib.Core.List.{List, [], _∷_}
 use lib.ListN.{length, take, drop}
 use Rattle.text.specs.Bytes.{same}
 use Rattle.text.specs.Text.{chars, wellFormed}
-use Rattle.dicts.specs.Table.{Text}
+use Rattle.dicts.specs.Table.{Text, Table}
 use Rattle.pass_list.specs.Item.{Every}
-use Rattle.numbers.specs.Fractions.{larger}
+use Rattle.numbers.specs.Fractions.{larger, standsAt}
 use Rattle.numbers.specs.Fractions as numbers
 use Rattle.numbers.specs.Signs.{endsAt}
 use Rattle.markers.specs.declared.Marker.{Marker}
@@ -25,6 +29,9 @@ use Rattle.markers.specs.declared.Sign.the-variants as Sign
 
 abbrev pub bytesAt : List ℕ → ℕ → Text → Bool
 bytesAt s at m = same (take (length m) (drop at s)) m
+
+abbrev pub NotBefore : List ℕ → ℕ → Text → Type 0
+NotBefore s end m = (at : ℕ) → at + length m ≡ end → bytesAt s at m ≡ false
 
 unfoldable pub sizeAt : List ℕ → ℕ → Text → ℕ
 sizeAt s at m = cond (bytesAt s at m) (length (chars m)) 0
@@ -37,6 +44,17 @@ abbrev pub markerOf : Marker → numbers.Marker
 markerOf (Marker.Percentage n) = numbers.percentage n
 markerOf (Marker.Connector n) = numbers.connector n
 markerOf Marker.NoMarker = numbers.noMarker
+
+unfoldable pub standsFrom : List ℕ → ℕ → ℕ → Text → Bool
+standsFrom w p zero m = false
+standsFrom w p (suc n) m = standsAt w p m || standsFrom w (suc p) n m
+
+unfoldable pub anyStands : List ℕ → ℕ → ℕ → List Text → Bool
+anyStands w p n [] = false
+anyStands w p n (m ∷ ms) = standsFrom w p n m || anyStands w p n ms
+
+abbrev pub marked : Table → List ℕ → Bool
+marked t w = anyStands w 0 (length w) (t .percentage-markers) || anyStands w 0 (length w) (t .fraction-connectors)
 
 abbrev pub signOf : List ℕ → ℕ → Text → Sign
 signOf w p m = cond (endsAt w p m) (Sign.Before (length (chars m))) Sign.NoSign

@@ -16,6 +16,7 @@ use Rattle.dicts.specs.Table.{Text, Table}
 use Rattle.dicts.specs.Layout.{listAt}
 use Rattle.dicts.specs.Answers.{tableOf}
 use Rattle.dicts.specs.declared.shape.Shape.{Shape}
+use Rattle.passes.specs.NumEdge.{has}
 use Rattle.pass_list.specs.declared.record.PassEdge.{PassEdge}
 use Rattle.pass_list.specs.Item.{Item, EdgeIs, cons}
 use Rattle.pass_list.specs.Stored.{itemAt, itemsAt}
@@ -31,6 +32,8 @@ use Rattle.items.specs.Texts.{typeOf, Front}
 use Rattle.items.proofs.TextLaws.{front-take, txt-short, type-short, type-of-edge}
 use Rattle.numbers.specs.Signs.{signed, signs}
 use Rattle.signs.specs.SignEdges.{signEdgeAt, Begins, signsOf}
+use Rattle.markers.proofs.MarkLaws.{Marks}
+use Rattle.signs.proofs.SignLaws.{signs-first}
 use Rattle.signs.proofs.TowardLaws.{add-all-append}
 
 -- ---- texts at the front of a buffer
@@ -110,6 +113,19 @@ module _ (w table : List ℕ) (h : Shape) {x : PassEdge} {i : Item} (e : EdgeIs 
   pub none-holds : x .num .«has_value» ≡ false → {v : List ℕ} {l : Lattice} (es : List Edge) → Holds v l es → Holds v l (addAll es (signsOf (tableOf table h) w (edgeOf w table i)))
   unfolding addAll
   none-holds t es k = rw (no-signs (sym flag-is ∙ t)) k
+
+  -- before the line's first place there is none
+  first-signs : i .start ≡ 0 → Marks (tableOf table h) → signsOf (tableOf table h) w (edgeOf w table i) ≡ []
+  unfolding signsOf edgeOf
+  first-signs z m = rw (signs-first w 45 (edgeOf w table i) z _ (m .minus), signs-first w 43 (edgeOf w table i) z _ (m .plus)) (go (has (edgeOf w table i .value)))
+    where
+      go : (b : Bool) → _≡_ {A = List Edge} (cond b [] []) []
+      go true = refl
+      go false = refl
+
+  pub first-holds : x .start .0 ≡ 0 → Marks (tableOf table h) → {v : List ℕ} {l : Lattice} (es : List Edge) → Holds v l es → Holds v l (addAll es (signsOf (tableOf table h) w (edgeOf w table i)))
+  unfolding addAll
+  first-holds z m es k = rw (first-signs (sym (ap (λ (y : PassEdge). y .start .0) (e .is)) ∙ z) m) k
 
 -- ---- the items of the list s, one at a time
 module _ (t : Table) (w table s : List ℕ) (n : ℕ) where

@@ -1,5 +1,5 @@
 -- Laws of the edges that signs give (`specs/SignEdges.antt`), for this crate's proofs and its callers'. No contract cites this file.
--- In order: one sign; the signs of a list one at a time. Assumes nothing.
+-- In order: one sign; the signs of a list one at a time; the line's first place. Assumes nothing.
 use mathlib.Core.Path.{_≡_, refl, sym, ap, _∙_}
 use mathlib.Core.Bool.{Bool, true, false, cond}
 use mathlib.Core.List.{List, [], _∷_, _++_}
@@ -7,8 +7,8 @@ use Prim.Native.Nat.{ℕ, _+_, _-_, _≤_, _<_}
 use native.Mathlib.Omega.{arith}
 use lib.ListN.{length, getD}
 use lib.Dec.{leb}
-use borrow.Author.Tests.{leb-true}
-use Rattle.text.specs.Text.{chars, wellFormed}
+use borrow.Author.Tests.{lt-leb, leb-true}
+use Rattle.text.specs.Text.{chars}
 use Rattle.text.proofs.RowLaws.{and-true}
 use Rattle.dicts.specs.Table.{Text}
 use Rattle.dicts.specs.Layout.{Is, Fault, text, textsAt, listAt}
@@ -18,12 +18,13 @@ use Rattle.edge.specs.Edge.{Edge}
 use Rattle.lattice.specs.declared.Lattice.{Lattice}
 use Rattle.lattice.specs.Lattice.{add, addAll}
 use Rattle.lattice.specs.Kept.{Holds}
-use Rattle.pass_list.specs.Item.{cons}
+use Rattle.pass_list.specs.Item.{nil, cons}
 use Rattle.numbers.specs.Fractions.{standsAt}
 use Rattle.numbers.specs.Signs.{endsAt, signEdge, signed}
-use Rattle.markers.specs.Marks.{signOf, Formed}
+use Rattle.markers.specs.Marks.{signOf}
 use Rattle.markers.specs.declared.Sign.{Sign}
 use Rattle.markers.specs.declared.Sign.the-variants as Sign
+use Rattle.markers.proofs.MarkLaws.{Legal, legal-count}
 use Rattle.signs.specs.SignEdges.{signEdgeAt}
 
 -- ---- one sign
@@ -95,19 +96,11 @@ module _ (w : List ℕ) (c : ℕ) (e : NumEdge) where
   pub signs-list : (s : List ℕ) (list : ℕ) → list < length s → signed w c e (textsAt (getD s list 0) s (list + 1)) ≡ signed w c e (listAt s list)
   signs-list s list h = ap (signed w c e) (sym (list-texts s list h))
 
--- the first of them is well-formed, and so are the others
-module _ (s : List ℕ) (next left : ℕ) {m : Text} {behind : ℕ} (f : Formed (textsAt left s next)) (h : 0 < left) (e : text s next ≡ Is m behind) where
-  formed-turn : Formed (m ∷ textsAt (left - 1) s behind)
-  formed-turn = rw (many-cons text s next left (λ q. omega arith) e) f
-
-  formed-parts : {ms : List Text} → Formed (m ∷ ms) → (wellFormed m ≡ true) × Formed ms
-  formed-parts (cons g gs) = (g, gs)
-
-  pub formed-first : wellFormed m ≡ true
-  formed-first = formed-parts formed-turn .0
-
-  pub formed-rest : Formed (textsAt (left - 1) s behind)
-  formed-rest = formed-parts formed-turn .1
-
-pub list-formed : (s : List ℕ) (list : ℕ) → list < length s → Formed (listAt s list) → Formed (textsAt (getD s list 0) s (list + 1))
-list-formed s list h f = rw (list-texts s list h) at f
+-- ---- no sign stands before the first place: none is empty
+module _ (w : List ℕ) (c : ℕ) (e : NumEdge) (z : e .start ≡ 0) where
+  pub signs-first : (ms : List Text) → Legal ms → signed w c e ms ≡ []
+  unfolding signed
+  signs-first [] nil = refl
+  signs-first (m ∷ ms) (cons h hs) =
+      let far : leb (length (chars m)) (e .start) ≡ false = lt-leb (length (chars m)) (e .start) (omega (arith, z, legal-count m h)) in
+      rw far (signs-first ms hs)

@@ -141,7 +141,7 @@ fn add_signs_of(
     grown
 }
 
-// The edges for the signs before an item: only where it has a value, minus before plus.
+// The edges for the signs before an item: only where it has a value, minus before plus. None stands before the line's first place.
 fn add_item_signs(
     w: &mut [u8],
     l: Lattice,
@@ -154,6 +154,9 @@ fn add_item_signs(
     requires { ⌜ ((es : List Edge) × Holds (now w) l es) × Offsets (now line) (now offs) × ((i : Item) × ItemIs (now line) (now table) x i) × ((n : ℕ) × Ready (now line) (now table) h n) ⌝ }
     ensures { λ r. ⌜ (drop 39424 (now (w .exit)) ≡ drop 39424 (now (w .entry))) × ((es : List Edge) (i : Item) → Holds (now (w .entry)) l es → EdgeIs x i → Holds (now (w .exit)) r (addAll es (signsOf (tableOf (now (table .entry)) h) (chars (now (line .entry))) (edgeOf (chars (now (line .entry))) (now (table .entry)) i)))) ⌝ }
 {
+    if x.start.0 == 0 {
+        return l;
+    }
     if x.num.has_value {
         let minus = add_signs_of(w, l, line, offs, table, h.minus, x, b'-');
         return add_signs_of(w, minus, line, offs, table, h.plus, x, b'+');

@@ -9,7 +9,8 @@ use Rattle.lattice.specs.Kept.{Holds}
 use Rattle.stages.specs.CallEdge.{CallEdges}
 use Rattle.choices.specs.Choices.{Decided}
 use Rattle.new_edges.proofs.EdgeLaws.{not-true}
-use Rattle.fractions.proofs.AnyMarkerLaws.{no-marker-stage}
+use Rattle.markers.proofs.MarkLaws.{table-marks}
+use Rattle.fractions.proofs.AnyMarkerLaws.{marked-any, no-marker-stage}
 use Rattle.fractions.proofs.StageLaws.{full-stage, keeps-of, planned, stage-holds}
 use Rattle.fractions.proofs.fractions.Statement.{statement}
 use Rattle.fractions.proofs.fractions.Tie as tie
@@ -34,8 +35,10 @@ returns-2 : tie.Need-returns-2
 returns-2 c =
     let a = c .before in
     let s = a .before .before .before .before .before .before in
-    let e = sym (a .any-marker .ensures) ∙ not-true _ (c .if2 .taken) in
-    (refl, λ es h k. subst (Holds (s .args .w .now) (s .args .l)) (no-marker-stage (tableOf (s .args .table .now) (s .args .h)) (chars (s .args .line .now)) es e) h)
+    let t = tableOf (s .args .table .now) (s .args .h) in
+    let w = chars (s .args .line .now) in
+    let e = sym (marked-any w t (table-marks (s .args .table .now) (s .pre .0 .checked))) ∙ sym (a .any-marker .ensures) ∙ not-true _ (c .if2 .taken) in
+    (refl, λ es h k. subst (Holds (s .args .w .now) (s .args .l)) (no-marker-stage t w es e) h)
 
 choose-requires : tie.Need-choose-requires
 choose-requires c κs = let e = c .before .before .before .before .before .before in let p = e .before .before .before .before .before .pre in (p .0, p .2, (p .1 .0, keeps-of (p .0 .few) (e .if1 .left) (p .1 .1) (p .1 .2)), refl, refl, refl)

@@ -1,55 +1,46 @@
--- `markers::sign_before` meets its contract: the sign's characters, counted back from the place, lead to the place where it must stand. Assumes nothing.
-use borrow.Author.Needs.{needs}
-use mathlib.Core.Path.{_≡_, ap, _∙_}
-use Prim.Native.Nat.{_-_, _≤_}
+-- `markers::sign_before` meets its contract: where the sign's bytes do not stand before the place's offset, the sign does not stand there. Assumes nothing.
+use mathlib.Core.Path.{_≡_}
 use native.Mathlib.Omega.{arith}
-use lib.ListN.{length, getD}
-use Rattle.text.specs.Text.{chars, offsetOf}
-use Rattle.text.specs.declared.Walked.{Walked}
-use Rattle.text_line.proofs.LineLaws.{count-whole}
+use borrow.Author.Needs.{needs}
+use lib.ListN.{getD}
+use Rattle.text.specs.Text.{offsetOf}
 use Rattle.text.proofs.PlaceLaws.{offset-le}
-use Rattle.numbers.specs.Fractions.{standsAt}
-use Rattle.markers.proofs.MarkLaws.{stands-told, sign-far, sign-there, sign-other}
+use Rattle.markers.proofs.MarkLaws.{short-before, sign-not-before}
 use Rattle.markers.proofs.sign_before.Statement.{statement}
 use Rattle.markers.proofs.sign_before.Tie as tie
 
--- how many characters the sign has
-size-is : (c : tie.After-walk) → c .walk .result .count ≡ length (chars (c .before .before .before .args .m .now))
-size-is c = ap (λ (v : Walked). v .count) (c .walk .ensures) ∙ count-whole _
+-- the table of offsets has the place's
+is-offset : (a : tie.Start) → getD (a .args .offs .now) (a .args .p .0) 0 ≡ offsetOf (a .args .line .now) (a .args .p .0)
+is-offset a = a .pre .1 .at (a .args .p .0) (a .pre .2)
 
--- the place where it must stand, and that place's offset
-back : (c : tie.Else1) → c .before .before .before .before .args .p .0 - c .before .walk .result .count ≤ length (chars (c .before .before .before .before .args .line .now))
-back c = let h = c .before .before .before .before .pre .2 in omega arith
+mul-end : tie.Need-mul-end
+mul-end c = search needs
 
-is-offset : (c : tie.Else1) → let a = c .before .before .before .before in let q = a .args .p .0 - c .before .walk .result .count in getD (a .args .offs .now) q 0 ≡ offsetOf (a .args .line .now) q
-is-offset c = let a = c .before .before .before .before in a .pre .1 .at (a .args .p .0 - c .before .walk .result .count) (back c)
-
-it-stands : (c : tie.After-stands) → let e = c .before .before in let a = e .before .before .before .before in
-    c .stands .result ≡ standsAt (chars (a .args .line .now)) (a .args .p .0 - e .before .walk .result .count) (a .args .m .now)
-it-stands c = let e = c .before .before in stands-told _ _ _ (back e) (e .before .before .before .before .pre .3) (is-offset e) (c .stands .ensures)
-
-walk-requires : tie.Need-walk-requires
-walk-requires c κs = search needs
+element-copy-out-end : tie.Need-element-copy-out-end
+element-copy-out-end c = search needs
 
 returns : tie.Need-returns
-returns c = sign-far _ _ _ (size-is (c .before)) (c .if1 .taken)
+returns c =
+    let a = c .before .before .before .before in
+    sign-not-before (a .args .line .now) (a .args .p .0) (a .args .m .now) (a .pre .2) (a .pre .3) (is-offset a) (short-before (a .args .line .now) _ (a .args .m .now) (c .if1 .taken))
 
-mul-at : tie.Need-mul-at
-mul-at c = search needs
-
-element-copy-out-at : tie.Need-element-copy-out-at
-element-copy-out-at c = search needs
-
-stands-requires : tie.Need-stands-requires
-stands-requires c κs = let e = c .before in let a = e .before .before .before .before in omega (arith, is-offset e, offset-le (a .args .line .now) (a .args .p .0 - e .before .walk .result .count))
+last-differs-requires : tie.Need-last-differs-requires
+last-differs-requires c κs =
+    let a = c .before .before .before .before in
+    (omega (arith, is-offset a, offset-le (a .args .line .now) (a .args .p .0)), c .if1 .left)
 
 returns-2 : tie.Need-returns-2
-returns-2 c = let e = c .before .before .before in sign-there _ _ _ (size-is (e .before)) (e .if1 .left) (it-stands (c .before)) (c .if2 .taken)
+returns-2 c =
+    let a = c .before .before .before .before .before .before in
+    sign-not-before (a .args .line .now) (a .args .p .0) (a .args .m .now) (a .pre .2) (a .pre .3) (is-offset a) (c .before .last-differs .ensures (c .if2 .taken))
+
+counted-back-requires : tie.Need-counted-back-requires
+counted-back-requires c κs = c .before .before .before .before .before .before .pre
 
 returns-3 : tie.Need-returns-3
-returns-3 c = let e = c .before .before .before in sign-other _ _ _ (size-is (e .before)) (e .if1 .left) (it-stands (c .before)) (c .if2 .left)
+returns-3 c = c .counted-back .ensures
 
 pub sign-before-spec : {M : Type 1} → statement M
 sign-before-spec =
     tie.close
-    (tie.spec walk-requires returns mul-at element-copy-out-at stands-requires returns-2 returns-3)
+    (tie.spec mul-end element-copy-out-end returns last-differs-requires returns-2 counted-back-requires returns-3)

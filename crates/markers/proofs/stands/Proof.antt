@@ -1,4 +1,6 @@
--- `markers::stands` meets its contract: bytes that reach behind the line's end do not stand there. Assumes nothing.
+-- `markers::stands` meets its contract: bytes that reach behind the line's end do not stand there, nor do those whose last one differs. Assumes nothing.
+use mathlib.Core.Path.{refl, sym}
+use native.Mathlib.Omega.{arith}
 use borrow.Author.Needs.{needs}
 use Rattle.markers.proofs.MarkLaws.{stands-short, stands-part}
 use Rattle.markers.proofs.stands.Statement.{statement}
@@ -13,6 +15,12 @@ returns c = let a = c .before .before .before .args in stands-short (a .line .no
 add-end : tie.Need-add-end
 add-end c = search needs
 
+last-differs-requires : tie.Need-last-differs-requires
+last-differs-requires c κs = search needs
+
+returns-2 : tie.Need-returns-2
+returns-2 c = let d = c .before in sym (d .last-differs .ensures (c .if2 .taken) _ refl)
+
 sub-same-bytes : tie.Need-sub-same-bytes
 sub-same-bytes c = search needs
 
@@ -25,8 +33,8 @@ part-same-bytes-end c = search needs
 same-bytes-requires : tie.Need-same-bytes-requires
 same-bytes-requires c κs = search needs
 
-returns-2 : tie.Need-returns-2
-returns-2 c = let a = c .before .before .before .before .before .args in stands-part (a .line .now) (a .at) (a .m .now) (c .same-bytes .ensures)
+returns-3 : tie.Need-returns-3
+returns-3 c = let a = c .before .before .before .before .before .before .before .args in stands-part (a .line .now) (a .at) (a .m .now) (c .same-bytes .ensures)
 
 pub stands-spec : {M : Type 1} → statement M
 stands-spec =
@@ -35,8 +43,10 @@ stands-spec =
     sub-if1
     returns
     add-end
+    last-differs-requires
+    returns-2
     sub-same-bytes
     part-same-bytes-start
     part-same-bytes-end
     same-bytes-requires
-    returns-2)
+    returns-3)

@@ -1,4 +1,4 @@
--- `signs::add_item_signs` meets its contract, by whether the item has a value. Assumes nothing.
+-- `signs::add_item_signs` meets its contract, by whether the item starts behind the line's first place and has a value. Assumes nothing.
 use borrow.Author.Needs.{needs}
 use mathlib.Core.Path.{refl, _∙_}
 use mathlib.Core.List.{List}
@@ -14,8 +14,8 @@ use Rattle.pass_list.specs.Item.{Item}
 use Rattle.pass_list.specs.Edges.{edgeOf}
 use Rattle.numbers.specs.Signs.{signed}
 use Rattle.markers.specs.Marks.{Formed}
-use Rattle.markers.proofs.MarkLaws.{Marks, table-marks}
-use Rattle.signs.proofs.ItemLaws.{both-holds, none-holds}
+use Rattle.markers.proofs.MarkLaws.{Marks, table-marks, all-formed}
+use Rattle.signs.proofs.ItemLaws.{both-holds, none-holds, first-holds}
 use Rattle.signs.proofs.add_item_signs.Statement.{statement}
 use Rattle.signs.proofs.add_item_signs.Tie as tie
 
@@ -28,24 +28,30 @@ few a = let r = a .pre .3 .1 in omega arith
 
 minus-formed : (a : tie.Start) → Formed (listAt (a .args .table .now) (a .args .h .minus))
 unfolding tableOf
-minus-formed a = marks a .minus
+minus-formed a = all-formed _ (marks a .minus)
 
 plus-formed : (a : tie.Start) → Formed (listAt (a .args .table .now) (a .args .h .plus))
 unfolding tableOf
-plus-formed a = marks a .plus
+plus-formed a = all-formed _ (marks a .plus)
 
 -- the edges for the minus signs before the item i
 abbrev minus : tie.Start → Item → List Edge
 minus a i = let w = chars (a .args .line .now) in let t = a .args .table .now in signed w 45 (edgeOf w t i) (listAt t (a .args .h .minus))
 
+returns : tie.Need-returns
+returns c =
+    let s = c .before .before .before .before .before in
+    let a = s .args in
+    (refl, λ es i q e. first-holds (chars (a .line .now)) (a .table .now) (a .h) e (c .if1 .taken) (marks s) es q)
+
 add-signs-of-requires : tie.Need-add-signs-of-requires
 add-signs-of-requires c κs =
-    let a = c .before .before .before .before .before in
+    let a = c .before .before .before .before .before .before .before in
     (record { holds = a .pre .0; offsets = a .pre .1; item = a .pre .2; few = few a }, minus-formed a)
 
 add-signs-of-requires-2 : tie.Need-add-signs-of-requires-2
 add-signs-of-requires-2 c κs =
-    let a = c .before .before .before .before .before .before .before .before .before in
+    let a = c .before .before .before .before .before .before .before .before .before .before .before in
     let p = a .pre in
     let held = c .before .before .before .add-signs-of .ensures .holds (p .0 .0) (p .2 .0) (p .0 .1) (p .2 .1 .is) in
     (record { holds = (addAll (p .0 .0) (minus a (p .2 .0)), held); offsets = p .1; item = p .2; few = few a }, plus-formed a)
@@ -53,20 +59,20 @@ add-signs-of-requires-2 c κs =
 same-length : tie.Need-same-length
 same-length c = c .before .before .add-signs-of2 .kept .0 ∙ c .before .before .before .before .before .before .add-signs-of .kept .0
 
-returns : tie.Need-returns
-returns c =
+returns-2 : tie.Need-returns-2
+returns-2 c =
     let two = c .before .before .add-signs-of2 .ensures in
     let k = c .before .before .before .before .before .before in
     let one = k .add-signs-of .ensures in
     let then = k .before .before in
-    let s = then .before .before .before .before in
+    let s = then .before .before .before .before .before .before in
     let a = s .args in
-    (two .frame ∙ one .frame, λ es i q e. both-holds (chars (a .line .now)) (a .table .now) (a .h) e (then .if1 .taken) es (two .holds (addAll es (minus s i)) i (one .holds es i q e) e))
+    (two .frame ∙ one .frame, λ es i q e. both-holds (chars (a .line .now)) (a .table .now) (a .h) e (then .if2 .taken) es (two .holds (addAll es (minus s i)) i (one .holds es i q e) e))
 
-returns-2 : tie.Need-returns-2
-returns-2 c = let a = c .before .before .before .before .args in (refl, λ es i q e. none-holds (chars (a .line .now)) (a .table .now) (a .h) e (c .if1 .left) es q)
+returns-3 : tie.Need-returns-3
+returns-3 c = let a = c .before .before .before .before .before .before .args in (refl, λ es i q e. none-holds (chars (a .line .now)) (a .table .now) (a .h) e (c .if2 .left) es q)
 
 pub add-item-signs-spec : {M : Type 1} → statement M
 add-item-signs-spec =
     tie.close
-    (tie.spec add-signs-of-requires add-signs-of-requires-2 same-length returns returns-2)
+    (tie.spec returns add-signs-of-requires add-signs-of-requires-2 same-length returns-2 returns-3)

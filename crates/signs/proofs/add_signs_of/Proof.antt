@@ -13,8 +13,9 @@ use Rattle.pass_list.specs.Item.{Item, EdgeIs}
 use Rattle.pass_list.specs.Edges.{edgeOf}
 use Rattle.numbers.specs.Signs.{signed}
 use Rattle.markers.specs.Marks.{Formed}
+use Rattle.markers.proofs.AnyLaws.{formed-first, formed-rest, list-formed}
 use Rattle.signs.proofs.TowardLaws.{Toward, toward-start, toward-next, toward-end}
-use Rattle.signs.proofs.SignLaws.{signs-turn, signs-fault, signs-end, signs-missing, signs-list, formed-first, formed-rest, list-formed}
+use Rattle.signs.proofs.SignLaws.{signs-turn, signs-fault, signs-end, signs-missing, signs-list}
 use Rattle.signs.proofs.add_signs_of.Statement.{statement}
 use Rattle.signs.proofs.add_signs_of.Tie as tie
 
