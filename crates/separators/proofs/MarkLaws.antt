@@ -1,7 +1,7 @@
 -- Laws of the marks of F1 (`specs/Marks.antt`). No contract cites this file.
 -- In order: the edge that is read; marks and the definition. Assumes nothing.
 use mathlib.Core.Path.{_≡_, refl, sym, ap, _∙_}
-use mathlib.Core.Bool.{Bool, true, false, cond}
+use mathlib.Core.Bool.{Bool, true, false, cond, _&&_}
 use mathlib.Core.List.{List, [], _∷_}
 use mathlib.Core.Option.{none, some}
 use Prim.Native.Nat.{ℕ, _+_, _-_, _<_}
@@ -9,6 +9,7 @@ use native.Mathlib.Nat.{add-sub-cancel-left}
 use native.Mathlib.Omega.{arith}
 use lib.ListN.{take, drop, getD, set}
 use Rattle.fields.specs.Part.{part}
+use Rattle.text.proofs.RowLaws.{and-true}
 use Rattle.digits.specs.TextEnds.{beginsWithDigit, endsWithDigit}
 use Rattle.digits.proofs.Theorems.{ends-last}
 use Rattle.edge.specs.declared.EdgeView.{EdgeView}
@@ -67,21 +68,27 @@ module _ (s : List ℕ) (at : ℕ) {v : EdgeView} (read : v ≡ viewAt s at) whe
     mark-kept t = rw (sym ends-read ∙ t)
 
   module _ {b : Bool} (bit-0 : b ≡ stands 0 (v .map)) (marks : List Bool) where
-    pub apart-regular : b ≡ false → false ≡ apartBy marks (edgeAt s at)
+    both-read : (b && getD marks (v .start .0) false) ≡ (isNumeric (edgeAt s at) && getD marks (edgeAt s at .start) false)
+    both-read = rw (numeric-read, bit-0, start-read)
+
+    pub apart-not : (b && getD marks (v .start .0) false) ≡ false → false ≡ apartBy marks (edgeAt s at)
     unfolding apartBy
-    apart-regular t = rw (numeric-read, sym bit-0 ∙ t)
+    apart-not t = go (isNumeric (edgeAt s at)) (beginsWithDigit (edgeAt s at .txt)) (getD marks (edgeAt s at .start) false) (sym both-read ∙ t)
+      where
+        go : (n d m : Bool) → (n && m) ≡ false → false ≡ (n && (d && m))
+        go true true m e = sym e
+        go true false m e = refl
+        go false d m e = refl
 
-    module _ {r : Bool} (on : b ≡ true) (asked : r ≡ beginsWithDigit (take (v .txt .at + v .txt .len - v .txt .at) (drop (v .txt .at) s))) where
-      begins-read : r ≡ beginsWithDigit (edgeAt s at .txt)
-      begins-read = asked ∙ ap beginsWithDigit txt-read
-
-      pub apart-no-digit : r ≡ false → false ≡ apartBy marks (edgeAt s at)
-      unfolding apartBy
-      apart-no-digit t = rw (numeric-read, sym bit-0 ∙ on, sym begins-read ∙ t)
-
-      pub apart-marked : r ≡ true → getD marks (v .start .0) false ≡ apartBy marks (edgeAt s at)
-      unfolding apartBy
-      apart-marked t = rw (numeric-read, sym bit-0 ∙ on, sym begins-read ∙ t, start-read)
+    pub apart-digit : (b && getD marks (v .start .0) false) ≡ true → {r : Bool} → r ≡ beginsWithDigit (take (v .txt .at + v .txt .len - v .txt .at) (drop (v .txt .at) s)) → r ≡ apartBy marks (edgeAt s at)
+    unfolding apartBy
+    apart-digit t asked =
+        let n = and-true (isNumeric (edgeAt s at)) (getD marks (edgeAt s at .start) false) (sym both-read ∙ t) in
+        asked ∙ ap beginsWithDigit txt-read ∙ rw (n .0, n .1) (go (beginsWithDigit (edgeAt s at .txt)))
+      where
+        go : (d : Bool) → d ≡ (d && true)
+        go true = refl
+        go false = refl
 
 -- ---- texts of legal edges are well-formed, and so the last bytes are the last character
 pub ends-agree : {n : ℕ} (es : List Edge) (p : ℕ) → Legals n es → digitEnds es p ≡ endsBefore es p
