@@ -5,20 +5,19 @@
 --     allApart marks es i k      the same for k edges from the i-th on, in turn
 --     Assumes nothing.
 use Prim.Native.Nat.{ℕ, zero, suc}
-use mathlib.Core.Bool.{Bool, false, cond, _&&_, _||_}
-use mathlib.Core.List.{List, [], _∷_}
+use mathlib.Core.Bool.{Bool, false, cond, _&&_}
+use mathlib.Core.List.{List}
 use lib.ListN.{getD}
-use lib.Dec.{eqb}
 use Rattle.digits.specs.TextEnds.{beginsWithDigit, endsWithDigit}
 use Rattle.edge.specs.Edge.{Edge}
 use Rattle.lattice.specs.Lattice.{add, turnOffAt}
 use Rattle.lattice.specs.Kept.{noEdge}
+use Rattle.stages.specs.Marks.{anyAt}
 use Rattle.numbers.specs.Fractions.{isNumeric}
 use Rattle.numbers.specs.Separators.{copyOf}
 
-unfoldable pub digitEnds : List Edge → ℕ → Bool
-digitEnds [] p = false
-digitEnds (d ∷ ds) p = (eqb (d .end) p && endsWithDigit (d .txt)) || digitEnds ds p
+abbrev pub digitEnds : List Edge → ℕ → Bool
+digitEnds = anyAt (λ e. endsWithDigit (e .txt)) (λ e. e .end)
 
 unfoldable pub apartBy : List Bool → Edge → Bool
 apartBy marks e = isNumeric e && (beginsWithDigit (e .txt) && getD marks (e .start) false)

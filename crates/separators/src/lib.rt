@@ -47,7 +47,7 @@ fn mark_ends(w: &[u8], l: Lattice, marks: &mut [bool; 257])
     }
 }
 
-// Whether an edge is numeric, begins with a digit, and starts at a place that has a mark.
+// Whether an edge is numeric, starts at a place that has a mark, and begins with a digit: few of them have to be asked for the last.
 fn is_apart(s: &[u8], at: usize, marks: &[bool; 257]) -> bool
     requires { ⌜ Spanned 256 (now s) at ⌝ }
     ensures { λ r. ⌜ r ≡ apartBy (now (marks .entry)) (edgeAt (now (s .entry)) at) ⌝ }
@@ -58,13 +58,10 @@ fn is_apart(s: &[u8], at: usize, marks: &[bool; 257]) -> bool
     let from = txt.at;
     let to = from + txt.len;
     let place = start.0;
-    if !edge::bit(e.map, 1) {
+    if !(edge::bit(e.map, 1) & marks[place]) {
         return false;
     }
-    if !digits::begins_with_digit(&s[from..to]) {
-        return false;
-    }
-    marks[place]
+    digits::begins_with_digit(&s[from..to])
 }
 
 // The copy of an edge that stands in the listing is added, with its separator: a space if it has a fraction, else "·".

@@ -4,3 +4,4 @@ pub mod OverLaws
 pub mod InactiveLaws
 pub mod CallLaws
 pub mod SoundLaws
+pub mod MarkLaws

@@ -4,7 +4,7 @@ use native.Mathlib.Omega.{arith}
 use lib.ListN.{length}
 use borrow.Author.Tests.{not-true, not-false}
 use Rattle.edge.proofs.CheckLaws.{head-within, txt-within}
-use Rattle.separators.proofs.MarkLaws.{start-in, apart-regular, apart-no-digit, apart-marked}
+use Rattle.separators.proofs.MarkLaws.{start-in, apart-not, apart-digit}
 use borrow.Author.Needs.{needs}
 use Rattle.separators.proofs.is_apart.Statement.{statement}
 use Rattle.separators.proofs.is_apart.Tie as tie
@@ -25,8 +25,11 @@ add-to c = omega (arith, txt-inside (c .before .before .before))
 bit-requires : tie.Need-bit-requires
 bit-requires c κs = search needs
 
+element-copy-out-if1 : tie.Need-element-copy-out-if1
+element-copy-out-if1 c = let a = head c in start-in _ _ (a .edge-at .ensures) (a .before .before .pre)
+
 returns : tie.Need-returns
-returns c = let b = c .before in let a = head b in apart-regular _ _ (a .edge-at .ensures) (b .bit .ensures) (a .before .before .args .marks .now) (not-true _ (c .if1 .taken))
+returns c = let b = c .before .before in let a = head b in apart-not _ _ (a .edge-at .ensures) (b .bit .ensures) (a .before .before .args .marks .now) (not-true _ (c .if1 .taken))
 
 sub-begins-with-digit : tie.Need-sub-begins-with-digit
 sub-begins-with-digit c = search needs
@@ -35,21 +38,17 @@ part-begins-with-digit-start : tie.Need-part-begins-with-digit-start
 part-begins-with-digit-start c = search needs
 
 part-begins-with-digit-end : tie.Need-part-begins-with-digit-end
-part-begins-with-digit-end c = omega (arith, txt-inside (head (c .before)))
+part-begins-with-digit-end c = omega (arith, txt-inside (head (c .before .before)))
 
 begins-with-digit-requires : tie.Need-begins-with-digit-requires
 begins-with-digit-requires c κs = search needs
 
 returns-2 : tie.Need-returns-2
-returns-2 c = let d = c .before in let e = d .before .before in let b = e .before in let a = head b in
-    apart-no-digit _ _ (a .edge-at .ensures) (b .bit .ensures) (a .before .before .args .marks .now) (not-false _ (e .if1 .left)) (d .begins-with-digit .ensures) (not-true _ (c .if2 .taken))
-
-element-copy-out-result : tie.Need-element-copy-out-result
-element-copy-out-result c = let a = head (c .before .before .before .before) in start-in _ _ (a .edge-at .ensures) (a .before .before .pre)
-
-returns-3 : tie.Need-returns-3
-returns-3 c = let f = c .before in let d = f .before in let e = d .before .before in let b = e .before in let a = head b in
-    apart-marked _ _ (a .edge-at .ensures) (b .bit .ensures) (a .before .before .args .marks .now) (not-false _ (e .if1 .left)) (d .begins-with-digit .ensures) (not-false _ (f .if2 .left))
+returns-2 c =
+    let e = c .before .before in
+    let b = e .before .before in
+    let a = head b in
+    apart-digit _ _ (a .edge-at .ensures) (b .bit .ensures) (a .before .before .args .marks .now) (not-false _ (e .if1 .left)) (c .begins-with-digit .ensures)
 
 pub is-apart-spec : {M : Type 1} → statement M
 is-apart-spec =
@@ -58,11 +57,10 @@ is-apart-spec =
     edge-at-requires
     add-to
     bit-requires
+    element-copy-out-if1
     returns
     sub-begins-with-digit
     part-begins-with-digit-start
     part-begins-with-digit-end
     begins-with-digit-requires
-    returns-2
-    element-copy-out-result
-    returns-3)
+    returns-2)
