@@ -11,7 +11,7 @@ sub-if1 : tie.Need-sub-if1
 sub-if1 c = search needs
 
 returns : tie.Need-returns
-returns c = search needs
+returns c = tt
 
 add-k : tie.Need-add-k
 add-k c = search needs
@@ -23,7 +23,7 @@ cast-k : tie.Need-cast-k
 cast-k c = omega (arith, c .shared-slice-known2 .given (c .before .before .before .args .at + 16))
 
 returns-2 : tie.Need-returns-2
-returns-2 c = search needs
+returns-2 c = tt
 
 sub-if3 : tie.Need-sub-if3
 sub-if3 c = search needs
@@ -32,7 +32,7 @@ sub-if3-2 : tie.Need-sub-if3-2
 sub-if3-2 c = search needs
 
 returns-3 : tie.Need-returns-3
-returns-3 c = search needs
+returns-3 c = tt
 
 add-next : tie.Need-add-next
 add-next c = search needs
@@ -47,7 +47,7 @@ low-four-requires : tie.Need-low-four-requires
 low-four-requires c κs = (omega arith, λ j. c .before .before .shared-slice-known2 .given j .fits)
 
 returns-4 : tie.Need-returns-4
-returns-4 c = search needs
+returns-4 c = tt
 
 legal-numbers-requires : tie.Need-legal-numbers-requires
 legal-numbers-requires c κs = search needs
@@ -59,7 +59,7 @@ returns-5 c =
     tail-is _ _ _ (k .before .before .before .if1 .left) (k .before .if2 .left) (k .if3 .left) (low .low-four .ensures (not-false _ (c .before .before .if4 .left))) (c .before .legal-numbers .ensures (c .if5 .taken))
 
 returns-6 : tie.Need-returns-6
-returns-6 c = search needs
+returns-6 c = tt
 
 pub tail-end-spec : {M : Type 1} → statement M
 tail-end-spec =
