@@ -5,12 +5,11 @@ use native.Mathlib.Omega.{arith}
 use lib.ListN.{getD}
 use borrow.Author.Tests.{not-false}
 use Rattle.table_plain.proofs.PlainLaws.{fields-is}
-use borrow.Author.Needs.{needs}
 use Rattle.table_plain.proofs.fields_end.Statement.{statement}
 use Rattle.table_plain.proofs.fields_end.Tie as tie
 
 shared-slice-read-n : tie.Need-shared-slice-read-n
-shared-slice-read-n c = search needs
+shared-slice-read-n c = omega arith
 
 cast-n : tie.Need-cast-n
 cast-n c = omega (arith, c .shared-slice-known2 .given (c .before .before .args .at))
@@ -19,16 +18,16 @@ returns : tie.Need-returns
 returns c = tt
 
 add-rom-at : tie.Need-add-rom-at
-add-rom-at c = search needs
+add-rom-at c = omega arith
 
 add-rom-at-2 : tie.Need-add-rom-at-2
-add-rom-at-2 c = search needs
+add-rom-at-2 c = omega arith
 
 add-both : tie.Need-add-both
-add-both c = search needs
+add-both c = omega arith
 
 shared-slice-read-both : tie.Need-shared-slice-read-both
-shared-slice-read-both c = search needs
+shared-slice-read-both c = omega arith
 
 cast-both : tie.Need-cast-both
 cast-both c = let a = c .before .before .before .before .args in omega (arith, c .shared-slice-known3 .given (a .at + 1 + getD (a .s .now) (a .at) 0))
@@ -49,7 +48,7 @@ returns-4 : tie.Need-returns-4
 returns-4 c = tt
 
 add-tail-end : tie.Need-add-tail-end
-add-tail-end c = search needs
+add-tail-end c = omega arith
 
 tail-end-requires : tie.Need-tail-end-requires
 tail-end-requires c κs = (omega arith, omega arith)

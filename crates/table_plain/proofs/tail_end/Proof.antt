@@ -3,21 +3,20 @@ use Prim.Native.Nat.{_+_}
 use native.Mathlib.Omega.{arith}
 use borrow.Author.Tests.{not-false}
 use Rattle.table_plain.proofs.PlainLaws.{tail-is}
-use borrow.Author.Needs.{needs}
 use Rattle.table_plain.proofs.tail_end.Statement.{statement}
 use Rattle.table_plain.proofs.tail_end.Tie as tie
 
 sub-if1 : tie.Need-sub-if1
-sub-if1 c = search needs
+sub-if1 c = omega arith
 
 returns : tie.Need-returns
 returns c = tt
 
 add-k : tie.Need-add-k
-add-k c = search needs
+add-k c = omega arith
 
 shared-slice-read-k : tie.Need-shared-slice-read-k
-shared-slice-read-k c = search needs
+shared-slice-read-k c = omega arith
 
 cast-k : tie.Need-cast-k
 cast-k c = omega (arith, c .shared-slice-known2 .given (c .before .before .before .args .at + 16))
@@ -26,22 +25,22 @@ returns-2 : tie.Need-returns-2
 returns-2 c = tt
 
 sub-if3 : tie.Need-sub-if3
-sub-if3 c = search needs
+sub-if3 c = omega arith
 
 sub-if3-2 : tie.Need-sub-if3-2
-sub-if3-2 c = search needs
+sub-if3-2 c = omega arith
 
 returns-3 : tie.Need-returns-3
 returns-3 c = tt
 
 add-next : tie.Need-add-next
-add-next c = search needs
+add-next c = omega arith
 
 add-next-2 : tie.Need-add-next-2
-add-next-2 c = search needs
+add-next-2 c = omega arith
 
 sub-low-four : tie.Need-sub-low-four
-sub-low-four c = search needs
+sub-low-four c = omega arith
 
 low-four-requires : tie.Need-low-four-requires
 low-four-requires c κs = (omega arith, λ j. c .before .before .shared-slice-known2 .given j .fits)
@@ -50,7 +49,7 @@ returns-4 : tie.Need-returns-4
 returns-4 c = tt
 
 legal-numbers-requires : tie.Need-legal-numbers-requires
-legal-numbers-requires c κs = search needs
+legal-numbers-requires c κs = (omega arith, omega arith)
 
 returns-5 : tie.Need-returns-5
 returns-5 c =

@@ -3,24 +3,23 @@ use mathlib.Core.Bool.{_&&_}
 use native.Mathlib.Omega.{arith}
 use Rattle.text.proofs.RowLaws.{and-true}
 use Rattle.table_plain.proofs.MaskLaws.{three-low}
-use borrow.Author.Needs.{needs}
 use Rattle.table_plain.proofs.masks.ascii.Statement.{statement}
 use Rattle.table_plain.proofs.masks.ascii.Tie as tie
 
 sub-more : tie.Need-sub-more
-sub-more c = search needs
+sub-more c = omega arith
 
 low-eight-requires : tie.Need-low-eight-requires
 low-eight-requires c κs = (omega arith, c .before .pre .1)
 
 add-low-eight : tie.Need-add-low-eight
-add-low-eight c = search needs
+add-low-eight c = omega arith
 
 low-eight-requires-2 : tie.Need-low-eight-requires-2
 low-eight-requires-2 c κs = (omega arith, c .before .before .pre .1)
 
 add-low-eight-2 : tie.Need-add-low-eight-2
-add-low-eight-2 c = search needs
+add-low-eight-2 c = omega arith
 
 low-eight-requires-3 : tie.Need-low-eight-requires-3
 low-eight-requires-3 c κs = (omega arith, c .before .before .before .pre .1)
