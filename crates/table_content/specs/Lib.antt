@@ -1,1 +1,2 @@
--- No definitions of its own: those of `dicts`.
+-- The definitions that the contracts of `table_content` cite besides those of `dicts`.
+pub mod Content

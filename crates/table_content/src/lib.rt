@@ -1,9 +1,9 @@
 // What a record may hold (01, cause 5); its strings are looked at in `table_texts`.
 ghost use mathlib.Core.Path.{_≡_};
-ghost use mathlib.Core.Bool.{true};
 ghost use Rattle.text.specs.Text.{wellFormed};
-ghost use Rattle.dicts.specs.Check.{allOf, small, positive, legalRatio, legalCodePoint, legalTexts, legalNumbers, digitRule, legalRecord};
+ghost use Rattle.dicts.specs.Check.{allOf, small, positive, legalRatio, legalCodePoint, legalNumbers, legalRecord};
 ghost use Rattle.dicts.specs.Answers.{partOf, optionally, numbersOf, recordOf, Within, Inside};
+ghost use Rattle.table_content.specs.Content.{textsFine, digitFine};
 use dicts::layout::NumProp;
 use dicts::layout::Numbers;
 use dicts::layout::Part;
@@ -38,21 +38,12 @@ fn well_formed_if(s: &[u8], p: Part, there: bool) -> bool
     }
 }
 
-fn legal_texts(s: &[u8], p: NumProp) -> bool
-    requires { ⌜ Inside (now s) p ⌝ }
-    ensures { λ r. ⌜ r ≡ legalTexts (recordOf (now (s .entry)) p) ⌝ }
+fn legal_texts(s: &[u8], map: u8, kind: Part, rom: Part, script: Part) -> bool
+    requires { ⌜ Within (now s) kind × Within (now s) rom × Within (now s) script ⌝ }
+    ensures { λ r. ⌜ r ≡ textsFine map (partOf (now (s .entry)) kind) (partOf (now (s .entry)) rom) (partOf (now (s .entry)) script) ⌝ }
 {
-    let map = p.map;
-    let num_type = p.num_type;
-    let rom = p.rom;
-    let script = p.script;
-    if !table_texts::well_formed(s, num_type) {
-        return false;
-    }
-    if !well_formed_if(s, rom, map / 1 % 2 == 1) {
-        return false;
-    }
-    well_formed_if(s, script, map / 32 % 2 == 1)
+    table_texts::well_formed(s, kind)
+        & (well_formed_if(s, rom, map / 1 % 2 == 1) & well_formed_if(s, script, map / 32 % 2 == 1))
 }
 
 // A number that is there is at most TOP.
@@ -89,21 +80,17 @@ fn legal_numbers(map: u8, n: Numbers) -> bool
 }
 
 // Type "digit" with value 0 to 9: rom is that one ASCII digit.
-fn legal_digit(s: &[u8], p: NumProp) -> bool
-    requires { ⌜ Inside (now s) p ⌝ }
-    ensures { λ r. ⌜ r ≡ digitRule (recordOf (now (s .entry)) p) ⌝ }
+fn legal_digit(s: &[u8], map: u8, value: u64, kind: Part, rom: Part) -> bool
+    requires { ⌜ Within (now s) kind × Within (now s) rom ⌝ }
+    ensures { λ r. ⌜ r ≡ digitFine map value (partOf (now (s .entry)) kind) (partOf (now (s .entry)) rom) ⌝ }
 {
-    let map = p.map;
-    let value = p.numbers.value;
-    let num_type = p.num_type;
-    let rom = p.rom;
     if map / 2 % 2 != 1 {
         return true;
     }
     if 9 < value {
         return true;
     }
-    if !table_texts::is_digit_type(s, num_type) {
+    if !table_texts::is_digit_type(s, kind) {
         return true;
     }
     if map / 1 % 2 != 1 {
@@ -122,27 +109,16 @@ fn wide(x: u8) -> u64
     x as u64
 }
 
-// The content besides the strings. They were found well-formed.
-fn legal_besides(s: &[u8], p: NumProp, least: u64) -> bool
-    requires { ⌜ Inside (now s) p ⌝ }
-    ensures { λ r. ⌜ (legalTexts (recordOf (now (s .entry)) p) ≡ true → r ≡ legalRecord least (recordOf (now (s .entry)) p)) ⌝ }
-{
-    if !legal_code_point(p.code_point, least) {
-        return false;
-    }
-    let n = p.numbers;
-    if !legal_numbers(p.map, n) {
-        return false;
-    }
-    legal_digit(s, p)
-}
-
 pub fn legal_record(s: &[u8], p: NumProp, least: u64) -> bool
     requires { ⌜ Inside (now s) p ⌝ }
     ensures { λ r. ⌜ r ≡ legalRecord least (recordOf (now (s .entry)) p) ⌝ }
 {
-    if !legal_texts(s, p) {
-        return false;
-    }
-    legal_besides(s, p, least)
+    let map = p.map;
+    let kind = p.num_type;
+    let rom = p.rom;
+    let script = p.script;
+    let n = p.numbers;
+    legal_code_point(p.code_point, least)
+        & (legal_texts(s, map, kind, rom, script)
+            & (legal_numbers(map, n) & legal_digit(s, map, n.value, kind, rom)))
 }

@@ -75,13 +75,12 @@ module _ (s : List ℕ) where
       go i z w (yes v) = p .ascii i z v
       go i z w (no v) = q .ascii i (omega arith) w
 
-  pub three-low : (at end : ℕ) → at + 8 ≤ end → end ≤ at + 24
-      → Ascii s at (at + 8) (at + 8) → Ascii s (at + (end - 8 - at) / 2) (at + (end - 8 - at) / 2 + 8) (at + (end - 8 - at) / 2 + 8) → Ascii s (end - 8) (end - 8 + 8) (end - 8 + 8)
-      → Ascii s at end end
-  three-low at end h k p q r =
-      let m = at + (end - 8 - at) / 2 in
-      let e : end - 8 + 8 ≡ end = omega arith in
-      ascii-join at (m + 8) (end - 8) end (omega arith) (omega arith) (ascii-join at (at + 8) m (m + 8) (omega arith) (omega arith) p q) (subst (λ (x : ℕ). Ascii s (end - 8) x x) e r)
+  pub three-low : (at n : ℕ) → 8 ≤ n → n ≤ 24 → Ascii s at (at + 8) (at + 8) → Ascii s (at + (n - 8) / 2) (at + (n - 8) / 2 + 8) (at + (n - 8) / 2 + 8)
+      → Ascii s (at + (n - 8)) (at + (n - 8) + 8) (at + (n - 8) + 8) → Ascii s at (at + n) (at + n)
+  three-low at n h k p q r =
+      let m = at + (n - 8) / 2 in
+      let e : at + (n - 8) + 8 ≡ at + n = omega arith in
+      ascii-join at (m + 8) (at + (n - 8)) (at + n) (omega arith) (omega arith) (ascii-join at (at + 8) m (m + 8) (omega arith) (omega arith) p q) (subst (λ (x : ℕ). Ascii s (at + (n - 8)) x x) e r)
 
   pub ascii-part : (a b c d : ℕ) → a ≤ c → c ≤ d → d ≤ b → Ascii s a b b → Ascii s c d d
   ascii-part a b c d h k l p = record { behind = k; before = omega arith; ascii = λ i z w. p .ascii i (omega arith) (omega arith) }

@@ -146,11 +146,11 @@ tail-is s rom at h k l a n =
     let next = at + 17 + getD s (at + 16) 0 in
     record { numbers = n; room = omega arith; short = k; behind = refl; ends = omega arith; script = ascii-part s (next - 4) (next - 4 + 4) (at + 17) next (omega arith) (omega arith) (omega arith) a }
 
-pub fields-is : (s : List ℕ) (at n q : ℕ) (r : Behind) → n ≡ getD s at 0 → q ≡ getD s (at + 1 + n) 0 → n + q ≤ 22 → ((i : ℕ) → getD s i 0 < 256) → at + 2 + (n + q) ≤ length s
-    → Ascii s at (at + 2 + (n + q)) (at + 2 + (n + q)) → TailIs s (at + 1 + n) (at + 2 + (n + q)) r → FieldsIs s at r
+pub fields-is : (s : List ℕ) (at n q : ℕ) (r : Behind) → n ≡ getD s at 0 → q ≡ getD s (at + 1 + n) 0 → n + 2 + q ≤ 24 → ((i : ℕ) → getD s i 0 < 256) → at + (n + 2 + q) ≤ length s
+    → Ascii s at (at + (n + 2 + q)) (at + (n + 2 + q)) → TailIs s (at + 1 + n) (at + (n + 2 + q)) r → FieldsIs s at r
 fields-is s at n q Behind.Other en eq l f w a t = tt
 fields-is s at n q (Behind.At next) en eq l f w a t =
-    let end = at + 2 + (n + q) in
+    let end = at + (n + 2 + q) in
     λ least c m h. fields-plain least c m s at h
     (formed-is s at (at + 1 + n) (omega arith) (omega arith) (omega arith) (ascii-part s at end (at + 1) (at + 1 + n) (omega arith) (omega arith) (omega arith) a))
     (formed-is s (at + 1 + n) end (omega arith) (omega arith) w (ascii-part s at end (at + 1 + n + 1) end (omega arith) (omega arith) (omega arith) a))

@@ -50,7 +50,7 @@ fn tail_end(s: &[u8], rom: usize, at: usize) -> Behind
     }
 }
 
-// The fields behind the map: a type of at most 8 bytes, which has 6 to 22 together with the rom, and what stands behind them.
+// The fields behind the map: a type of at most 8 bytes and a rom, 8 to 24 bytes with their lengths, and what stands behind them.
 fn fields_end(s: &[u8], at: usize) -> Behind
     requires { ⌜ at + 28 ≤ length (now s) ⌝ }
     ensures { λ r. ⌜ FieldsIs (now (s .entry)) at r ⌝ }
@@ -60,18 +60,17 @@ fn fields_end(s: &[u8], at: usize) -> Behind
         return Behind::Other;
     }
     let rom_at = at + 1 + n;
-    let both = n + s[rom_at] as usize;
-    if both < 6 {
+    let both = n + 2 + s[rom_at] as usize;
+    if both < 8 {
         return Behind::Other;
     }
-    if 22 < both {
+    if 24 < both {
         return Behind::Other;
     }
-    let value_at = at + 2 + both;
-    if !ascii(s, at, value_at) {
+    if !ascii(s, at, both) {
         return Behind::Other;
     }
-    tail_end(s, rom_at, value_at)
+    tail_end(s, rom_at, at + both)
 }
 
 // The record at an offset, if it is told by few tests.

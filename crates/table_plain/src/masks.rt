@@ -21,13 +21,12 @@ pub fn low_four(s: &[u8], at: usize) -> bool
     fields::u32_at(s, at) & 0x80808080 == 0
 }
 
-// The bytes from an offset on up to another, 8 to 24: the first 8, the middle 8 and the last 8.
-pub fn ascii(s: &[u8], at: usize, end: usize) -> bool
-    requires { ⌜ (at + 8 ≤ end) × (end ≤ at + 24) × (end ≤ length (now s)) ⌝ }
+// So many bytes from an offset on, 8 to 24: the first 8, the middle 8 and the last 8.
+pub fn ascii(s: &[u8], at: usize, n: usize) -> bool
+    requires { ⌜ (8 ≤ n) × (n ≤ 24) × (at + n ≤ length (now s)) ⌝ }
     requires bytes { ⌜ ((i : ℕ) → getD (now s) i 0 < 256) ⌝ }
-    ensures { λ r. ⌜ (r ≡ true → Ascii (now (s .entry)) at end end) ⌝ }
+    ensures { λ r. ⌜ (r ≡ true → Ascii (now (s .entry)) at (at + n) (at + n)) ⌝ }
 {
-    let last = end - 8;
-    let middle = at + (last - at) / 2;
-    low_eight(s, at) & low_eight(s, middle) & low_eight(s, last)
+    let more = n - 8;
+    low_eight(s, at) & low_eight(s, at + more / 2) & low_eight(s, at + more)
 }

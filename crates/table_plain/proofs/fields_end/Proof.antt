@@ -1,55 +1,54 @@
--- `table_plain::fields_end` meets its contract.
+-- `table_plain::fields_end` meets its contract: both strings are ASCII, and of what stands behind them the answer tells.
 use mathlib.Core.Path.{refl}
 use Prim.Native.Nat.{_+_}
 use native.Mathlib.Omega.{arith}
 use lib.ListN.{getD}
 use borrow.Author.Tests.{not-false}
 use Rattle.table_plain.proofs.PlainLaws.{fields-is}
-use borrow.Author.Needs.{needs}
 use Rattle.table_plain.proofs.fields_end.Statement.{statement}
 use Rattle.table_plain.proofs.fields_end.Tie as tie
 
 shared-slice-read-n : tie.Need-shared-slice-read-n
-shared-slice-read-n c = search needs
+shared-slice-read-n c = omega arith
 
 cast-n : tie.Need-cast-n
 cast-n c = omega (arith, c .shared-slice-known2 .given (c .before .before .args .at))
 
 returns : tie.Need-returns
-returns c = search needs
+returns c = tt
 
 add-rom-at : tie.Need-add-rom-at
-add-rom-at c = search needs
+add-rom-at c = omega arith
 
 add-rom-at-2 : tie.Need-add-rom-at-2
-add-rom-at-2 c = search needs
+add-rom-at-2 c = omega arith
+
+add-both : tie.Need-add-both
+add-both c = omega arith
 
 shared-slice-read-both : tie.Need-shared-slice-read-both
-shared-slice-read-both c = search needs
+shared-slice-read-both c = omega arith
 
 cast-both : tie.Need-cast-both
 cast-both c = let a = c .before .before .before .before .args in omega (arith, c .shared-slice-known3 .given (a .at + 1 + getD (a .s .now) (a .at) 0))
 
-add-both : tie.Need-add-both
-add-both c = let a = c .before .before .before .before .args in omega (arith, c .shared-slice-known3 .given (a .at + 1 + getD (a .s .now) (a .at) 0))
+add-both-2 : tie.Need-add-both-2
+add-both-2 c = let a = c .before .before .before .before .args in omega (arith, c .shared-slice-known3 .given (a .at + 1 + getD (a .s .now) (a .at) 0))
 
 returns-2 : tie.Need-returns-2
-returns-2 c = search needs
-
-add-value-at : tie.Need-add-value-at
-add-value-at c = search needs
-
-add-value-at-2 : tie.Need-add-value-at-2
-add-value-at-2 c = omega arith
-
-ascii-requires : tie.Need-ascii-requires
-ascii-requires c κs = ((omega arith, omega arith, omega arith), λ j. c .before .before .shared-slice-known3 .given j .fits)
+returns-2 c = tt
 
 returns-3 : tie.Need-returns-3
 returns-3 c = tt
 
+ascii-requires : tie.Need-ascii-requires
+ascii-requires c κs = ((omega arith, omega arith, omega arith), λ j. c .before .before .shared-slice-known3 .given j .fits)
+
 returns-4 : tie.Need-returns-4
 returns-4 c = tt
+
+add-tail-end : tie.Need-add-tail-end
+add-tail-end c = omega arith
 
 tail-end-requires : tie.Need-tail-end-requires
 tail-end-requires c κs = (omega arith, omega arith)
@@ -68,14 +67,14 @@ fields-end-spec =
     returns
     add-rom-at
     add-rom-at-2
+    add-both
     shared-slice-read-both
     cast-both
-    add-both
+    add-both-2
     returns-2
     returns-3
-    add-value-at
-    add-value-at-2
     ascii-requires
     returns-4
+    add-tail-end
     tail-end-requires
     returns-5)

@@ -9,31 +9,31 @@ use Rattle.table_plain.proofs.plain_at.Statement.{statement}
 use Rattle.table_plain.proofs.plain_at.Tie as tie
 
 returns : tie.Need-returns
-returns c = search needs
+returns c = tt
 
 sub-if2 : tie.Need-sub-if2
-sub-if2 c = search needs
+sub-if2 c = omega arith
 
 returns-2 : tie.Need-returns-2
-returns-2 c = search needs
+returns-2 c = tt
 
 legal-head-requires : tie.Need-legal-head-requires
-legal-head-requires c κs = search needs
+legal-head-requires c κs = omega arith
 
 returns-3 : tie.Need-returns-3
-returns-3 c = search needs
+returns-3 c = tt
 
 add-fields-end : tie.Need-add-fields-end
-add-fields-end c = search needs
+add-fields-end c = omega arith
 
 fields-end-requires : tie.Need-fields-end-requires
-fields-end-requires c κs = search needs
+fields-end-requires c κs = omega arith
 
 enum-known-next : tie.Need-enum-known-next
 enum-known-next c = search needs
 
 u32-at-requires : tie.Need-u32-at-requires
-u32-at-requires c κs = search needs
+u32-at-requires c κs = omega arith
 
 enum-told : tie.Need-enum-told
 enum-told c = search needs
@@ -45,7 +45,7 @@ returns-4 c =
     record-is-plain _ _ _ (omega arith) (e .before .before .legal-head .ensures (not-false _ (e .before .if3 .left))) (subst (FieldsIs _ _) (k .before .next .given .1) (e .fields-end .ensures)) (c .u32-at .ensures)
 
 returns-5 : tie.Need-returns-5
-returns-5 c = search needs
+returns-5 c = tt
 
 pub plain-at-spec : {M : Type 1} → statement M
 plain-at-spec =

@@ -1,6 +1,7 @@
 -- `table_plain::content::legal_digit` meets its contract.
 use mathlib.Core.Path.{sym, _∙_}
 use borrow.Author.Tests.{eqb-true}
+use native.Mathlib.Omega.{arith}
 use borrow.Author.Needs.{needs}
 use Rattle.table_plain.proofs.content.legal_digit.Statement.{statement}
 use Rattle.table_plain.proofs.content.legal_digit.Tie as tie
@@ -9,16 +10,16 @@ returns : tie.Need-returns
 returns c = search needs
 
 u16-at-requires : tie.Need-u16-at-requires
-u16-at-requires c κs = search needs
+u16-at-requires c κs = omega arith
 
 cast-result : tie.Need-cast-result
 cast-result c = search needs
 
 mul-result : tie.Need-mul-result
-mul-result c = search needs
+mul-result c = omega arith
 
 add-result : tie.Need-add-result
-add-result c = search needs
+add-result c = omega arith
 
 returns-2 : tie.Need-returns-2
 returns-2 c = λ e h. sym (c .u16-at .ensures) ∙ eqb-true _ _ e

@@ -1,17 +1,18 @@
 -- `table_plain::content::legal_head` meets its contract: its tests are what the definition asks for.
 use Rattle.table_plain.proofs.PlainLaws.{head-is}
+use native.Mathlib.Omega.{arith}
 use borrow.Author.Needs.{needs}
 use Rattle.table_plain.proofs.content.legal_head.Statement.{statement}
 use Rattle.table_plain.proofs.content.legal_head.Tie as tie
 
 add-map : tie.Need-add-map
-add-map c = search needs
+add-map c = omega arith
 
 shared-slice-read-map : tie.Need-shared-slice-read-map
-shared-slice-read-map c = search needs
+shared-slice-read-map c = omega arith
 
 u32-at-requires : tie.Need-u32-at-requires
-u32-at-requires c κs = search needs
+u32-at-requires c κs = omega arith
 
 cast-result : tie.Need-cast-result
 cast-result c = search needs

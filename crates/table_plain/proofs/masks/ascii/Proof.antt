@@ -1,28 +1,28 @@
 -- `table_plain::masks::ascii` meets its contract: the three parts meet.
 use mathlib.Core.Bool.{_&&_}
+use native.Mathlib.Omega.{arith}
 use Rattle.text.proofs.RowLaws.{and-true}
 use Rattle.table_plain.proofs.MaskLaws.{three-low}
-use borrow.Author.Needs.{needs}
 use Rattle.table_plain.proofs.masks.ascii.Statement.{statement}
 use Rattle.table_plain.proofs.masks.ascii.Tie as tie
 
-sub-last : tie.Need-sub-last
-sub-last c = search needs
-
-sub-middle : tie.Need-sub-middle
-sub-middle c = search needs
-
-add-middle : tie.Need-add-middle
-add-middle c = search needs
+sub-more : tie.Need-sub-more
+sub-more c = omega arith
 
 low-eight-requires : tie.Need-low-eight-requires
-low-eight-requires c κs = search needs
+low-eight-requires c κs = (omega arith, c .before .pre .1)
+
+add-low-eight : tie.Need-add-low-eight
+add-low-eight c = omega arith
 
 low-eight-requires-2 : tie.Need-low-eight-requires-2
-low-eight-requires-2 c κs = search needs
+low-eight-requires-2 c κs = (omega arith, c .before .before .pre .1)
+
+add-low-eight-2 : tie.Need-add-low-eight-2
+add-low-eight-2 c = omega arith
 
 low-eight-requires-3 : tie.Need-low-eight-requires-3
-low-eight-requires-3 c κs = search needs
+low-eight-requires-3 c κs = (omega arith, c .before .before .before .pre .1)
 
 returns : tie.Need-returns
 returns c =
@@ -38,10 +38,10 @@ pub ascii-spec : {M : Type 1} → statement M
 ascii-spec =
     tie.close
     (tie.spec
-    sub-last
-    sub-middle
-    add-middle
+    sub-more
     low-eight-requires
+    add-low-eight
     low-eight-requires-2
+    add-low-eight-2
     low-eight-requires-3
     returns)
