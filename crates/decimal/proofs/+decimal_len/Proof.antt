@@ -44,13 +44,13 @@ decimal-len-returns : (t : ℕ) → decimal-len-lts.Need-returns (
   decimal-len-below t,
   decimal-len.Post,
 ) (decimal-len-at t) decimal-len.Post
-decimal-len-returns t c = sym (length-decimal-one (c .before .args .n) (c .if1 .taken))
+decimal-len-returns t c = sym (length-decimal-one (c .before .args .n) (omega (arith, c .if1 .taken)))
 
 decimal-len-returns-2 : (t : ℕ) → decimal-len-lts.Need-returns-2 (
   decimal-len-below t,
   decimal-len.Post,
 ) (decimal-len-at t) decimal-len.Post
-decimal-len-returns-2 t c = let n = c .before .before .args .n in sym (two n (c .before .if1 .left) (c .if2 .taken))
+decimal-len-returns-2 t c = let n = c .before .before .args .n in sym (two n (omega (arith, c .before .if1 .left)) (omega (arith, c .if2 .taken)))
 
 decimal-len-returns-3 : (t : ℕ) → decimal-len-lts.Need-returns-3 (
   decimal-len-below t,

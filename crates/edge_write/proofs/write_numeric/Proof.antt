@@ -1,6 +1,7 @@
 -- `edge_write::write_numeric` meets its contract: the bytes end where `fields_past` says, and the map is that of the fields. Assumes nothing.
 use Rattle.edge.proofs.WriteLaws.{head-room, numeric-no-room, numeric-there}
 use mathlib.Core.Path.{_∙_}
+use native.Mathlib.Omega.{arith}
 use Rattle.edge_write.proofs.RoomLaws.{past-room}
 use borrow.Author.Needs.{needs}
 use Rattle.edge_write.proofs.write_numeric.Statement.{statement}
@@ -22,7 +23,7 @@ returns : tie.Need-returns
 returns c = let a = c .before .before .before .before .before .before .before .before .args in numeric-no-room (a .out .now) (a .at) (a .start .0) (a .end .0) (a .ty .now) (a .txt .now) (a .o .now) (a .c .now) (a .v .now) (a .d) (c .before .before .before .before .before .before .before .before .pre .5) (c .before .fields-past .ensures) (c .if1 .taken)
 
 put-head-requires : tie.Need-put-head-requires
-put-head-requires c κs = let q = c .before .before .before .before .before .before .before .before .before .pre in (head-room _ _ _ (c .before .before .fields-past .ensures) (c .before .if1 .left), q .1, q .2, q .3, q .4)
+put-head-requires c κs = let q = c .before .before .before .before .before .before .before .before .before .pre in (omega (arith, head-room _ _ _ (c .before .before .fields-past .ensures) (c .before .if1 .left)), q .1, q .2, q .3, q .4)
 
 put-fields-requires : tie.Need-put-fields-requires
 put-fields-requires c κs = (past-room (c .before .before .before .before .before .before .fields-past .ensures) (c .before .before .before .before .before .if1 .left) (c .before .before .before .put-head .kept .0), c .before .before .before .before .before .before .before .before .before .before .before .before .before .pre .5)
