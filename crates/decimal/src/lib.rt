@@ -10,11 +10,23 @@ ghost use Rattle.whole.specs.Whole.{TOP};
 ghost use Rattle.whole.specs.Answers.{readDigits};
 ghost use Rattle.whole.specs.Decimal.{decimal, padded};
 
-// How many bytes the decimal text of n has.
+// How many bytes the decimal text of n has: four digits are told by comparing, without a division.
 pub fn decimal_len(n: u64) -> usize
     ensures { λ r. ⌜ r ≡ length (decimal n) ⌝ }
 {
-    if n > 9 { decimal_len(n / 10) + 1 } else { 1 }
+    if n < 10 {
+        return 1;
+    }
+    if n < 100 {
+        return 2;
+    }
+    if n < 1000 {
+        return 3;
+    }
+    if n < 10000 {
+        return 4;
+    }
+    decimal_len(n / 10000) + 4
 }
 
 // Writes the last len digits of n at an offset, leading zeros kept.

@@ -1,6 +1,5 @@
 -- `edge_write::fields_past` meets its contract: the offsets are the definition's, one behind the other. Assumes nothing.
 use Rattle.edge.specs.Write.{fieldsPast}
-use mathlib.Core.Path.{_≡_}
 use borrow.Author.Needs.{needs}
 use Rattle.edge_write.proofs.fields_past.Statement.{statement}
 use Rattle.edge_write.proofs.fields_past.Tie as tie

@@ -13,7 +13,7 @@ put-part-requires : tie.Need-put-part-requires
 put-part-requires c κs = (text-on-room _ _ _ _ (sym (c .before .before .bit .ensures) ∙ c .before .if1 .taken) (c .before .before .before .before .before .pre .1), c .before .before .before .before .before .pre .2, c .before .before .before .before .before .pre .3 (sym (c .before .before .bit .ensures) ∙ c .before .if1 .taken))
 
 same-length : tie.Need-same-length
-same-length c = search needs
+same-length c = c .before .before .put-part .kept .0
 
 returns : tie.Need-returns
 returns c = put-text-on _ _ _ _ _ (sym (c .before .before .before .before .before .bit .ensures) ∙ c .before .before .before .before .if1 .taken) (c .before .before .put-part .ensures)

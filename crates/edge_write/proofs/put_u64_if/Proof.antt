@@ -17,7 +17,7 @@ add-result : tie.Need-add-result
 add-result c = search needs
 
 same-length : tie.Need-same-length
-same-length c = search needs
+same-length c = c .before .before .put-u64 .kept .0
 
 returns : tie.Need-returns
 returns c = put-number-on _ _ _ _ (sym (c .before .before .before .before .before .bit .ensures) ∙ c .before .before .before .before .if1 .taken) (c .before .before .put-u64 .ensures)

@@ -1,6 +1,8 @@
 -- `edge_write::write_numeric` meets its contract: the bytes end where `fields_past` says, and the map is that of the fields. Assumes nothing.
 use Rattle.edge.proofs.WriteLaws.{head-room, numeric-no-room, numeric-there}
+use mathlib.Core.Path.{_∙_}
 use native.Mathlib.Omega.{arith}
+use Rattle.edge_write.proofs.RoomLaws.{past-room}
 use borrow.Author.Needs.{needs}
 use Rattle.edge_write.proofs.write_numeric.Statement.{statement}
 use Rattle.edge_write.proofs.write_numeric.Tie as tie
@@ -24,10 +26,10 @@ put-head-requires : tie.Need-put-head-requires
 put-head-requires c κs = let q = c .before .before .before .before .before .before .before .before .before .pre in (omega (arith, head-room _ _ _ (c .before .before .fields-past .ensures) (c .before .if1 .left)), q .1, q .2, q .3, q .4)
 
 put-fields-requires : tie.Need-put-fields-requires
-put-fields-requires c κs = search needs
+put-fields-requires c κs = (past-room (c .before .before .before .before .before .before .fields-past .ensures) (c .before .before .before .before .before .if1 .left) (c .before .before .before .put-head .kept .0), c .before .before .before .before .before .before .before .before .before .before .before .before .before .pre .5)
 
 same-length : tie.Need-same-length
-same-length c = search needs
+same-length c = c .before .before .put-fields .kept .0 ∙ c .before .before .before .before .before .before .put-head .kept .0
 
 returns-2 : tie.Need-returns-2
 returns-2 c = let a = c .before .before .before .before .before .before .before .before .before .before .before .before .before .before .before .before .args in numeric-there (a .out .now) (a .at) (a .start .0) (a .end .0) (a .ty .now) (a .txt .now) (a .o .now) (a .c .now) (a .v .now) (a .d) (c .before .before .before .before .before .before .before .before .before .before .before .before .before .before .before .before .pre .5) (c .before .before .before .before .before .before .before .before .before .fields-past .ensures) (c .before .before .before .before .before .before .before .before .if1 .left) (c .before .before .before .before .before .before .put-head .ensures .0) (c .before .before .before .before .before .before .put-head .ensures .1) (c .before .before .put-fields .ensures)

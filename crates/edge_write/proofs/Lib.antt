@@ -1,0 +1,2 @@
+-- Laws of the room that a writer has left.
+pub mod RoomLaws
