@@ -1,5 +1,5 @@
 -- Laws of `specs/Layout.antt`, by the way that a field's tests go. No contract cites this file.
--- In order: numbers; strings; fields that may be absent; the numbers of a record; a record; where fields end; what answers tell; items one after the other.
+-- In order: numbers; strings; fields that may be absent; the numbers of a record, and room for them; a record; where fields end; what answers tell; items one after the other.
 use mathlib.Core.Path.{_≡_, refl, sym, ap, _∙_, subst}
 use mathlib.Core.Bool.{Bool, true, false, cond}
 use mathlib.Core.List.{List, [], _∷_}
@@ -10,7 +10,9 @@ use native.Mathlib.Omega.{arith}
 use native.Mathlib.Decide.{decLe}
 use lib.ListN.{length, getD}
 use lib.Dec.{leb, ltb, eqb}
-use borrow.Author.Tests.{le-leb, lt-leb, lt-ltb, le-ltb, leb-true}
+use mir.Syntax.{w64}
+use mir.Val.{Fits}
+use borrow.Author.Tests.{le-leb, lt-leb, lt-ltb, le-ltb, leb-true, eqb-true}
 use Rattle.fields.specs.Fields.{leAt}
 use Rattle.fields.proofs.FieldsLaws.{leAt-one}
 use Rattle.fields.specs.Part.{part}
@@ -110,6 +112,42 @@ baseAt m at = ratioAt m at + 8 * (m / 4 % 2) + 8 * (m / 4 % 2)
 
 abbrev multAt : ℕ → ℕ → ℕ
 multAt m at = baseAt m at + 8 * (m / 8 % 2)
+
+-- ---- room for the numbers that a map asks for, in n bytes
+pub numbers-fit : (m at n : ℕ) → at ≤ n → m / 2 % 2 + 2 * (m / 4 % 2) + m / 8 % 2 + m / 16 % 2 ≤ (n - at) / 8 → multAt m at + 8 * (m / 16 % 2) ≤ n
+numbers-fit m at n h k = omega arith
+
+module _ (m at n : ℕ) (h : multAt m at + 8 * (m / 16 % 2) ≤ n) where
+  pub value-room : bit m 1 ≡ true → at + 8 ≤ n
+  value-room e = omega (arith, eqb-true)
+
+  pub numerator-room : bit m 2 ≡ true → ratioAt m at + 8 ≤ n
+  numerator-room e = omega (arith, eqb-true)
+
+  pub denominator-room : bit m 2 ≡ true → ratioAt m at + 8 * (m / 4 % 2) + 8 ≤ n
+  denominator-room e = omega (arith, eqb-true)
+
+  pub base-room : bit m 3 ≡ true → baseAt m at + 8 ≤ n
+  base-room e = omega (arith, eqb-true)
+
+  pub mult-room : bit m 4 ≡ true → multAt m at + 8 ≤ n
+  mult-room e = omega (arith, eqb-true)
+
+  module _ (k : n < 18446744073709551616) where
+    pub ratio-fits : Fits w64 (ratioAt m at)
+    ratio-fits = record { fits = omega arith }
+
+    pub denominator-fits : Fits w64 (ratioAt m at + 8 * (m / 4 % 2))
+    denominator-fits = record { fits = omega arith }
+
+    pub base-fits : Fits w64 (baseAt m at)
+    base-fits = record { fits = omega arith }
+
+    pub mult-fits : Fits w64 (multAt m at)
+    mult-fits = record { fits = omega arith }
+
+    pub end-fits : Fits w64 (multAt m at + 8 * (m / 16 % 2))
+    end-fits = record { fits = omega arith }
 
 module _ (m : ℕ) (s : List ℕ) (at : ℕ) where
   pub numbers-are : (v n d b u : ℕ) → multAt m at + 8 * (m / 16 % 2) ≤ length s

@@ -44,7 +44,7 @@ loop-less : tie.Need-loop-less Inv-loop μ-loop
 loop-less c = omega (arith, c .before .before .before .before .before .before .before .loop-test .taken)
 
 loop-again : tie.Need-loop-again Inv-loop μ-loop
-loop-again c = let g = c .before .before in let i = c .before .before .before .before .before .before .before in grown-more (i .before .loop .inv) (i .loop-test .taken) (g .add-choice .kept .0) (g .add-choice .ensures .0) (g .add-choice .ensures .1)
+loop-again c = let g = c .before .before in let i = c .before .before .before .before .before .before .before in grown-more (i .before .loop .inv) (i .loop-test .taken) {u = g .add-choice .last .0} {m = g .add-choice .result} (g .add-choice .kept .0) (g .add-choice .ensures .0) (g .add-choice .ensures .1)
 
 same-length : tie.Need-same-length Inv-loop μ-loop
 same-length c = c .before .loop .inv .long

@@ -8,7 +8,7 @@ use Rattle.edge.specs.Edge.{Edge}
 use Rattle.lattice.specs.Kept.{Holds}
 use Rattle.stages.specs.CallEdge.{CallEdges}
 use Rattle.choices.specs.Choices.{Decided}
-use Rattle.new_edges.proofs.EdgeLaws.{not-true}
+use Rattle.new_edges.proofs.EdgeLaws.{behind-twice, not-true}
 use Rattle.markers.proofs.MarkLaws.{table-marks}
 use Rattle.fractions.proofs.AnyMarkerLaws.{marked-any, no-marker-stage}
 use Rattle.fractions.proofs.StageLaws.{full-stage, keeps-of, planned, stage-holds}
@@ -62,7 +62,7 @@ returns-3 c =
     let f = a .before .before .before .before .before .before .before in
     let g = f .before .before .before .before .before in
     let r = start g .pre .0 in (
-      a .add-all .ensures .0 ∙ f .turn-off-all .ensures .0,
+      behind-twice (start g .args .w .now) (f .turn-off-all .last .0) (a .add-all .last .0) (a .add-all .ensures .0) (f .turn-off-all .ensures .0),
       λ es h k. let d = decided g h k in stage-holds _ _ es _ _ _ d (r .count) (r .few) k (f .turn-off-all .ensures .1 es h (λ q x. d q x .1)) (a .add-all .ensures .1),
     )
 

@@ -44,7 +44,7 @@ loop-less : tie.Need-loop-less Inv-loop μ-loop
 loop-less c = omega (arith, c .before .before .before .before .before .before .before .loop-test .taken)
 
 loop-again : tie.Need-loop-again Inv-loop μ-loop
-loop-again c = let g = c .before .before in let i = c .before .before .before .before .before .before .before in turned-more (i .before .loop .inv) (i .loop-test .taken) (g .turn-off-used .kept .0) (g .turn-off-used .ensures .0) (g .turn-off-used .ensures .1)
+loop-again c = let g = c .before .before in let i = c .before .before .before .before .before .before .before in turned-more (i .before .loop .inv) (i .loop-test .taken) {u = g .turn-off-used .last .0} (g .turn-off-used .kept .0) (g .turn-off-used .ensures .0) (g .turn-off-used .ensures .1)
 
 same-length : tie.Need-same-length Inv-loop μ-loop
 same-length c = c .before .loop .inv .long

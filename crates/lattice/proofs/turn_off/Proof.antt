@@ -36,13 +36,19 @@ same-length : tie.Need-same-length
 same-length c = search needs
 
 returns : tie.Need-returns
-returns c = let p = c .before .before in
+returns c =
+    let p = c .before .before in
     let m = p .before .before in
     let u = m .before in
     let o = u .before .before in
-    let s = start o in (
-      turned-frame (s .pre .0 .1) (s .pre .1) _ (s .pre .2) (o .offset-at .ensures _ (s .pre .0 .1)) (u .u16-at .ensures) (m .inactive-map .ensures) (p .put-u16 .ensures),
-      λ es q. holds-turned q (s .pre .1) _ (s .pre .2) (o .offset-at .ensures es q) (u .u16-at .ensures) (m .inactive-map .ensures) (p .put-u16 .ensures),
+    let s = start o in
+    let w = s .args .w .now in
+    let l = s .args .l in
+    let i = s .args .i in (
+      turned-frame {w = w} {l = l} {es = s .pre .0 .0} (s .pre .0 .1) (s .pre .1) i (s .pre .2) {at = o .offset-at .result} {m = u .u16-at .result} {m′ = m .inactive-map .result}
+          (o .offset-at .ensures (s .pre .0 .0) (s .pre .0 .1)) (u .u16-at .ensures) (m .inactive-map .ensures) {t = p .put-u16 .last .0} (p .put-u16 .ensures),
+      λ es q. holds-turned {w = w} {l = l} {es = es} q (s .pre .1) i (s .pre .2) {at = o .offset-at .result} {m = u .u16-at .result} {m′ = m .inactive-map .result}
+          (o .offset-at .ensures es q) (u .u16-at .ensures) (m .inactive-map .ensures) {t = p .put-u16 .last .0} (p .put-u16 .ensures),
     )
 
 pub turn-off-spec : {M : Type 1} → statement M

@@ -8,6 +8,7 @@ use Rattle.lattice.specs.Lattice.{add}
 use Rattle.lattice.specs.Kept.{Holds}
 use Rattle.numbers.specs.Fractions.{fractionType}
 use Rattle.new_edges.specs.NewEdge.{scriptFrom, fractionWith}
+use Rattle.new_edges.proofs.EdgeLaws.{behind-same}
 use Rattle.new_edges.proofs.FractionLaws.{fields-edge, fields-writable, fields-short}
 use borrow.Author.Needs.{needs}
 use Rattle.new_edges.proofs.add_composed.Statement.{statement}
@@ -51,7 +52,7 @@ returns : tie.Need-returns
 returns c =
     let g = c .before .before in
     let f = g .before .before .before .before .before in
-    (g .add-numeric .ensures .0, λ es h. subst (λ (e : Edge). Holds (g .add-numeric .last .0) (g .add-numeric .result) (add es e)) (made f) (g .add-numeric .ensures .1 es h))
+    (behind-same (f .before .before .before .args .w .now) (g .add-numeric .last .0) (g .add-numeric .ensures .0), λ es h. subst (λ (e : Edge). Holds (g .add-numeric .last .0) (g .add-numeric .result) (add es e)) (made f) (g .add-numeric .ensures .1 es h))
 
 pub add-composed-spec : {M : Type 1} → statement M
 add-composed-spec =

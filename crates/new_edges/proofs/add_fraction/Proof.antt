@@ -11,7 +11,7 @@ use Rattle.made.specs.Choice.{Two}
 use Rattle.new_edges.specs.NewEdge.{Has, scriptFrom, fractionWith, fractionOf}
 use Rattle.new_edges.proofs.TextLaws.{text-count}
 use Rattle.new_edges.proofs.FractionLaws.{fraction-is}
-use Rattle.new_edges.proofs.EdgeLaws.{left-in, right-in, call-at, head-small, ScriptRead, script-read}
+use Rattle.new_edges.proofs.EdgeLaws.{behind-same, left-in, right-in, call-at, head-small, ScriptRead, script-read}
 use borrow.Author.Needs.{needs}
 use Rattle.new_edges.proofs.add_fraction.Statement.{statement}
 use Rattle.new_edges.proofs.add_fraction.Tie as tie
@@ -97,7 +97,7 @@ returns : tie.Need-returns
 returns c =
     let g = c .before .before in
     let k = g .before .before .before .before in
-    (g .add-composed .ensures .0, λ n es h t. subst (λ (e : Edge). Holds (g .add-composed .last .0) (g .add-composed .result) (add es e)) (made k h t) (g .add-composed .ensures .1 es (h .holds)))
+    (behind-same (start (k .before .before .before .before) .args .w .now) (g .add-composed .last .0) (g .add-composed .ensures .0), λ n es h t. subst (λ (e : Edge). Holds (g .add-composed .last .0) (g .add-composed .result) (add es e)) (made k h t) (g .add-composed .ensures .1 es (h .holds)))
 
 pub add-fraction-spec : {M : Type 1} → statement M
 add-fraction-spec =

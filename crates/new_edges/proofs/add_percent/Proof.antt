@@ -14,7 +14,7 @@ use Rattle.made.specs.Choice.{Two}
 use Rattle.new_edges.specs.NewEdge.{Has, percentOf}
 use Rattle.new_edges.proofs.TextLaws.{text-count}
 use Rattle.new_edges.proofs.FractionLaws.{regular-is}
-use Rattle.new_edges.proofs.EdgeLaws.{left-in, right-in, head-small}
+use Rattle.new_edges.proofs.EdgeLaws.{behind-same, left-in, right-in, head-small}
 use borrow.Author.Needs.{needs}
 use Rattle.new_edges.proofs.add_percent.Statement.{statement}
 use Rattle.new_edges.proofs.add_percent.Tie as tie
@@ -77,7 +77,7 @@ returns : tie.Need-returns
 returns c =
     let g = c .before .before in
     let k = g .before .before .before .before in
-    (g .add-regular .ensures .0, λ n es h t. subst (λ (e : Edge). Holds (g .add-regular .last .0) (g .add-regular .result) (add es e)) (made k h t) (g .add-regular .ensures .1 es (h .holds)))
+    (behind-same (start k .args .w .now) (g .add-regular .last .0) (g .add-regular .ensures .0), λ n es h t. subst (λ (e : Edge). Holds (g .add-regular .last .0) (g .add-regular .result) (add es e)) (made k h t) (g .add-regular .ensures .1 es (h .holds)))
 
 pub add-percent-spec : {M : Type 1} → statement M
 add-percent-spec =

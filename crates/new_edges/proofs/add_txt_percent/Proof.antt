@@ -12,7 +12,7 @@ use Rattle.numbers.specs.Fractions.{percentageType}
 use Rattle.new_edges.specs.NewEdge.{Has, txtPercentOf}
 use Rattle.new_edges.proofs.TextLaws.{text-count}
 use Rattle.new_edges.proofs.FractionLaws.{regular-is}
-use Rattle.new_edges.proofs.EdgeLaws.{one-in, call-at, head-small, txt-short}
+use Rattle.new_edges.proofs.EdgeLaws.{behind-same, one-in, call-at, head-small, txt-short}
 use borrow.Author.Needs.{needs}
 use Rattle.new_edges.proofs.add_txt_percent.Statement.{statement}
 use Rattle.new_edges.proofs.add_txt_percent.Tie as tie
@@ -68,7 +68,7 @@ returns : tie.Need-returns
 returns c =
     let g = c .before .before in
     let k = g .before .before .before .before in
-    (g .add-regular .ensures .0, λ n es h t. subst (λ (e : Edge). Holds (g .add-regular .last .0) (g .add-regular .result) (add es e)) (made k h) (g .add-regular .ensures .1 es (h .holds)))
+    (behind-same (start k .args .w .now) (g .add-regular .last .0) (g .add-regular .ensures .0), λ n es h t. subst (λ (e : Edge). Holds (g .add-regular .last .0) (g .add-regular .result) (add es e)) (made k h) (g .add-regular .ensures .1 es (h .holds)))
 
 pub add-txt-percent-spec : {M : Type 1} → statement M
 add-txt-percent-spec =

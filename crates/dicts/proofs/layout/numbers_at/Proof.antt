@@ -1,11 +1,20 @@
 -- `dicts::layout::numbers_at` meets its contract: the bytes that the map asks for are there, or the first number that lacks some is at fault.
 use mathlib.Core.Path.{sym}
+use Prim.Native.Nat.{_+_, _*_, _/_, _%_, _≤_, _<_}
 use native.Mathlib.Omega.{arith}
-use borrow.Author.Tests.{eqb-true}
+use lib.ListN.{length}
 use borrow.Author.Needs.{needs}
-use Rattle.dicts.proofs.LayoutLaws.{numbers-are, numbers-cut}
+use Rattle.dicts.proofs.LayoutLaws.{numbers-fit, value-room, numerator-room, denominator-room, base-room, mult-room, ratio-fits, denominator-fits, base-fits, mult-fits, end-fits, numbers-are, numbers-cut}
 use Rattle.dicts.proofs.layout.numbers_at.Statement.{statement}
 use Rattle.dicts.proofs.layout.numbers_at.Tie as tie
+
+-- where the test of the length leads on, the numbers end within the bytes
+fit : (c : tie.Else1) → let a = c .before .before .args in
+    a .at + 8 * (a .map / 2 % 2) + 8 * (a .map / 4 % 2) + 8 * (a .map / 4 % 2) + 8 * (a .map / 8 % 2) + 8 * (a .map / 16 % 2) ≤ length (a .s .now)
+fit c = let a = c .before .before .args in numbers-fit (a .map) (a .at) (length (a .s .now)) (c .before .before .pre) (c .if1 .left)
+
+long : (c : tie.Else1) → length (c .before .before .args .s .now) < 18446744073709551616
+long c = omega arith
 
 sub-if1 : tie.Need-sub-if1
 sub-if1 c = search needs
@@ -35,7 +44,7 @@ mul-numerator-at : tie.Need-mul-numerator-at
 mul-numerator-at c = search needs
 
 add-numerator-at : tie.Need-add-numerator-at
-add-numerator-at c = search needs
+add-numerator-at c = let a = c .before .before .args in ratio-fits (a .map) (a .at) (length (a .s .now)) (fit c) (long c)
 
 cast-denominator-at : tie.Need-cast-denominator-at
 cast-denominator-at c = search needs
@@ -44,7 +53,7 @@ mul-denominator-at : tie.Need-mul-denominator-at
 mul-denominator-at c = search needs
 
 add-denominator-at : tie.Need-add-denominator-at
-add-denominator-at c = search needs
+add-denominator-at c = let a = c .before .before .args in denominator-fits (a .map) (a .at) (length (a .s .now)) (fit c) (long c)
 
 cast-base-at : tie.Need-cast-base-at
 cast-base-at c = search needs
@@ -53,7 +62,7 @@ mul-base-at : tie.Need-mul-base-at
 mul-base-at c = search needs
 
 add-base-at : tie.Need-add-base-at
-add-base-at c = search needs
+add-base-at c = let a = c .before .before .args in base-fits (a .map) (a .at) (length (a .s .now)) (fit c) (long c)
 
 cast-mult-at : tie.Need-cast-mult-at
 cast-mult-at c = search needs
@@ -62,22 +71,22 @@ mul-mult-at : tie.Need-mul-mult-at
 mul-mult-at c = search needs
 
 add-mult-at : tie.Need-add-mult-at
-add-mult-at c = search needs
+add-mult-at c = let a = c .before .before .args in mult-fits (a .map) (a .at) (length (a .s .now)) (fit c) (long c)
 
 number-if-requires : tie.Need-number-if-requires
-number-if-requires c κs e = omega (arith, eqb-true)
+number-if-requires c κs e = let a = c .before .before .args in value-room (a .map) (a .at) (length (a .s .now)) (fit c) e
 
 number-if-requires-2 : tie.Need-number-if-requires-2
-number-if-requires-2 c κs e = omega (arith, eqb-true)
+number-if-requires-2 c κs e = let l = c .before in let a = l .before .before .args in numerator-room (a .map) (a .at) (length (a .s .now)) (fit l) e
 
 number-if-requires-3 : tie.Need-number-if-requires-3
-number-if-requires-3 c κs e = omega (arith, eqb-true)
+number-if-requires-3 c κs e = let l = c .before .before in let a = l .before .before .args in denominator-room (a .map) (a .at) (length (a .s .now)) (fit l) e
 
 number-if-requires-4 : tie.Need-number-if-requires-4
-number-if-requires-4 c κs e = omega (arith, eqb-true)
+number-if-requires-4 c κs e = let l = c .before .before .before in let a = l .before .before .args in base-room (a .map) (a .at) (length (a .s .now)) (fit l) e
 
 number-if-requires-5 : tie.Need-number-if-requires-5
-number-if-requires-5 c κs e = omega (arith, eqb-true)
+number-if-requires-5 c κs e = let l = c .before .before .before .before in let a = l .before .before .args in mult-room (a .map) (a .at) (length (a .s .now)) (fit l) e
 
 cast-t14 : tie.Need-cast-t14
 cast-t14 c = search needs
@@ -86,10 +95,10 @@ mul-t19 : tie.Need-mul-t19
 mul-t19 c = search needs
 
 add-t13 : tie.Need-add-t13
-add-t13 c = search needs
+add-t13 c = let l = c .before .before .before .before .before in let a = l .before .before .args in end-fits (a .map) (a .at) (length (a .s .now)) (fit l) (long l)
 
 returns-2 : tie.Need-returns-2
-returns-2 c = numbers-are _ _ _ _ _ _ _ _ (omega arith) (c .before .before .before .before .number-if .ensures) (c .before .before .before .number-if2 .ensures) (c .before .before .number-if3 .ensures) (c .before .number-if4 .ensures) (c .number-if5 .ensures)
+returns-2 c = numbers-are _ _ _ _ _ _ _ _ (fit (c .before .before .before .before .before)) (c .before .before .before .before .number-if .ensures) (c .before .before .before .number-if2 .ensures) (c .before .before .number-if3 .ensures) (c .before .number-if4 .ensures) (c .number-if5 .ensures)
 
 pub numbers-at-spec : {M : Type 1} → statement M
 numbers-at-spec =

@@ -31,7 +31,10 @@ fields-at-requires : tie.Need-fields-at-requires
 fields-at-requires c κs = search needs
 
 returns-3 : tie.Need-returns-3
-returns-3 c = (record-is _ _ (omega arith) (c .before .before .before .u32-at .ensures) (c .before .if3 .taken) (c .fields-at .ensures .0), c .fields-at .ensures .1)
+returns-3 c =
+    let u = c .before .before .before in
+    let a = u .before .before .before .before .args in
+    (record-is (a .s .now) (a .at) (omega arith) (u .u32-at .ensures) (c .before .if3 .taken) (c .fields-at .ensures .0), c .fields-at .ensures .1)
 
 returns-4 : tie.Need-returns-4
 returns-4 c = (sym (record-bit-7 _ _ (omega arith) (c .if3 .left)), tt)
