@@ -24,7 +24,7 @@ use Rattle.lattice.specs.Kept.{key, Fits, Stands, Holds, END}
 use Rattle.lattice.proofs.KeyLaws.{length-key}
 use Rattle.lattice.proofs.KeptLaws.{fieldsBytes, length-edge, begins}
 use Rattle.lattice.proofs.HoldsLaws.{holds-beside}
-use Rattle.fields_copy.proofs.CopyLaws.{word-there}
+use Rattle.lattice_add.proofs.GivenLaws.{number-there as word-there}
 use Rattle.copies.specs.Copy.{prefixed, prefixedBytes, Source}
 
 -- ---- a turn of the loop that copies inside a list

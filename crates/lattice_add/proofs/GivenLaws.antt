@@ -1,15 +1,14 @@
 -- The bytes of a regular edge that is given in a listing are those of the edge that is read there. No contract cites this file.
--- In order: strings; the edge. Assumes nothing.
+-- In order: bytes that a number says; strings; the edge. Assumes nothing.
 use mathlib.Core.Path.{_≡_, refl, sym, ap, _∙_, subst}
-use mathlib.Core.List.{List, _++_}
-use Prim.Native.Nat.{ℕ, _+_, _-_, _≤_, _<_}
+use mathlib.Core.List.{List, [], _∷_, _++_}
+use Prim.Native.Nat.{ℕ, suc, _+_, _*_, _-_, _/_, _%_, _≤_, _<_}
 use native.Mathlib.Omega.{arith}
 use lib.ListN.{length, getD}
-use Rattle.fields.specs.Fields.{leAt, bytesOf}
+use Rattle.fields.specs.Fields.{le, leAt, bytesOf}
 use Rattle.fields.specs.Part.{part}
 use Rattle.fields.proofs.FieldsLaws.{leAt-lt}
-use Rattle.fields.proofs.PartLaws.{length-part, part-add}
-use Rattle.fields_copy.proofs.CopyLaws.{word-there}
+use Rattle.fields.proofs.PartLaws.{length-part, part-at, part-add}
 use Rattle.edge.specs.Edge.{str, headBytes, edgeBytes}
 use Rattle.edge.specs.Layout.{mapAt, textAt, stringEnd, txtAt, headEnd, nextAt, edgeAt}
 use Rattle.edge.specs.Write.{regular}
@@ -18,6 +17,15 @@ use Rattle.lattice.specs.Kept.{key, Fits, Stands}
 use Rattle.lattice.proofs.KeptLaws.{length-edge}
 
 -- ---- bytes
+bytesOf-le : (bs : List ℕ) → ((i : ℕ) → i < length bs → getD bs i 0 < 256) → bytesOf (length bs) (le bs) ≡ bs
+unfolding bytesOf le
+bytesOf-le [] f = refl
+bytesOf-le (b ∷ bs) f =
+    let h : b < 256 = f 0 (omega arith) in
+    let p : (b + 256 * le bs) % 256 ≡ b = omega arith in
+    let q : (b + 256 * le bs) / 256 ≡ le bs = omega arith in
+    rw (p, q, bytesOf-le bs (λ i k. f (suc i) (omega arith)))
+
 string-ends : (s : List ℕ) (at : ℕ) → stringEnd s at ≡ at + (2 + leAt s at 2)
 unfolding stringEnd
 string-ends s at = omega arith
@@ -27,12 +35,18 @@ join : (s : List ℕ) (at n k m : ℕ) {a b : List ℕ} → k ≡ at + n → par
 join s at n k m e p q = part-add s at n m ∙ rw (← e, p, q)
 
 module _ (s : List ℕ) (bytes : (i : ℕ) → getD s i 0 < 256) where
+  pub number-there : (at w : ℕ) → at + w ≤ length s → part s at w ≡ bytesOf w (leAt s at w)
+  unfolding leAt
+  number-there at w h =
+      let l = length-part s at w h in
+      sym (bytesOf-le (part s at w) (λ i k. rw (part-at s at w i (omega arith)) (bytes (at + i)))) ∙ ap (λ (n : ℕ). bytesOf n (le (part s at w))) l
+
   -- ---- strings
   string-there : (at : ℕ) → stringEnd s at ≤ length s → part s at (2 + leAt s at 2) ≡ str (textAt s at)
   unfolding str textAt stringEnd
   string-there at h =
       let l = length-part s (at + 2) (leAt s at 2) h in
-      join s at 2 (at + 2) (leAt s at 2) refl (word-there s bytes at 2 (omega arith) ∙ ap (bytesOf 2) (sym l)) refl
+      join s at 2 (at + 2) (leAt s at 2) refl (number-there at 2 (omega arith) ∙ ap (bytesOf 2) (sym l)) refl
 
   -- ---- the edge
   head-there : (at : ℕ) → headEnd s at ≤ length s
@@ -41,9 +55,9 @@ module _ (s : List ℕ) (bytes : (i : ℕ) → getD s i 0 < 256) where
   head-there at h =
       let t = string-ends s (at + 6) in
       let x = string-ends s (txtAt s at) in
-      join s at 2 (at + 2) _ refl (word-there s bytes at 2 (omega arith))
-      (join s (at + 2) 2 (at + 4) _ (omega arith) (word-there s bytes (at + 2) 2 (omega arith))
-      (join s (at + 4) 2 (at + 6) _ (omega arith) (word-there s bytes (at + 4) 2 (omega arith))
+      join s at 2 (at + 2) _ refl (number-there at 2 (omega arith))
+      (join s (at + 2) 2 (at + 4) _ (omega arith) (number-there (at + 2) 2 (omega arith))
+      (join s (at + 4) 2 (at + 6) _ (omega arith) (number-there (at + 4) 2 (omega arith))
       (join s (at + 6) (2 + leAt s (at + 6) 2) (txtAt s at) (2 + leAt s (txtAt s at) 2) (omega arith) (string-there (at + 6) (omega arith)) (string-there (txtAt s at) h))))
 
   module _ (at to : ℕ) (map : mapAt s at ≡ 0) (next : to ≡ nextAt s at) (inside : to ≤ length s) where

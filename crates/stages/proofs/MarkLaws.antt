@@ -78,7 +78,7 @@ module _ (test : Edge → Bool) (place : Edge → ℕ) where
     marked = λ p h. rw (e, getD-replicate {A = Bool} 257 p false false h);
   }
 
-  module _ {w : List ℕ} {l : Lattice} (full : l .full ≡ false) {i : ℕ} {marks : List Bool} (m : Marking test place w l i marks) where
+  module _ {w : List ℕ} {l : Lattice} (full : (l .len ≡ 0 → ⊥)) {i : ℕ} {marks : List Bool} (m : Marking test place w l i marks) where
     -- the i-th edge stands at an offset; no edge has its place behind its end
     pub marking-turn : ((e : Edge) → e .start < e .end → place e ≤ e .end) → i < l .count → {at : ℕ} → ((es : List Edge) → Holds w l es → at ≡ offset es i) → {v : List Bool}
         → v ≡ cond (test (edgeAt w at)) (set marks (place (edgeAt w at)) true) marks → Marking test place w l (i + 1) v

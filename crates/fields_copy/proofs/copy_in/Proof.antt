@@ -1,57 +1,59 @@
--- `fields_copy::copy_in` meets its contract: each way of copying promises it. Assumes nothing.
-use native.Mathlib.Omega.{arith}
+-- `fields_copy::copy_in` meets its contract. The loop's invariant: i bytes of s are stored, and the length is as it was.
+-- The measure is what is left of s. The mathematics of a turn is in `proofs/PartLaws.antt`. Assumes nothing.
+use borrow.Author.Needs.{needs}
+use Prim.Native.Nat.{_≤_, _-_}
+use mathlib.Core.Path.{_≡_}
+use lib.ListN.{length, take, length-set}
+use lib.Seq.{sets}
+use Rattle.fields.proofs.PartLaws.{copy-turn, copy-ends}
 use Rattle.fields_copy.proofs.copy_in.Statement.{statement}
 use Rattle.fields_copy.proofs.copy_in.Tie as tie
 
-copy-few-requires : tie.Need-copy-few-requires
-copy-few-requires c κs = (c .before .before .before .before .pre, omega (arith, c .before .if1 .taken))
+abbrev Inv-loop : tie.InvT-loop
+Inv-loop out₀ at s i₀ out i = (i ≤ length s) × (length out ≡ length out₀) × (out ≡ sets out₀ at (take i s))
 
-same-length : tie.Need-same-length
-same-length c = c .before .before .copy-few .kept .0
+abbrev μ-loop : tie.MeasureT-loop
+μ-loop out₀ at s i₀ out i = length s - i
 
-returns : tie.Need-returns
-returns c = c .before .before .copy-few .ensures
+loop-holds : tie.Need-loop-holds Inv-loop μ-loop
+loop-holds c = search needs
 
-copy-4-requires : tie.Need-copy-4-requires
-copy-4-requires c κs = let e = c .before .before in (e .before .before .before .pre, e .if1 .left, omega (arith, c .before .if2 .taken))
+shared-slice-read-out : tie.Need-shared-slice-read-out Inv-loop μ-loop
+shared-slice-read-out c = search needs
 
-same-length-2 : tie.Need-same-length-2
-same-length-2 c = c .before .before .copy-4 .kept .0
+add-out : tie.Need-add-out Inv-loop μ-loop
+add-out c = search needs
 
-returns-2 : tie.Need-returns-2
-returns-2 c = c .before .before .copy-4 .ensures
+slice-write-out : tie.Need-slice-write-out Inv-loop μ-loop
+slice-write-out c = search needs
 
-copy-8-requires : tie.Need-copy-8-requires
-copy-8-requires c κs = let e = c .before .before in (e .before .before .before .before .pre, e .if2 .left, omega (arith, c .before .if3 .taken))
+add-i : tie.Need-add-i Inv-loop μ-loop
+add-i c = search needs
 
-same-length-3 : tie.Need-same-length-3
-same-length-3 c = c .before .before .copy-8 .kept .0
+loop-less : tie.Need-loop-less Inv-loop μ-loop
+loop-less c = search needs
 
-returns-3 : tie.Need-returns-3
-returns-3 c = c .before .before .copy-8 .ensures
+loop-again : tie.Need-loop-again Inv-loop μ-loop
+loop-again c = (search needs, simp length-set (c .before .before .loop .inv .1), copy-turn _ _ _ _ (c .before .loop-test .taken) (c .before .before .loop .inv .2))
 
-copy-bytes-requires : tie.Need-copy-bytes-requires
-copy-bytes-requires c κs = c .before .before .before .before .before .before .pre
+same-length : tie.Need-same-length Inv-loop μ-loop
+same-length c = search needs
 
-same-length-4 : tie.Need-same-length-4
-same-length-4 c = c .before .before .copy-bytes .kept .0
-
-returns-4 : tie.Need-returns-4
-returns-4 c = c .before .before .copy-bytes .ensures
+returns : tie.Need-returns Inv-loop μ-loop
+returns c = copy-ends _ _ _ _ (c .loop-test .left) (c .before .loop .inv .2)
 
 pub copy-in-spec : {M : Type 1} → statement M
 copy-in-spec =
     tie.close
     (tie.spec
-    copy-few-requires
+    Inv-loop
+    μ-loop
+    loop-holds
+    shared-slice-read-out
+    add-out
+    slice-write-out
+    add-i
+    loop-less
+    loop-again
     same-length
-    returns
-    copy-4-requires
-    same-length-2
-    returns-2
-    copy-8-requires
-    same-length-3
-    returns-3
-    copy-bytes-requires
-    same-length-4
-    returns-4)
+    returns)

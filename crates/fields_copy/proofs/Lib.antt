@@ -1,2 +1,0 @@
--- Laws of a copy by words.
-pub mod CopyLaws
