@@ -65,7 +65,17 @@ pub fn add_numbers(
             let mut offs = [0usize; 257];
             places::place_offsets(line, &mut offs);
             checked_call(
-                line, &offs, table, h, n, edges, count, &index, entries, work, out,
+                line,
+                &offs,
+                table,
+                h,
+                n,
+                edges,
+                count,
+                &index,
+                entries,
+                work,
+                out,
             )
         }
     }

@@ -5,28 +5,34 @@ use native.Mathlib.Omega.{arith}
 use lib.ListN.{length, length-replicate}
 use Prim.Native.Nat.{ℕ}
 use Rattle.checks.specs.declared.Lent.{Lent}
-use Rattle.checks.specs.Checks.{Sound, LentIs}
+use Rattle.table_check.specs.Indexed.{RecordIndex}
+use Rattle.checks.specs.Checks.{Sound, LentIs, LentIndexed}
 use Rattle.call.proofs.AnswerLaws.{answer-short, answer-refused, answer-sound}
 use Rattle.call.proofs.add_numbers.Statement.{statement}
 use Rattle.call.proofs.add_numbers.Tie as tie
 
 abbrev start : tie.After-check → tie.Start
-start k = k .before .before .before .before .before .before .before
+start k = k .before .before .before .before .before .before .before .before .before
 
 -- what the checks found
 found : (k : tie.After-check) (r : Lent) → k .check .result ≡ r → LentIs (start k .args .line .now) (start k .args .table .now) (start k .args .edges .now) r
-found k r e = subst (LentIs (start k .args .line .now) (start k .args .table .now) (start k .args .edges .now)) e (k .check .ensures)
+found k r e = subst (LentIs (start k .args .line .now) (start k .args .table .now) (start k .args .edges .now)) e (k .check .ensures .0)
 
 sound : (n : tie.After-n) → let s = start (n .before .before) .args in
     Sound (s .line .now) (s .table .now) (s .edges .now) (n .n .given .0 .0) (n .n .given .0 .1 .0) (n .n .given .0 .1 .1 .0)
 unfolding LentIs
 sound n = found (n .before .before) _ (n .n .given .1)
 
+-- the index over the table's records
+indexed : (n : tie.After-n) → let k = n .before .before in RecordIndex (start k .args .table .now) (n .n .given .0 .1 .0) (k .check .last .1 .1 .1 .0) (k .check .last .1 .1 .1 .1 .0)
+unfolding LentIndexed
+indexed n = let k = n .before .before in subst (LentIndexed _ _ _) (n .n .given .1) (k .check .ensures .1)
+
 returns : tie.Need-returns
 returns c = answer-short _ _ _ _ _ (c .if1 .taken)
 
 check-requires : tie.Need-check-requires
-check-requires c κs = search needs
+check-requires c κs = length-replicate {A = ℕ} 256 0
 
 enum-known-r : tie.Need-enum-known-r
 enum-known-r c = search needs
@@ -38,10 +44,10 @@ place-offsets-requires : tie.Need-place-offsets-requires
 place-offsets-requires c κs = let n = c .before .before in (sound n .ready .formed, omega (arith, sound n .ready .few, sound n .ready .count), length-replicate {A = ℕ} 257 0)
 
 checked-call-requires : tie.Need-checked-call-requires
-checked-call-requires c κs = let p = c .before .before .before in let n = p .before .before .before in (p .place-offsets .ensures, n .before .before .before .if1 .left, sound n)
+checked-call-requires c κs = let p = c .before .before .before .before in let n = p .before .before .before in (p .place-offsets .ensures, n .before .before .before .before .before .if1 .left, sound n, indexed n)
 
 returns-2 : tie.Need-returns-2
-returns-2 c = let k = c .before .before .before in answer-refused _ _ _ _ _ (k .before .if1 .left) _ (found k _ (c .before .r .given .1))
+returns-2 c = let k = c .before .before .before in answer-refused _ _ _ _ _ (k .before .before .before .if1 .left) _ (found k _ (c .before .r .given .1))
 
 same-length : tie.Need-same-length
 same-length c = search needs
@@ -51,8 +57,8 @@ same-length-2 c = search needs
 
 returns-3 : tie.Need-returns-3
 returns-3 c = let a = c .before .before .before .before in
-    let n = a .before .before .before .before .before .before .before in
-    answer-sound _ _ _ _ _ (n .before .before .before .if1 .left) (sound n) _ _ (a .checked-call .ensures)
+    let n = a .before .before .before .before .before .before .before .before in
+    answer-sound _ _ _ _ _ (n .before .before .before .before .before .if1 .left) (sound n) _ _ (a .checked-call .ensures)
 
 pub add-numbers-spec : {M : Type 1} → statement M
 add-numbers-spec =

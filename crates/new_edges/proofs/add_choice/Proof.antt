@@ -19,7 +19,7 @@ returns-2 : tie.Need-returns-2
 returns-2 c =
     let g = c .before .before in
     let e = g .before .before in
-    let s = e .before .before .before .before in
+    let s = e .before .before .before .before .before in
     let f = e .if2 .taken in
     (behind-same (s .args .w .now) (g .add-percent .last .0) (g .add-percent .ensures .0), λ n es o. makes-percent {w = g .add-percent .last .0} {l = g .add-percent .result} es (s .args .p) (s .args .c) f (g .add-percent .ensures .1 n es (o .has) (o .valid .percent f)))
 
@@ -33,7 +33,7 @@ returns-3 : tie.Need-returns-3
 returns-3 c =
     let g = c .before .before in
     let e = g .before .before in
-    let s = e .before .before .before .before .before .before in
+    let s = e .before .before .before .before .before .before .before in
     let f = e .if3 .taken in
     (behind-same (s .args .w .now) (g .add-fraction .last .0) (g .add-fraction .ensures .0), λ n es o. makes-fraction {w = g .add-fraction .last .0} {l = g .add-fraction .result} es (s .args .p) (s .args .c) f (g .add-fraction .ensures .1 n es (o .has) (o .valid .fraction f)))
 
@@ -47,7 +47,7 @@ returns-4 : tie.Need-returns-4
 returns-4 c =
     let g = c .before .before in
     let e = g .before .before in
-    let s = e .before .before .before .before .before .before .before .before in
+    let s = e .before .before .before .before .before .before .before .before .before in
     let f = e .if4 .taken in
     (behind-same (s .args .w .now) (g .add-txt-percent .last .0) (g .add-txt-percent .ensures .0), λ n es o. makes-txt {w = g .add-txt-percent .last .0} {l = g .add-txt-percent .result} es (s .args .p) (s .args .c) f (g .add-txt-percent .ensures .1 n es (o .has) (o .valid .txt f)))
 
