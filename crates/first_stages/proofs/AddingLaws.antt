@@ -28,6 +28,7 @@ use Rattle.characters.proofs.InitialLaws.{so-far-none, so-far-skip, so-far-more
 use Rattle.five.specs.Five.{listedItems, behind}
 use Rattle.five.proofs.FrontLaws.{holds-front}
 use Rattle.five.proofs.FiveLaws.{add-all-append, listed-append}
+use Rattle.first_stages.specs.declared.First.{First}
 use Rattle.first_stages.specs.Stages.{Adding}
 
 -- ---- an item stored behind the lattice
@@ -56,22 +57,24 @@ pub adding-none : (line t : List ℕ) (rs : List Record) (s : List ℕ) (l : Lat
 unfolding itemsAt addAll
 adding-none line t rs s l = record { so-far = so-far-none (chars line) t rs (drop 39424 s); holds = λ es q. q }
 
--- ---- a turn: c stands at place k of the line, and the characters before it were added, from s with the lattice l to u
+-- ---- a turn: c stands at place k of the line, and the characters before it were added, from s with the lattice l to u, as f says
 one-more : (w t : List ℕ) (es : List Edge) (xs : List Item) (x : Item) → add (addAll es (listedItems w t xs)) (listedEdge (edgeOf w t x)) ≡ addAll es (listedItems w t (xs ++ (x ∷ [])))
 unfolding addAll
 one-more w t es xs x = sym (ap (addAll es) (listed-append w t xs (x ∷ [])) ∙ add-all-append es (listedItems w t xs) (listedItems w t (x ∷ [])))
 
-module _ (line t : List ℕ) (all : Rest) (ok : Records t all) (k c : ℕ) (inside : k < length (chars line)) (here : getD (chars line) k 0 ≡ c) (s : List ℕ) (l : Lattice) (u : List ℕ) (m : Lattice) (n : ℕ)
-    (a : Adding line t (recordsIn t all) k s l u (record { lattice = m; count = n })) where
-  pub adding-skip : find (recordsIn t all) c ≡ none → Adding line t (recordsIn t all) (k + 1) s l u (record { lattice = m; count = n })
-  adding-skip e = record { so-far = so-far-skip t all ok (chars line) (chars-scalars line) k c inside here n (drop 39424 u) (a .so-far) e; holds = a .holds }
+module _ (line t : List ℕ) (all : Rest) (ok : Records t all) (k c : ℕ) (inside : k < length (chars line)) (here : getD (chars line) k 0 ≡ c) (s : List ℕ) (l : Lattice) (u : List ℕ) (f : First)
+    (a : Adding line t (recordsIn t all) k s l u f) where
+  pub adding-skip : find (recordsIn t all) c ≡ none → Adding line t (recordsIn t all) (k + 1) s l u f
+  adding-skip e = record { so-far = so-far-skip t all ok (chars line) (chars-scalars line) k c inside here (f .count) (drop 39424 u) (a .so-far) e; holds = a .holds }
 
-  pub adding-more : (p : NumProp) (at : ℕ) → FoundAt t (recordsIn t all) c p at → (v : List ℕ) (r : Lattice) → behind v (n + 1) ≡ behind u n ++ (charItem t p at k c ∷ [])
-      → ((es : List Edge) → Holds u m es → Holds v r (add es (listedEdge (edgeOf (chars line) t (charItem t p at k c))))) → Adding line t (recordsIn t all) (k + 1) s l v (record { lattice = r; count = n + 1 })
-  adding-more p at f v r put g =
+  pub adding-more : (p : NumProp) (at : ℕ) → FoundAt t (recordsIn t all) c p at → (v : List ℕ) (m : Lattice) → behind v (f .count + 1) ≡ behind u (f .count) ++ (charItem t p at k c ∷ [])
+      → ((es : List Edge) → Holds u (f .lattice) es → Holds v m (add es (listedEdge (edgeOf (chars line) t (charItem t p at k c)))))
+      → Adding line t (recordsIn t all) (k + 1) s l v (record { lattice = m; count = f .count + 1 })
+  adding-more p at found v m put g =
       let x = charItem t p at k c in
+      let before = behind u (f .count) in
       record {
-        so-far = so-far-more t all ok (chars line) (chars-scalars line) k c inside here n (drop 39424 u) (a .so-far) p at (drop 39424 v) f put;
-        holds = λ es q. subst (λ (xs : List Item). Holds v r (addAll es (listedItems (chars line) t xs))) (sym put)
-            (subst (Holds v r) (one-more (chars line) t es (behind u n) x) (g (addAll es (listedItems (chars line) t (behind u n))) (a .holds es q)));
+        so-far = so-far-more t all ok (chars line) (chars-scalars line) k c inside here (f .count) (drop 39424 u) (a .so-far) p at (drop 39424 v) found put;
+        holds = λ es q. subst (λ (xs : List Item). Holds v m (addAll es (listedItems (chars line) t xs))) (sym put)
+            (subst (Holds v m) (one-more (chars line) t es before x) (g (addAll es (listedItems (chars line) t before)) (a .holds es q)));
       }

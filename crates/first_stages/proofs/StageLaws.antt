@@ -1,14 +1,13 @@
 -- Laws of the stages up to the five passes (`specs/Stages.antt`). No contract cites this file.
 -- In order: the first items and their edges; after the passes. Assumes nothing.
-use mathlib.Core.Path.{_≡_, refl, sym, ap, _∙_, subst}
-use mathlib.Core.Bool.{Bool, true, cond}
-use mathlib.Core.List.{List, [], _∷_, _++_, map, map-append}
-use mathlib.Core.Option.{none, some}
-use Prim.Native.Nat.{ℕ, suc, _+_, _-_, _≤_, _<_}
+use mathlib.Core.Path.{_≡_, sym, ap, _∙_, subst}
+use mathlib.Core.Bool.{true}
+use mathlib.Core.List.{List, [], _++_, map, map-append}
+use Prim.Native.Nat.{ℕ, _+_, _≤_, _<_}
 use native.Mathlib.Omega.{arith}
-use lib.ListN.{length, take, drop, getD}
+use lib.ListN.{length, drop, getD}
 use Rattle.text.specs.declared.Place.{Place}
-use Rattle.text.specs.Text.{chars, Scalars}
+use Rattle.text.specs.Text.{chars}
 use Rattle.text.proofs.TextLaws.{chars-scalars}
 use Rattle.fields.specs.Fields.{leAt}
 use Rattle.dicts.specs.Layout.{recordsAt}
@@ -18,19 +17,19 @@ use Rattle.dicts.specs.declared.shape.Shape.{Shape}
 use Rattle.passes.specs.NumEdge.{NumEdge}
 use Rattle.passes.specs.Characters.{firstList}
 use Rattle.passes.specs.Passes.{five, joinedEdges}
-use Rattle.pass_list.specs.Item.{Item, Every, nil, cons}
+use Rattle.pass_list.specs.Item.{Item, nil}
 use Rattle.pass_list.specs.Edges.{edgeOf}
 use Rattle.pass_edges.specs.InTurn.{addedBy}
-use Rattle.pass_edges.proofs.EveryLaws.{every-append, every-map}
+use Rattle.pass_edges.proofs.EveryLaws.{every-map}
 use Rattle.edge.specs.Edge.{Edge}
 use Rattle.edge.specs.Layout.{listed}
 use Rattle.edge.specs.Check.{checkListing}
 use Rattle.edge.specs.declared.ListingCheck.the-variants.{Edges}
 use Rattle.lattice.specs.declared.Lattice.{Lattice}
-use Rattle.lattice.specs.Lattice.{add, addAll}
+use Rattle.lattice.specs.Lattice.{addAll}
 use Rattle.lattice.specs.Kept.{Holds}
 use Rattle.stages.specs.Ready.{Ready}
-use Rattle.stages.specs.CallEdge.{CallEdge, CallEdges}
+use Rattle.stages.specs.CallEdge.{CallEdges}
 use Rattle.stages.proofs.CallLaws.{add-all-call}
 use Rattle.items.specs.Sound.{Sounds}
 use Rattle.items_theorems.proofs.Theorems.{items-call}
@@ -40,13 +39,13 @@ use Rattle.characters.proofs.Theorems.{initial-five}
 use Rattle.given.proofs.GivenLaws.{given-call}
 use Rattle.five.specs.declared.Passes.{Passes}
 use Rattle.five.specs.declared.Passes.the-variants.{Added, Above}
-use Rattle.five.specs.Five.{listedItems, behind, PassList, FiveDone, FiveIs}
-use Rattle.five.proofs.FiveLaws.{add-all-append, listed-append}
+use Rattle.five.specs.Five.{listedItems, behind, PassList, FiveIs}
+use Rattle.five.proofs.FiveLaws.{add-all-append}
 use Rattle.five.proofs.RootLaws.{sounds-of}
 use Rattle.numbers.specs.Listed.{listedEdge}
 use Rattle.numbers.specs.Call.{afterPasses}
 use Rattle.first_stages.specs.declared.First.{First}
-use Rattle.first_stages.specs.Stages.{Adding, FirstDone, CallDone, CallPassed}
+use Rattle.first_stages.specs.Stages.{Adding, FirstDone, CallPassed}
 
 -- ---- the first items and their edges
 first-list : (line t : List ℕ) (h : Shape) (v : List ℕ) (n : ℕ) → length (chars line) ≤ 256 → Initial line t h (drop 39424 v) n → PassList (chars line) t 1 v n

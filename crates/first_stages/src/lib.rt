@@ -59,11 +59,10 @@ fn put_and_add(
     item_stage::add_char(w, l, line, offs, table, e)
 }
 
-// One character more: its edge behind the n edges of those before it, if it has a record.
+// One character more: its edge behind those of the characters before it, if it has a record.
 fn add_char(
     w: &mut [u8],
-    l: Lattice,
-    n: usize,
+    done: First,
     line: &[u8],
     offs: &[usize; 257],
     table: &[u8],
@@ -73,18 +72,17 @@ fn add_char(
     place: usize,
     c: u32,
 ) -> First
-    requires { ⌜ Room (now w) l (now line) (now offs) × Records (now table) all × Indexed (now table) (recordsIn (now table) all) (now index) (all .left) entries × (n ≤ place) × (place < length (chars (now line))) × (getD (chars (now line)) place 0 ≡ c) ⌝ }
-    ensures { λ r. ⌜ ((s : List ℕ) (l₀ : Lattice) → Adding (now (line .entry)) (now (table .entry)) (recordsIn (now (table .entry)) all) place s l₀ (now (w .entry)) (record { lattice = l; count = n }) → Adding (now (line .entry)) (now (table .entry)) (recordsIn (now (table .entry)) all) (place + 1) s l₀ (now (w .exit)) r) ⌝ }
+    requires { ⌜ Room (now w) (done .lattice) (now line) (now offs) × Records (now table) all × Indexed (now table) (recordsIn (now table) all) (now index) (all .left) entries × (done .count ≤ place) × (place < length (chars (now line))) × (getD (chars (now line)) place 0 ≡ c) ⌝ }
+    ensures { λ r. ⌜ ((s : List ℕ) (l : Lattice) → Adding (now (line .entry)) (now (table .entry)) (recordsIn (now (table .entry)) all) place s l (now (w .entry)) done → Adding (now (line .entry)) (now (table .entry)) (recordsIn (now (table .entry)) all) (place + 1) s l (now (w .exit)) r) ⌝ }
 {
+    let l = done.lattice;
+    let n = done.count;
     match find_char(table, all, index, entries, c) {
         CharRecord::At(p, at) => First {
             lattice: put_and_add(w, l, n, line, offs, table, p, at, place, c),
             count: n + 1,
         },
-        CharRecord::Nothing => First {
-            lattice: l,
-            count: n,
-        },
+        CharRecord::Nothing => done,
     }
 }
 
@@ -110,11 +108,9 @@ fn add_chars(
     let mut at: usize = 0;
     while at < line.len() {
         let c = text_known::char_at(line, Offset(at));
-        let so_far = done.lattice;
         done = add_char(
             w,
-            so_far,
-            done.count,
+            done,
             line,
             offs,
             table,

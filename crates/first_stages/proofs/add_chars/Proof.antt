@@ -3,7 +3,7 @@
 use mathlib.Core.Path.{_≡_, refl, sym, _∙_}
 use Prim.Native.Nat.{_-_}
 use native.Mathlib.Omega.{arith}
-use lib.ListN.{length, drop, getD}
+use lib.ListN.{length, drop}
 use Rattle.text.specs.Sequence.{seq}
 use Rattle.text.specs.Text.{chars}
 use Rattle.text.proofs.PlaceLaws.{Reached, reached-start, reached-char, reached-here, char-fits}
@@ -40,7 +40,7 @@ char-at-requires c κs = let l = c .before in reached-stands _ (start l .pre .1)
 
 add-char-requires : tie.Need-add-char-requires Inv-loop μ-loop
 add-char-requires c κs =
-    let k = c .before .before in
+    let k = c .before in
     let l = at-loop k in
     let pre = start l .pre in
     let room = pre .0 in
@@ -50,24 +50,24 @@ add-char-requires c κs =
 
 add-place : tie.Need-add-place Inv-loop μ-loop
 add-place c =
-    let k = c .before .before .before .before .before in
+    let k = c .before .before .before .before in
     let l = at-loop k in
     omega (arith, reached-here _ _ _ (l .loop .inv .1) _ _ (told k) .0, start l .pre .0 .few)
 
 add-at : tie.Need-add-at Inv-loop μ-loop
 add-at c =
-    let k = c .before .before .before .before .before .before in
-    omega (arith, char-fits _ _ _ (at-loop k .loop .inv .1) _ _ (told k))
+    let k = c .before .before .before .before .before in
+    omega (arith, char-fits _ _ _ (at-loop k .loop .inv .1) _ _ (told k), start (at-loop k) .good)
 
 loop-less : tie.Need-loop-less Inv-loop μ-loop
 loop-less c =
-    let k = c .before .before .before .before .before .before in
+    let k = c .before .before .before .before .before in
     omega (arith, reached-here _ _ _ (at-loop k .loop .inv .1) _ _ (told k) .0)
 
 loop-again : tie.Need-loop-again Inv-loop μ-loop
 loop-again c =
     let added = c .before .before .before in
-    let k = added .before .before .before in
+    let k = added .before .before in
     let l = at-loop k in
     (added .add-char .ensures _ _ (l .loop .inv .0), reached-char _ _ _ (l .loop .inv .1) _ _ (told k), added .add-char .kept .0 ∙ l .loop .inv .2)
 

@@ -1,10 +1,7 @@
 -- `first_stages::passed` meets its contract: each stage gives the next what it asks for. Assumes nothing.
 use borrow.Author.Needs.{needs}
-use Prim.Native.Nat.{_≤_}
 use mathlib.Core.List.{[]}
 use native.Mathlib.Omega.{arith}
-use lib.ListN.{length}
-use Rattle.text.specs.Text.{chars}
 use Rattle.edge.specs.Layout.{listed}
 use Rattle.lattice.specs.Lattice.{addAll}
 use Rattle.lattice.specs.Kept.{Holds}
