@@ -18,25 +18,28 @@ pub fn legal_head(s: &[u8], at: usize, least: u64) -> bool
     (map % 64 == 43) & (map < 128) & (least <= code as u64) & (code <= 0xD7FF)
 }
 
-// A value of 0 to 9 has that one digit as its rom, whatever the type: a length of 1, and the digit.
-fn legal_digit(s: &[u8], rom: usize, value: u64) -> bool
+// A value of 0 to 9 has that one digit as its rom: a length of 1, and the digit. This is asked where the type's first byte is that of "digit".
+fn legal_digit(s: &[u8], first: u8, rom: usize, value: u64) -> bool
     requires { ⌜ rom + 2 ≤ length (now s) ⌝ }
-    ensures { λ r. ⌜ (r ≡ true → Digit (leAt (now (s .entry)) rom 2) value) ⌝ }
+    ensures { λ r. ⌜ (r ≡ true → Digit first (leAt (now (s .entry)) rom 2) value) ⌝ }
 {
     if 9 < value {
+        return true;
+    }
+    if first != b'd' {
         return true;
     }
     fields::u16_at(s, rom) as u64 == 0x3001 + 256 * value
 }
 
-pub fn legal_numbers(s: &[u8], rom: usize, at: usize) -> bool
+pub fn legal_numbers(s: &[u8], first: u8, rom: usize, at: usize) -> bool
     requires { ⌜ (rom + 2 ≤ length (now s)) × (at + 16 ≤ length (now s)) ⌝ }
-    ensures { λ r. ⌜ (r ≡ true → Numbers (leAt (now (s .entry)) rom 2) (leAt (now (s .entry)) at 8) (leAt (now (s .entry)) (at + 8) 8)) ⌝ }
+    ensures { λ r. ⌜ (r ≡ true → Numbers first (leAt (now (s .entry)) rom 2) (leAt (now (s .entry)) at 8) (leAt (now (s .entry)) (at + 8) 8)) ⌝ }
 {
     let value = fields::u64_at(s, at);
     let base = fields::u64_at(s, at + 8);
     if (TOP < value) | (base == 0) | (TOP < base) {
         return false;
     }
-    legal_digit(s, rom, value)
+    legal_digit(s, first, rom, value)
 }
