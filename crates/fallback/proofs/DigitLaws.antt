@@ -1,5 +1,6 @@
 -- Laws of the fallback's edges (`specs/Marks.antt`). No contract cites this file.
--- In order: the edge of one character; its first byte; the walk over the line; marks and the definition; the edges are legal. Assumes nothing.
+-- In order: the edge of one character; edges in a row; a character's first byte; the walk over the line; marks and the definition; the walk over the bytes, and a line without a digit; the edges are legal.
+-- Assumes nothing.
 use mathlib.Core.Path.{_≡_, refl, sym, ap, _∙_, subst}
 use mathlib.Core.Logic.{inl}
 use mathlib.Core.Bool.{Bool, true, false, cond, _&&_, _||_, not, and-false, or-false, or-assoc, true≢false}
@@ -8,7 +9,7 @@ use Prim.Native.Nat.{ℕ, suc, _+_, _/_, _≤_, _<_}
 use native.Mathlib.Numerals.{add-one}
 use native.Mathlib.Omega.{arith}
 use lib.ListN.{length, drop, getD, drop-of-length-le}
-use lib.Seq.{drop-cons, getD-drop}
+use lib.Seq.{getD-drop}
 use mathlib.Core.Option.{Option·some-ne-none}
 use lib.Dec.{leb, ltb}
 use borrow.Author.Tests.{leb-true, lt-ltb, ltb-true, ltb-false, lt-leb, le-leb}
@@ -102,7 +103,7 @@ module _ (line : List ℕ) (p : ℕ) (h : p < length (chars line)) where
   place-inside = omega (arith, offset-next line p h, encode-pos (getD (chars line) p 0), offset-le line (p + 1))
 
   from-place : drop p (chars line) ≡ getD (chars line) p 0 ∷ drop (p + 1) (chars line)
-  from-place = rw (add-one p) (drop-cons (chars line) p 0 h)
+  from-place = drop-at (chars line) p h
 
   first-byte : (m : Bool) → digitEdge (getD line (offsetOf line p) 0) p m ≡ digitEdge (getD (chars line) p 0) p m
   unfolding encodes
@@ -176,7 +177,7 @@ module _ (line : List ℕ) (found : Bool) (i : ℕ) (so-far : found || anyDigit 
   unfolding anyDigit
   any-end h = sym (or-false found) ∙ rw (drop-of-length-le line {i = i} h) at so-far
 
--- none is: so it is in each part
+-- no byte is a digit's: then none is in a part
 none-each : (b : ℕ) (s : List ℕ) → anyDigit (b ∷ s) ≡ false → (asciiDigit b ≡ false) × (anyDigit s ≡ false)
 unfolding anyDigit
 none-each b s = go (asciiDigit b)
@@ -189,7 +190,7 @@ none-behind : (s t : List ℕ) → anyDigit (s ++ t) ≡ false → anyDigit t �
 none-behind [] t e = e
 none-behind (b ∷ s) t e = none-behind s t (none-each b (s ++ t) e .1)
 
--- the character that the bytes begin with is none
+-- nor is the character that they begin with
 none-first : (c : ℕ) (s : List ℕ) → anyDigit (encode c ++ s) ≡ false → asciiDigit c ≡ false
 unfolding encode
 none-first c s = go (ltb c 0x80) refl _
@@ -198,7 +199,7 @@ none-first c s = go (ltb c 0x80) refl _
     go true e long n = none-each c s n .0
     go false e long n = let k = ltb-false c 0x80 e in above c (omega arith)
 
--- so no character is, and nothing is added
+-- so nothing is added
 none-fallback : (es : List Edge) (p : ℕ) (cs s : List ℕ) → anyDigit (encodes cs ++ s) ≡ false → fallback es p cs ≡ []
 unfolding fallback encodes
 none-fallback es p [] s n = refl
