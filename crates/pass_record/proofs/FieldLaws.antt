@@ -42,12 +42,15 @@ itemAt-fields s at =
     let at-field : (i w : ℕ) → i + w ≤ 56 → leAt (part s at 56) i w ≡ leAt s (at + i) w = λ i w h. leAt-of-part s at 56 i w h in
     rw (at-field 0 2 (omega arith), add-zero at, at-field 2 2 (omega arith), at-field 4 2 (omega arith), at-field 6 2 (omega arith), at-field 8 8 (omega arith), at-field 16 8 (omega arith), at-field 24 8 (omega arith), at-field 32 8 (omega arith), at-field 40 8 (omega arith), at-field 48 8 (omega arith))
 
+pub small-at : (s : List ℕ) (at : ℕ) → Small (itemAt s at) → Small (fieldsAt s at)
+small-at s at small = subst Small (itemAt-fields s at) small
+
 -- a record of bytes fits, where 01's bounds hold
 pub itemAt-fits : (s : List ℕ) (at : ℕ) → ((j : ℕ) → getD s j 0 < 256) → Small (itemAt s at) → Fits (itemAt s at)
 itemAt-fits s at bytes small =
     subst Fits (sym (itemAt-fields s at))
     (record {
-      small = subst Small (itemAt-fields s at) small;
+      small = small-at s at small;
       start = leAt-lt s at 2 bytes;
       end = leAt-lt s (at + 2) 2 bytes;
       kind = leAt-lt s (at + 4) 2 bytes;
