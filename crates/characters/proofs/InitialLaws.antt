@@ -1,5 +1,6 @@
 -- Laws of the pass list before D1 (`specs/Initial.antt`), for a loop over the line. No contract cites this file.
--- In order: the records by the table's count; what the table's check gives; no character; one character more, without and with a record; the end of the line.
+-- In order: the records by the table's count; what the table's check gives; the item of a character; one character more, without and with a record; no character;
+-- the end of the line.
 use mathlib.Core.Path.{_≡_, sym, ap, _∙_}
 use mathlib.Core.Bool.{true}
 use mathlib.Core.List.{List, [], _∷_, _++_}
@@ -7,7 +8,6 @@ use mathlib.Core.Option.{none}
 use Prim.Native.Nat.{ℕ, _+_, _*_, _≤_, _<_}
 use native.Mathlib.Omega.{arith}
 use lib.ListN.{length, getD, drop}
-use lib.Seq.{sets}
 use Rattle.text.specs.Text.{chars, Scalars}
 use Rattle.text.proofs.PlaceLaws.{Reached, reached-count}
 use Rattle.fields.specs.Fields.{leAt}
@@ -20,12 +20,11 @@ use Rattle.dicts.specs.declared.layout.NumProp.{NumProp}
 use Rattle.dicts.proofs.LookupLaws.{table-rises}
 use Rattle.char_index.specs.Index.{FoundAt, Whole}
 use Rattle.char_index.specs.declared.Rest.{Rest}
-use Rattle.pass_list.specs.Item.{Every, Small, Fits, nil, cons}
-use Rattle.pass_list.specs.Stored.{recordBytes, itemsAt}
-use Rattle.pass_list.proofs.StoredLaws.{items-put}
+use Rattle.pass_list.specs.Item.{Every, Small, nil, cons}
+use Rattle.pass_list.specs.Stored.{itemsAt}
 use Rattle.pass_edges.proofs.EveryLaws.{every-append}
 use Rattle.pass_edges.proofs.FirstItemsLaws.{first-items-none, first-items-skip, first-items-more}
-use Rattle.items.specs.Sound.{Rooted}
+use Rattle.items.specs.Sound.{Rooted, Sound}
 use Rattle.characters.specs.CharItem.{charItem}
 use Rattle.characters.specs.Initial.{recordsIn, Records, SoFar, Initial}
 use Rattle.characters.proofs.CharLaws.{legal-parts, char-edge-is, char-made, char-kind, char-small}
@@ -64,29 +63,31 @@ module _ (t : List ℕ) (all : Rest) (ok : Records t all) where
         let l = found-lawful (recordsIn t all) c each-lawful (f .found) in
         char-rooted t (recordsIn t all) c p at (l .0) f (l .1) (legal .0) i
 
-    pub found-small : (i : ℕ) → Small (charItem t p at i c)
-    found-small i = char-small t p at i c (legal .0)
+  -- ---- c stands at place k of the line
+  module _ (w : List ℕ) (scalars : Scalars w) (k c : ℕ) (inside : k < length w) (here : getD w k 0 ≡ c) where
+    pub found-sound : (p : NumProp) (at : ℕ) → FoundAt t (recordsIn t all) c p at → Sound w t (charItem t p at k c)
+    found-sound p at f = record { made = char-made w t p at k c inside here (f .reads) scalars (legal c p at f .1); small = char-small t p at k c (legal c p at f .0); rooted = found-rooted c p at f k }
 
-  -- ---- a turn: s begins with the n items of the characters before place k, where c stands
-  module _ (w : List ℕ) (scalars : Scalars w) (k c n : ℕ) (s : List ℕ) (inside : k < length w) (here : getD w k 0 ≡ c) (so : SoFar w t (recordsIn t all) k s n) where
-    pub so-far-skip : find (recordsIn t all) c ≡ none → SoFar w t (recordsIn t all) (k + 1) s n
-    so-far-skip e =
-        let few = so .few in
-        record { items = first-items-skip w t (recordsIn t all) k c (itemsAt s 0 n) inside here (so .items) e; few = omega arith; small = so .small; rooted = so .rooted }
+    -- ---- a turn: s begins with the n items of the characters before place k
+    module _ (n : ℕ) (s : List ℕ) (so : SoFar w t (recordsIn t all) k s n) where
+      pub so-far-skip : find (recordsIn t all) c ≡ none → SoFar w t (recordsIn t all) (k + 1) s n
+      so-far-skip e =
+          let few = so .few in
+          record { items = first-items-skip w t (recordsIn t all) k c (itemsAt s 0 n) inside here (so .items) e; few = omega arith; small = so .small; rooted = so .rooted }
 
-    pub so-far-more : (p : NumProp) (at : ℕ) (u : List ℕ) → FoundAt t (recordsIn t all) c p at → Fits (charItem t p at k c) → n * 56 + 56 ≤ length s
-        → u ≡ sets s (n * 56) (recordBytes (charItem t p at k c)) → SoFar w t (recordsIn t all) (k + 1) u (n + 1)
-    so-far-more p at u f fits long e =
-        let few = so .few in
-        let x = charItem t p at k c in
-        let put : itemsAt u 0 (n + 1) ≡ itemsAt s 0 n ++ (x ∷ []) = ap (λ (l : List ℕ). itemsAt l 0 (n + 1)) e ∙ items-put s n x fits long in
-        record {
-          items = rw put (first-items-more w t (recordsIn t all) k c (itemsAt s 0 n) inside here (so .items) (recordOf t p) x (f .found)
-              (char-edge-is w t p at k c inside here (f .reads)) (char-made w t p at k c inside here (f .reads) scalars (legal c p at f .1)) (char-kind t p at k c));
-          few = omega arith;
-          small = rw put (every-append Small (itemsAt s 0 n) (x ∷ []) (so .small) (cons (fits .small) nil));
-          rooted = rw put (every-append (Rooted t) (itemsAt s 0 n) (x ∷ []) (so .rooted) (cons (found-rooted c p at f k) nil));
-        }
+      pub so-far-more : (p : NumProp) (at : ℕ) (u : List ℕ) → FoundAt t (recordsIn t all) c p at → itemsAt u 0 (n + 1) ≡ itemsAt s 0 n ++ (charItem t p at k c ∷ [])
+          → SoFar w t (recordsIn t all) (k + 1) u (n + 1)
+      so-far-more p at u f put =
+          let few = so .few in
+          let x = charItem t p at k c in
+          let sound = found-sound p at f in
+          record {
+            items = rw put (first-items-more w t (recordsIn t all) k c (itemsAt s 0 n) inside here (so .items) (recordOf t p) x (f .found)
+                (char-edge-is w t p at k c inside here (f .reads)) (sound .made) (char-kind t p at k c));
+            few = omega arith;
+            small = rw put (every-append Small (itemsAt s 0 n) (x ∷ []) (so .small) (cons (sound .small) nil));
+            rooted = rw put (every-append (Rooted t) (itemsAt s 0 n) (x ∷ []) (so .rooted) (cons (sound .rooted) nil));
+          }
 
 pub so-far-none : (w t : List ℕ) (rs : List Record) (s : List ℕ) → SoFar w t rs 0 s 0
 unfolding itemsAt

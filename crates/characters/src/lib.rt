@@ -1,112 +1,74 @@
-// The edges of a line's characters before the passes (01, "From characters to edges"; the Rust's numbers.rs): the pass list before D1, one edge for each
-// character of the line that has a record, in line order.
-mod character; // character.rt: the edge of one character, from its record
-
+// The edge of one character in the pass list, from its record in the table. The definition is charItem of specs/CharItem.antt.
 ghost use mathlib.Core.Path.{_≡_};
-ghost use mathlib.Core.Bool.{true};
-ghost use mathlib.Core.List.{List};
-ghost use Prim.Native.Nat.{ℕ, _+_, _*_, _<_, _≤_};
-ghost use lib.ListN.{length, getD};
-ghost use lib.Seq.{sets};
-ghost use Rattle.text.specs.Text.{chars, wellFormed, Scalars};
-ghost use Rattle.dicts.specs.Answers.{Inside};
-ghost use Rattle.char_index.specs.Index.{Indexed};
-ghost use Rattle.pass_list.specs.Item.{Small, Fits};
-ghost use Rattle.pass_list.specs.Stored.{recordBytes};
-ghost use Rattle.table_check.specs.Indexed.{RecordIndex};
-ghost use Rattle.stages.specs.Ready.{Ready};
-ghost use Rattle.characters.specs.CharItem.{charItem};
-ghost use Rattle.characters.specs.Initial.{recordsIn, Records, SoFar, Initial};
-use crate::character::char_edge;
-use char_index::CharRecord;
-use char_index::Rest;
-use char_index::find_char;
+ghost use Prim.Native.Nat.{_+_, _<_};
+ghost use Rattle.text.specs.Bytes.{same};
+ghost use Rattle.dicts.specs.Answers.{partOf, Within, Inside};
+ghost use Rattle.passes.specs.Passes.{cjk};
+ghost use Rattle.pass_list.specs.Item.{numData, Small, EdgeIs};
+ghost use Rattle.characters.specs.CharItem.{numberIf, charItem};
 use dicts::layout::NumProp;
-use dicts::shape::Shape;
-use pass_record::put;
+use dicts::layout::Part;
+use pass_list::record::NumData;
+use pass_list::record::PassEdge;
+use table_texts::is_digit_type;
 use text::Offset;
+use text::Place;
 
-// Stores the edge of the code point c as the n-th of the list.
-fn put_char(
-    list: &mut [u8],
-    n: usize,
-    table: &[u8],
-    p: NumProp,
-    record_at: usize,
-    place: usize,
-    c: u32,
-)
-    requires { ⌜ (n < 256) × (14336 ≤ length (now list)) × (place < 256) × Inside (now table) p × Small (charItem (now table) p «record_at» place c) ⌝ }
-    ensures { λ _. ⌜ (now (list .exit) ≡ sets (now (list .entry)) (n * 56) (recordBytes (charItem (now (table .entry)) p «record_at» place c))) × Fits (charItem (now (table .entry)) p «record_at» place c) ⌝ }
+// A number that the record has, or 0.
+fn number_if(there: bool, n: u64) -> u64
+    ensures { λ r. ⌜ r ≡ numberIf there n ⌝ }
 {
-    let e = char_edge(table, p, record_at, place, c);
-    put(list, n * 56, e);
+    if there { n } else { 0 }
 }
 
-// One character more: its edge behind the n edges of those before it, if it has a record. Gives the count of edges then.
-fn add_char(
-    list: &mut [u8],
-    n: usize,
-    table: &[u8],
-    all: Rest,
-    offs: &[u32; 256],
-    entries: usize,
-    place: usize,
-    c: u32,
-) -> usize
-    requires { ⌜ (n ≤ place) × (14336 ≤ length (now list)) × (place < 256) × Records (now table) all × Indexed (now table) (recordsIn (now table) all) (now offs) (all .left) entries ⌝ }
-    ensures { λ r. ⌜ ((w : List ℕ) → Scalars w → place < length w → getD w place 0 ≡ c → SoFar w (now (table .entry)) (recordsIn (now (table .entry)) all) place (now (list .entry)) n → SoFar w (now (table .entry)) (recordsIn (now (table .entry)) all) (place + 1) (now (list .exit)) r) ⌝ }
+fn is_cjk(table: &[u8], p: Part) -> bool
+    requires { ⌜ Within (now table) p ⌝ }
+    ensures { λ r. ⌜ r ≡ same (partOf (now (table .entry)) p) cjk ⌝ }
 {
-    match find_char(table, all, offs, entries, c) {
-        CharRecord::At(p, at) => {
-            put_char(list, n, table, p, at, place, c);
-            n + 1
-        }
-        CharRecord::Nothing => n,
+    let at = p.at;
+    let end = p.at + p.len;
+    text::same_bytes(&table[at..end], b"CJK")
+}
+
+fn char_num(table: &[u8], p: NumProp, record_at: usize, place: usize, c: u32) -> NumData
+    requires { ⌜ Inside (now table) p × Small (charItem (now table) p «record_at» place c) ⌝ }
+    ensures { λ r. ⌜ r ≡ numData (charItem (now (table .entry)) p «record_at» place c) ⌝ }
+{
+    let n = p.numbers;
+    let num_type = p.num_type;
+    let script = p.script;
+    let has_value = p.map / 2 % 2 == 1;
+    let has_base = p.map / 8 % 2 == 1;
+    let has_mult = p.map / 16 % 2 == 1;
+    let has_script = p.map / 32 % 2 == 1;
+    let value = number_if(has_value, n.value);
+    NumData {
+        value: whole::f64_of(value),
+        base_multiplier: whole::f64_of(number_if(has_mult, n.mult)),
+        base: number_if(has_base, n.base),
+        has_value: has_value,
+        has_base: has_base,
+        has_mult: has_mult,
+        has_script: has_script,
+        large_power: p.map / 64 % 2 == 1,
+        digit: is_digit_type(table, num_type) & has_value & (value <= 9),
+        gap: (c == 0x96F6) | (c == 0x3007),
+        cjk: has_script & is_cjk(table, script),
+        script: Offset(script.at),
+        script_len: script.len,
     }
 }
 
-// The characters of a well-formed line one after the other.
-fn add_chars(
-    list: &mut [u8],
-    line: &[u8],
-    table: &[u8],
-    all: Rest,
-    offs: &[u32; 256],
-    entries: usize,
-) -> usize
-    requires { ⌜ (14336 ≤ length (now list)) × (wellFormed (now line) ≡ true) × (length (chars (now line)) ≤ 256) × Records (now table) all × Indexed (now table) (recordsIn (now table) all) (now offs) (all .left) entries ⌝ }
-    ensures { λ r. ⌜ SoFar (chars (now (line .entry))) (now (table .entry)) (recordsIn (now (table .entry)) all) (length (chars (now (line .entry)))) (now (list .exit)) r ⌝ }
+// The edge of the code point c at a place of the line; its record p stands at record_at in the table.
+pub fn char_edge(table: &[u8], p: NumProp, record_at: usize, place: usize, c: u32) -> PassEdge
+    requires { ⌜ Inside (now table) p × Small (charItem (now table) p «record_at» place c) × (place + 1 < 65536) ⌝ }
+    ensures { λ r. ⌜ EdgeIs r (charItem (now (table .entry)) p «record_at» place c) ⌝ }
 {
-    let mut n: usize = 0;
-    let mut place: usize = 0;
-    let mut at: usize = 0;
-    while at < line.len() {
-        let c = text_known::char_at(line, Offset(at));
-        n = add_char(list, n, table, all, offs, entries, place, c.code);
-        place += 1;
-        at += c.len;
+    PassEdge {
+        start: Place(place),
+        end: Place(place + 1),
+        kind: 0,
+        record_at: Offset(record_at),
+        num: char_num(table, p, record_at, place, c),
     }
-    n
-}
-
-// The edges of the line's characters, at the start of the list; gives their count. offs is the index over the table's records.
-pub fn initialize_num_edges(
-    list: &mut [u8],
-    line: &[u8],
-    table: &[u8],
-    h: Shape,
-    offs: &[u32; 256],
-    entries: usize,
-) -> usize
-    requires { ⌜ (14336 ≤ length (now list)) × ((n : ℕ) × Ready (now line) (now table) h n) × RecordIndex (now table) h (now offs) entries ⌝ }
-    ensures { λ r. ⌜ Initial (now (line .entry)) (now (table .entry)) h (now (list .exit)) r ⌝ }
-{
-    // the table begins with the count of its records
-    let count = fields::u16_at(table, 0) as usize;
-    let all = Rest {
-        at: h.records,
-        left: count,
-    };
-    add_chars(list, line, table, all, offs, entries)
 }

@@ -1,5 +1,5 @@
 -- Laws of the stages up to the five passes (`specs/Stages.antt`). No contract cites this file.
--- In order: the first items, lent behind the lattice; their edges; after the passes. Assumes nothing.
+-- In order: the first items and their edges; after the passes. Assumes nothing.
 use mathlib.Core.Path.{_≡_, refl, sym, ap, _∙_, subst}
 use mathlib.Core.Bool.{Bool, true, cond}
 use mathlib.Core.List.{List, [], _∷_, _++_, map, map-append}
@@ -7,12 +7,11 @@ use mathlib.Core.Option.{none, some}
 use Prim.Native.Nat.{ℕ, suc, _+_, _-_, _≤_, _<_}
 use native.Mathlib.Omega.{arith}
 use lib.ListN.{length, take, drop, getD}
-use lib.Dec.{eqb}
-use borrow.Author.Tests.{eq-eqb}
-use borrow.Rule.Slice.PartMut.{putMid}
 use Rattle.text.specs.declared.Place.{Place}
 use Rattle.text.specs.Text.{chars, Scalars}
 use Rattle.text.proofs.TextLaws.{chars-scalars}
+use Rattle.fields.specs.Fields.{leAt}
+use Rattle.dicts.specs.Layout.{recordsAt}
 use Rattle.dicts.specs.Answers.{tableOf}
 use Rattle.dicts.specs.Table.{Table}
 use Rattle.dicts.specs.declared.shape.Shape.{Shape}
@@ -21,8 +20,7 @@ use Rattle.passes.specs.Characters.{firstList}
 use Rattle.passes.specs.Passes.{five, joinedEdges}
 use Rattle.pass_list.specs.Item.{Item, Every, nil, cons}
 use Rattle.pass_list.specs.Edges.{edgeOf}
-use Rattle.pass_list.specs.Stored.{itemsAt}
-use Rattle.pass_edges.specs.InTurn.{ofKind, addedBy}
+use Rattle.pass_edges.specs.InTurn.{addedBy}
 use Rattle.pass_edges.proofs.EveryLaws.{every-append, every-map}
 use Rattle.edge.specs.Edge.{Edge}
 use Rattle.edge.specs.Layout.{listed}
@@ -37,30 +35,20 @@ use Rattle.stages.proofs.CallLaws.{add-all-call}
 use Rattle.items.specs.Sound.{Sounds}
 use Rattle.items_theorems.proofs.Theorems.{items-call}
 use Rattle.characters.specs.Initial.{Initial}
+use Rattle.characters.proofs.InitialLaws.{said-initial}
 use Rattle.characters.proofs.Theorems.{initial-five}
 use Rattle.given.proofs.GivenLaws.{given-call}
 use Rattle.five.specs.declared.Passes.{Passes}
 use Rattle.five.specs.declared.Passes.the-variants.{Added, Above}
 use Rattle.five.specs.Five.{listedItems, behind, PassList, FiveDone, FiveIs}
-use Rattle.five.proofs.FrontLaws.{holds-front}
-use Rattle.pass_nth.proofs.BehindLaws.{back-behind}
 use Rattle.five.proofs.FiveLaws.{add-all-append, listed-append}
 use Rattle.five.proofs.RootLaws.{sounds-of}
 use Rattle.numbers.specs.Listed.{listedEdge}
 use Rattle.numbers.specs.Call.{afterPasses}
 use Rattle.first_stages.specs.declared.First.{First}
-use Rattle.first_stages.specs.Stages.{FirstDone, CallDone, CallPassed}
+use Rattle.first_stages.specs.Stages.{Adding, FirstDone, CallDone, CallPassed}
 
--- ---- the first items
-pub initial-behind : (line t : List ℕ) (h : Shape) (w ys : List ℕ) (n : ℕ) → 39424 ≤ length w → Initial line t h ys n → Initial line t h (drop 39424 (putMid 39424 (length w - 39424) w ys)) n
-initial-behind line t h w ys n k q = subst (λ (s : List ℕ). Initial line t h s n) (sym (back-behind 39424 w ys k)) q
-
--- all are of kind 0
-of-kind-all : (l : List Item) → Every (λ x. x .kind ≡ 0) l → ofKind 0 l ≡ l
-unfolding ofKind
-of-kind-all [] nil = refl
-of-kind-all (x ∷ l) (cons e h) = rw (eq-eqb (x .kind) 0 e, of-kind-all l h)
-
+-- ---- the first items and their edges
 first-list : (line t : List ℕ) (h : Shape) (v : List ℕ) (n : ℕ) → length (chars line) ≤ 256 → Initial line t h (drop 39424 v) n → PassList (chars line) t 1 v n
 first-list line t h v n few i =
     let f = i .few in
@@ -70,23 +58,12 @@ first-list line t h v n few i =
       few = omega arith;
     }
 
-module _ (line t : List ℕ) (h : Shape) (v : List ℕ) (n : ℕ) (few : length (chars line) ≤ 256) (i : Initial line t h (drop 39424 v) n) where
-  pub first-sounds : Sounds (chars line) t (behind v n)
-  first-sounds = first-list line t h v n few i .sounds
-
-  pub first-few : n ≤ 256
-  first-few = let f = i .few in omega arith
-
-  -- from s to v the items were stored, from v to u their edges added
-  pub first-done : (s : List ℕ) (l : Lattice) (u : List ℕ) (m : Lattice) → take 39424 v ≡ take 39424 s → length v ≡ length s → drop 39424 u ≡ drop 39424 v
-      → ((es : List Edge) → Holds v l es → Holds u m (addAll es (listedItems (chars line) t (ofKind 0 (behind v n))))) → FirstDone line t h s l u (record { lattice = m; count = n })
-  first-done s l u m front long frame g =
-      let same : behind u n ≡ behind v n = ap (λ (b : List ℕ). itemsAt b 0 n) frame in
-      record {
-        initial = subst (λ (b : List ℕ). Initial line t h b n) (sym frame) i;
-        list = first-list line t h u n few (subst (λ (b : List ℕ). Initial line t h b n) (sym frame) i);
-        holds = λ es q. subst (λ (k : List Item). Holds u m (addAll es (listedItems (chars line) t k))) (of-kind-all (behind v n) (i .items .kinds) ∙ sym same) (g es (holds-front s v front long q));
-      }
+-- all characters were added, by the count that the table begins with
+pub first-done : (line t : List ℕ) (h : Shape) {n left : ℕ} → Ready line t h n → left ≡ leAt t 0 2 → (s : List ℕ) (l : Lattice) (u : List ℕ) (r : First)
+    → Adding line t (recordsAt left t (h .records)) (length (chars line)) s l u r → FirstDone line t h s l u r
+first-done line t h ready count s l u r a =
+    let i : Initial line t h (drop 39424 u) (r .count) = said-initial t h (ready .checked) count line (a .so-far) in
+    record { initial = i; list = first-list line t h u (r .count) (omega (arith, ready .few, ready .count)) i; holds = a .holds }
 
 -- ---- after the passes
 module _ (line t : List ℕ) (h : Shape) (given : List ℕ) {n count : ℕ} (ready : Ready line t h n) (legal : checkListing true n given ≡ Edges count) (bytes : (j : ℕ) → getD given j 0 < 256) (s : List ℕ) (r : First) (i : Initial line t h (drop 39424 s) (r .count)) where

@@ -70,7 +70,7 @@ fn fraction_at(table: &[u8], at: usize) -> Fraction
 }
 
 // A character is added: its type is a part of the table, its txt the rom there or else the character in the line.
-fn add_char(
+pub fn add_char(
     w: &mut [u8],
     l: Lattice,
     line: &[u8],

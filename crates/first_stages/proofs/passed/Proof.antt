@@ -25,8 +25,8 @@ empty-requires c κs = search needs
 add-all-given-requires : tie.Need-add-all-given-requires
 add-all-given-requires c κs = search needs
 
-first-edges-requires : tie.Need-first-edges-requires
-first-edges-requires c κs = let g = c .before .before .before in
+initialize-num-edges-requires : tie.Need-initialize-num-edges-requires
+initialize-num-edges-requires c κs = let g = c .before .before .before in
     let p = start g .pre in
     ((_, held g), p .0, omega (arith, p .1, g .before .before .before .before .empty .kept .0, g .add-all-given .kept .0), (p .2 .0, p .2 .1), p .3)
 
@@ -34,7 +34,7 @@ five-passes-requires : tie.Need-five-passes-requires
 five-passes-requires c κs = let r = c .before .before .before .before in
     let g = r .before .before .before .before in
     let p = start g .pre in
-    ((_, r .first-edges .ensures .holds _ (held g)), p .0, omega (arith, p .2 .1 .few, p .2 .1 .count), omega (arith, p .1, g .before .before .before .before .empty .kept .0, g .add-all-given .kept .0, r .first-edges .kept .0), r .first-edges .ensures .list)
+    ((_, r .initialize-num-edges .ensures .holds _ (held g)), p .0, omega (arith, p .2 .1 .few, p .2 .1 .count), omega (arith, p .1, g .before .before .before .before .empty .kept .0, g .add-all-given .kept .0, r .initialize-num-edges .kept .0), r .initialize-num-edges .ensures .list)
 
 same-length : tie.Need-same-length
 same-length c = search needs
@@ -45,7 +45,7 @@ returns c = let q = c .before .before in
     let g = r .before .before .before .before in
     let s = start g in
     let e = g .before .before .before .before in
-    let f = r .first-edges in
+    let f = r .initialize-num-edges in
     call-passed (s .args .line .now) (s .args .table .now) (s .args .h) (s .args .edges .now) (s .pre .2 .1) (s .pre .2 .2) (λ j. e .before .before .shared-slice-known3 .given j .fits) (f .last .0) (f .result) (f .ensures .initial)
     (q .five-passes .last .0) (q .five-passes .result) (f .ensures .holds _ (held g)) (f .ensures .list .sounds) (q .five-passes .ensures)
 
@@ -55,7 +55,7 @@ passed-spec =
     (tie.spec
     empty-requires
     add-all-given-requires
-    first-edges-requires
+    initialize-num-edges-requires
     five-passes-requires
     same-length
     returns)

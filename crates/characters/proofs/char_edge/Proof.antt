@@ -2,8 +2,8 @@
 use native.Mathlib.Omega.{arith}
 use Rattle.characters.specs.CharItem.{charItem}
 use borrow.Author.Needs.{needs}
-use Rattle.characters.proofs.character.char_edge.Statement.{statement}
-use Rattle.characters.proofs.character.char_edge.Tie as tie
+use Rattle.characters.proofs.char_edge.Statement.{statement}
+use Rattle.characters.proofs.char_edge.Tie as tie
 
 add-t7 : tie.Need-add-t7
 add-t7 c = search needs

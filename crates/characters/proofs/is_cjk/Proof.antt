@@ -7,8 +7,8 @@ use Rattle.fields.specs.Part.{part}
 use Rattle.text.specs.Bytes.{same}
 use Rattle.passes.specs.Passes.{cjk}
 use borrow.Author.Needs.{needs}
-use Rattle.characters.proofs.character.is_cjk.Statement.{statement}
-use Rattle.characters.proofs.character.is_cjk.Tie as tie
+use Rattle.characters.proofs.is_cjk.Statement.{statement}
+use Rattle.characters.proofs.is_cjk.Tie as tie
 
 add-end : tie.Need-add-end
 add-end c = search needs

@@ -1,8 +1,8 @@
 -- `char_num` meets its contract: a field of the record is there where its bit of the map is 1.
 use Rattle.characters.specs.CharItem.{charItem}
 use borrow.Author.Needs.{needs}
-use Rattle.characters.proofs.character.char_num.Statement.{statement}
-use Rattle.characters.proofs.character.char_num.Tie as tie
+use Rattle.characters.proofs.char_num.Statement.{statement}
+use Rattle.characters.proofs.char_num.Tie as tie
 
 number-if-requires : tie.Need-number-if-requires
 number-if-requires c κs = search needs
