@@ -1,5 +1,5 @@
 -- `num_at` meets its contract: it reads the fields one by one. Assumes nothing.
-use Rattle.pass_record.proofs.FieldLaws.{itemAt-fields, small-at}
+use Rattle.pass_record.proofs.FieldLaws.{num-read, small-at}
 use borrow.Author.Needs.{needs}
 use Rattle.pass_record.proofs.num_at.Statement.{statement}
 use Rattle.pass_record.proofs.num_at.Tie as tie
@@ -52,7 +52,11 @@ u64-at-requires-5 c κs = search needs
 
 returns : tie.Need-returns
 returns c =
-    rw (itemAt-fields _ _, c .u64-at5 .ensures, c .before .u64-at4 .ensures, c .before .before .u64-at3 .ensures, c .before .before .before .f64-of2 .ensures, c .before .before .before .before .u64-at2 .ensures, c .before .before .before .before .before .f64-of .ensures, c .before .before .before .before .before .before .u64-at .ensures, c .before .before .before .before .before .before .before .u16-at .ensures)
+    let multiplier = c .before .before .before in
+    let value = multiplier .before .before in
+    let map = value .before .before in
+    let start = map .before .before in
+    num-read (start .args .s .now) (start .args .at) (map .u16-at .ensures) (value .before .u64-at .ensures) (value .f64-of .ensures) (multiplier .before .u64-at2 .ensures) (multiplier .f64-of2 .ensures) (c .before .before .u64-at3 .ensures) (c .before .u64-at4 .ensures) (c .u64-at5 .ensures)
 
 pub num-at-spec : {M : Type 1} → statement M
 num-at-spec =
