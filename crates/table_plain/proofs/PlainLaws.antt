@@ -10,7 +10,7 @@ use native.Mathlib.Decide.{decLe}
 use lib.ListN.{length, getD}
 use lib.Seq.{drop-cons}
 use lib.Dec.{leb, ltb, eqb}
-use borrow.Author.Tests.{eq-eqb, le-leb, lt-ltb, le-ltb, eqb-true, eqb-false, leb-true, ltb-true, ltb-false}
+use borrow.Author.Tests.{eq-eqb, le-leb, lt-leb, lt-ltb, le-ltb, eqb-true, eqb-false, ltb-true, ltb-false}
 use Rattle.fields.specs.Fields.{leAt}
 use Rattle.fields.specs.Part.{part}
 use Rattle.fields.proofs.FieldsLaws.{leAt-add, leAt-one}
@@ -23,10 +23,9 @@ use Rattle.whole.specs.Whole.{TOP}
 use Rattle.dicts.specs.Table.{Text, Record}
 use Rattle.dicts.specs.Layout as Layout
 use Rattle.dicts.specs.Layout.{Field, Is, mapField, bit, text, optional, readNumbers, recordWith, readFields, readRecord}
-use Rattle.dicts.specs.Check.{digit, allOf, isDigitType, legalDigit, digitRule, legalTexts, legalNumbers, legalRecord}
+use Rattle.dicts.specs.Check.{digit, legalCodePoint, allOf, isDigitType, legalDigit, digitRule, legalTexts, legalNumbers, legalRecord}
 use Rattle.dicts.specs.Answers.{Ascii}
 use Rattle.dicts.proofs.LayoutLaws.{number-is, text-is, optional-there, fields-are, record-is}
-use Rattle.dicts.proofs.ContentLaws.{code-first}
 use Rattle.table_plain.specs.Plain.{LegalAt, Head, Digit, Numbers, Tail, TailIs, FieldsIs, PlainIs}
 use Rattle.table_plain.specs.declared.Behind.{Behind}
 use Rattle.table_plain.specs.declared.Behind.the-variants as Behind
@@ -109,7 +108,7 @@ legal-plain : (least c m v b : ℕ) (type rom script : Text) → Head least c m 
 unfolding legalRecord legalTexts legalNumbers digitRule allOf
 legal-plain least c m v b type rom script h ft fr fs sv pb sb d =
     rw (
-      sym (code-first least c (h .rises) (h .below)),
+      h .code,
       ft,
       fr,
       fs,
@@ -134,12 +133,25 @@ or-false : (a b : Bool) → (a || b) ≡ false → (a ≡ false) × (b ≡ false
 or-false false b e = (refl, e)
 or-false true b e = absurd (true≢false e)
 
-pub head-is : (least c m : ℕ) {x : ℕ} → x ≡ c → (((eqb (m % 64) 43 && ltb m 128) && leb least x) && leb x 0xD7FF) ≡ true → Head least c m
-head-is least c m {x} d e =
-    let three = and-true ((eqb (m % 64) 43 && ltb m 128) && leb least x) (leb x 0xD7FF) e in
-    let two = and-true (eqb (m % 64) 43 && ltb m 128) (leb least x) (three .0) in
-    let one = and-true (eqb (m % 64) 43) (ltb m 128) (two .0) in
-    record { fields = eqb-true _ _ (one .0); map = ltb-true _ _ (one .1); rises = rw (← d) (leb-true _ _ (two .1)); below = rw (← d) (leb-true _ _ (three .1)) }
+-- ---- the head, by what is told of it: x is the code point c, and 0 ≤ c needs no test
+module _ (least c m : ℕ) {x : ℕ} {b : Bool} (d : x ≡ c) (told : b ≡ ((eqb (m % 64) 43 && ltb m 128) && leb least x)) where
+  head-told : (leb c 0xD7FF || (leb 0xE000 c && leb c 0x10FFFF)) ≡ true → b ≡ true → Head least c m
+  unfolding legalCodePoint
+  head-told k e =
+      let two = and-true (eqb (m % 64) 43 && ltb m 128) (leb least x) (sym told ∙ e) in
+      let one = and-true (eqb (m % 64) 43) (ltb m 128) (two .0) in
+      let rises : leb least c ≡ true = rw d at (two .1) in
+      record { fields = eqb-true _ _ (one .0); map = ltb-true _ _ (one .1); code = rw (rises, le-leb 0 c (omega arith)) k }
+
+  pub head-below : x ≤ 0xD7FF → b ≡ true → Head least c m
+  head-below l = head-told (rw (le-leb c 0xD7FF (rw d at l)))
+
+  pub head-above : 0xD7FF < x → ((leb 0xE000 x && leb x 0x10FFFF) && b) ≡ true → Head least c m
+  head-above l e =
+      let two = and-true (leb 0xE000 x && leb x 0x10FFFF) b e in
+      let k : (leb 0xE000 c && leb c 0x10FFFF) ≡ true = rw d at (two .0) in
+      let n : leb c 0xD7FF ≡ false = lt-leb c 0xD7FF (rw d at l) in
+      head-told (rw (n, k)) (two .1)
 
 pub numbers-is : (t x v b : ℕ) {w d : ℕ} → w ≡ v → d ≡ b → ((ltb TOP w || eqb d 0) || ltb TOP d) ≡ false → Digit t x w → Numbers t x v b
 numbers-is t x v b {w} {d} ev eb e h =

@@ -1,6 +1,6 @@
 -- What a look by few tests tells of a record (01, "Record"): nothing where it answers Other. Definitions only.
 --     LegalAt least c f next   the field f holds a legal record with the code point c and ends before next
---     Head least c m           c is a code point below the surrogates, and bits 0 to 5 of the map m say: rom, value, base and script, and no other field
+--     Head least c m           c is a legal code point, and bits 0 to 5 of the map m say: rom, value, base and script, and no other field
 --     Digit t x v              where the type's first byte t is that of "digit", a value v of 0 to 9 has the rom of one digit that x says: its length 1, and the digit
 --     Numbers t x v b          the value v and the base b are legal, and so is the rom by its first two bytes x and the type's first byte t
 --     Tail s t rom at next     the numbers at an offset are legal, by the rom at another and the type's first byte t, and the script behind them is ASCII and ends before next
@@ -17,7 +17,7 @@ use Rattle.fields.specs.Fields.{leAt}
 use Rattle.whole.specs.Whole.{TOP}
 use Rattle.dicts.specs.Table.{Record}
 use Rattle.dicts.specs.Layout.{Field, Is, readFields, readRecord}
-use Rattle.dicts.specs.Check.{legalRecord}
+use Rattle.dicts.specs.Check.{legalCodePoint, legalRecord}
 use Rattle.dicts.specs.Answers.{Ascii}
 use Rattle.table_plain.specs.declared.Plain.{Plain}
 use Rattle.table_plain.specs.declared.Plain.the-variants as Plain
@@ -33,8 +33,7 @@ pub record LegalAt (least c : ℕ) (f : Field Record) (next : ℕ) : Type 0 wher
 pub record Head (least c m : ℕ) : Type 0 where
   pub fields : m % 64 ≡ 43
   pub map : m < 128
-  pub rises : least ≤ c
-  pub below : c ≤ 0xD7FF
+  pub code : legalCodePoint least c ≡ true
 
 abbrev pub Digit : ℕ → ℕ → ℕ → Type 0
 Digit t x v = t ≡ 100 → v ≤ 9 → x ≡ 0x3001 + 256 * v
