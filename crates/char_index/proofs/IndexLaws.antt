@@ -22,8 +22,8 @@ use Rattle.dicts.specs.Answers.{recordOf, Inside}
 use Rattle.dicts.specs.declared.layout.NumProp.{NumProp}
 use Rattle.dicts.proofs.LayoutLaws.{many-nil, many-fault, many-cons}
 use Rattle.dicts.proofs.LookupLaws.{rising-lower, drop-stops, found-other}
-use Rattle.char_index.specs.Walk.{Stands}
-use Rattle.char_index.proofs.WalkLaws.{record-begins}
+use Rattle.known_record.specs.Walk.{Stands}
+use Rattle.known_record.proofs.WalkLaws.{record-begins}
 use Rattle.char_index.specs.Index.{FoundAt, FoundIs, Whole, Tail, Ahead, Entry, strideOf, Indexed, Growing}
 use Rattle.char_index.specs.declared.Index.{Index}
 use Rattle.char_index.specs.declared.CharRecord.{CharRecord}

@@ -1,3 +1,2 @@
 -- The definitions that the contracts of `char_index` cite.
-pub mod Walk
 pub mod Index

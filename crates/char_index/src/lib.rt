@@ -1,9 +1,6 @@
 // The record of a character, and where it stands. Records have no fixed size, so an index keeps the offset of every stride-th one, 256 at most.
 // The check of the table makes it in its own walk. The cost: for each character at most nine looks into the index and stride records, a 256th of all. So the
 // 256 characters of the longest line cost about one walk more, and not a walk each. For a table of up to 255 records the stride is 1.
-mod walk; // walk.rt: the offset behind a record
-mod known; // known.rt: a record that is known to stand at an offset
-
 ghost use mathlib.Core.Path.{_≡_};
 ghost use mathlib.Core.List.{List};
 ghost use Prim.Native.Nat.{ℕ, _-_, _*_, _<_};
@@ -11,9 +8,9 @@ ghost use lib.ListN.{length};
 ghost use Rattle.dicts.specs.Table.{Record};
 ghost use Rattle.dicts.specs.Layout.{recordsAt};
 ghost use Rattle.char_index.specs.Index.{FoundIs, Entry, strideOf, Indexed, Growing, Whole, Ahead};
-use crate::known::record_here;
-use crate::walk::record_end;
 use dicts::layout::NumProp;
+use known_record::known::record_here;
+use known_record::walk::record_end;
 
 // The records from an offset on, so many.
 pub struct Rest {

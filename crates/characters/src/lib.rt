@@ -43,8 +43,8 @@ fn char_num(table: &[u8], p: NumProp, record_at: usize, place: usize, c: u32) ->
     let has_script = p.map / 32 % 2 == 1;
     let value = number_if(has_value, n.value);
     NumData {
-        value: whole::of_u64(value),
-        base_multiplier: whole::of_u64(number_if(has_mult, n.mult)),
+        value: whole::f64_of(value),
+        base_multiplier: whole::f64_of(number_if(has_mult, n.mult)),
         base: number_if(has_base, n.base),
         has_value: has_value,
         has_base: has_base,

@@ -1,21 +1,23 @@
 -- Laws of the fallback's edges (`specs/Marks.antt`). No contract cites this file.
--- In order: the edge of one character; its first byte; the walk over the line; marks and the definition; the edges are legal. Assumes nothing.
+-- In order: the edge of one character; edges in a row; a character's first byte; the walk over the line; marks and the definition; the walk over the bytes, and a line without a digit; the edges are legal.
+-- Assumes nothing.
 use mathlib.Core.Path.{_≡_, refl, sym, ap, _∙_, subst}
 use mathlib.Core.Logic.{inl}
-use mathlib.Core.Bool.{Bool, true, false, cond, _&&_, _||_, not}
+use mathlib.Core.Bool.{Bool, true, false, cond, _&&_, _||_, not, and-false, or-false, or-assoc, true≢false}
 use mathlib.Core.List.{List, [], _∷_, _++_, append-assoc}
 use Prim.Native.Nat.{ℕ, suc, _+_, _/_, _≤_, _<_}
 use native.Mathlib.Numerals.{add-one}
 use native.Mathlib.Omega.{arith}
 use lib.ListN.{length, drop, getD, drop-of-length-le}
-use lib.Seq.{drop-cons, getD-drop}
+use lib.Seq.{getD-drop}
 use mathlib.Core.Option.{Option·some-ne-none}
 use lib.Dec.{leb, ltb}
 use borrow.Author.Tests.{leb-true, lt-ltb, ltb-true, ltb-false, lt-leb, le-leb}
 use Rattle.text.specs.Sequence.{trailByte, encode}
 use Rattle.text.specs.Text.{chars, left, encodes, wellFormed, offsetOf}
 use Rattle.text.proofs.RowLaws.{and-true}
-use Rattle.text.proofs.TextLaws.{encodes-well-formed}
+use Rattle.text.proofs.TextLaws.{text-split, encodes-well-formed}
+use Rattle.text.proofs.SequenceLaws.{drop-at}
 use Rattle.text.proofs.EncodeLaws.{encode-pos}
 use Rattle.text.proofs.PlaceLaws.{offset-drop, offset-le, offset-next}
 use Rattle.edge.specs.Edge.{Edge}
@@ -30,26 +32,25 @@ use Rattle.lattice.specs.Lattice.{add, addAll}
 use Rattle.lattice.specs.Kept.{Holds, AddingIs}
 use Rattle.lattice.proofs.HoldsLaws.{add-nothing}
 use Rattle.numbers.specs.Fallback.{covered, numType, asciiDigit, fallback}
-use Rattle.fallback.specs.Marks.{digitEdge, unmarked}
+use Rattle.fallback.specs.Marks.{digitEdge, unmarked, anyDigit}
 
 -- ---- the edge of one character
-module _ (c p : ℕ) (m : Bool) where
-  and-off : (b : Bool) → (b && false) ≡ false
-  and-off true = refl
-  and-off false = refl
+above : (c : ℕ) → 57 < c → asciiDigit c ≡ false
+above c h = rw (lt-leb c 57 h) (and-false (leb 48 c))
 
+module _ (c p : ℕ) (m : Bool) where
   above-digits : 57 < c → digitEdge c p m ≡ []
   unfolding digitEdge
-  above-digits h = rw (lt-leb c 57 h, and-off (leb 48 c))
+  above-digits h = rw (above c h)
 
   no-digit : ((m || ltb c 48) || ltb 57 c) ≡ true → digitEdge c p m ≡ []
   unfolding digitEdge
   no-digit t = go m (ltb c 48) refl (ltb 57 c) refl t
     where
       go : (n x : Bool) → ltb c 48 ≡ x → (y : Bool) → ltb 57 c ≡ y → ((n || x) || y) ≡ true → cond (asciiDigit c && not n) (regular p (suc p) numType (c ∷ []) ∷ []) [] ≡ []
-      go true x f y g t = rw (and-off (asciiDigit c))
+      go true x f y g t = rw (and-false (asciiDigit c))
       go false true f y g t = rw (lt-leb 48 c (ltb-true c 48 f))
-      go false false f true g t = rw (lt-leb c 57 (ltb-true 57 c g), and-off (leb 48 c))
+      go false false f true g t = rw (above c (ltb-true 57 c g))
       go false false f false g t = absurd (let o : _≡_ {A = ℕ} 0 1 = cc in omega arith)
 
   is-digit : ((m || ltb c 48) || ltb 57 c) ≡ false → digitEdge c p m ≡ regular p (p + 1) numType (c ∷ []) ∷ []
@@ -102,7 +103,7 @@ module _ (line : List ℕ) (p : ℕ) (h : p < length (chars line)) where
   place-inside = omega (arith, offset-next line p h, encode-pos (getD (chars line) p 0), offset-le line (p + 1))
 
   from-place : drop p (chars line) ≡ getD (chars line) p 0 ∷ drop (p + 1) (chars line)
-  from-place = rw (add-one p) (drop-cons (chars line) p 0 h)
+  from-place = drop-at (chars line) p h
 
   first-byte : (m : Bool) → digitEdge (getD line (offsetOf line p) 0) p m ≡ digitEdge (getD (chars line) p 0) p m
   unfolding encodes
@@ -165,6 +166,50 @@ marks-say es marks m p (c ∷ w) h =
 pub marks-add : {w : List ℕ} {l : Lattice} (es : List Edge) (marks : List Bool) (cs : List ℕ) → ((p : ℕ) → p < 256 → getD marks p false ≡ covered es p) → length cs ≤ 256
     → Holds w l (addAll es (unmarked marks 0 cs)) → Holds w l (addAll es (fallback es 0 cs))
 marks-add es marks cs m h q = rw (marks-say es marks m 0 cs (omega arith)) at q
+
+-- ---- the walk over the bytes: what is found so far, or is among those from i on, is what the line has
+module _ (line : List ℕ) (found : Bool) (i : ℕ) (so-far : found || anyDigit (drop i line) ≡ anyDigit line) where
+  pub any-next : i < length line → (found || asciiDigit (getD line i 0)) || anyDigit (drop (i + 1) line) ≡ anyDigit line
+  unfolding anyDigit
+  any-next h = or-assoc found _ _ ∙ rw (drop-at line i h) at so-far
+
+  pub any-end : length line ≤ i → found ≡ anyDigit line
+  unfolding anyDigit
+  any-end h = sym (or-false found) ∙ rw (drop-of-length-le line {i = i} h) at so-far
+
+-- no byte is a digit's: then none is in a part
+none-each : (b : ℕ) (s : List ℕ) → anyDigit (b ∷ s) ≡ false → (asciiDigit b ≡ false) × (anyDigit s ≡ false)
+unfolding anyDigit
+none-each b s = go (asciiDigit b)
+  where
+    go : (d : Bool) → d || anyDigit s ≡ false → (d ≡ false) × (anyDigit s ≡ false)
+    go true e = absurd (true≢false e)
+    go false e = (refl, e)
+
+none-behind : (s t : List ℕ) → anyDigit (s ++ t) ≡ false → anyDigit t ≡ false
+none-behind [] t e = e
+none-behind (b ∷ s) t e = none-behind s t (none-each b (s ++ t) e .1)
+
+-- nor is the character that they begin with
+none-first : (c : ℕ) (s : List ℕ) → anyDigit (encode c ++ s) ≡ false → asciiDigit c ≡ false
+unfolding encode
+none-first c s = go (ltb c 0x80) refl _
+  where
+    go : (x : Bool) → ltb c 0x80 ≡ x → (long : List ℕ) → anyDigit (cond x (c ∷ []) long ++ s) ≡ false → asciiDigit c ≡ false
+    go true e long n = none-each c s n .0
+    go false e long n = let k = ltb-false c 0x80 e in above c (omega arith)
+
+-- so nothing is added
+none-fallback : (es : List Edge) (p : ℕ) (cs s : List ℕ) → anyDigit (encodes cs ++ s) ≡ false → fallback es p cs ≡ []
+unfolding fallback encodes
+none-fallback es p [] s n = refl
+none-fallback es p (c ∷ cs) s n =
+    let m = rw append-assoc at n in
+    rw (none-first c (encodes cs ++ s) m) (none-fallback es (suc p) cs s (none-behind (encode c) (encodes cs ++ s) m))
+
+pub none-add : {w : List ℕ} {l : Lattice} (es : List Edge) (line : List ℕ) → anyDigit line ≡ false → Holds w l es → Holds w l (addAll es (fallback es 0 (chars line)))
+unfolding addAll
+none-add es line n q = rw (none-fallback es 0 (chars line) (left line) (ap anyDigit (sym (text-split line)) ∙ n)) q
 
 -- ---- the edges may be listed
 text-num : wellFormed numType ≡ true

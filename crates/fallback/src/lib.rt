@@ -13,7 +13,7 @@ ghost use Rattle.paths.specs.Reading.{Spanned};
 ghost use Rattle.stages.specs.Ready.{Offsets};
 ghost use Rattle.stages.specs.CallEdge.{Legals};
 ghost use Rattle.numbers.specs.Fallback.{covered, fallback};
-ghost use Rattle.fallback.specs.Marks.{onePlace, digitEdge, unmarked};
+ghost use Rattle.fallback.specs.Marks.{onePlace, digitEdge, unmarked, anyDigit};
 use lattice::Lattice;
 use text::Place;
 
@@ -78,12 +78,29 @@ fn add_unmarked(
     grown
 }
 
+// Whether a line has the byte of an ASCII digit: most have none. The walk has no way out before the line's end, so that it takes many bytes at a time.
+fn any_digit(line: &[u8]) -> bool
+    ensures { λ r. ⌜ r ≡ anyDigit (now (line .entry)) ⌝ }
+{
+    let mut found = false;
+    let mut i = 0;
+    while i < line.len() {
+        let b = line[i];
+        found = found | ((48 <= b) & (b <= 57));
+        i += 1;
+    }
+    found
+}
+
 // The fallback's edges are added, for a line of n characters. The marks are those of the lattice before the first of them.
 pub fn fallback(w: &mut [u8], l: Lattice, line: &[u8], offs: &[usize; 257], n: usize) -> Lattice
     requires { ⌜ Offsets (now line) (now offs) × (length (chars (now line)) ≡ n) × (n ≤ 256) × ((es : List Edge) × Holds (now w) l es × Legals n es) ⌝ }
     ensures { λ r. ⌜ (drop 39424 (now (w .exit)) ≡ drop 39424 (now (w .entry))) × ((es : List Edge) → Holds (now (w .entry)) l es → Legals n es → Holds (now (w .exit)) r (addAll es (fallback es 0 (chars (now (line .entry)))))) ⌝ }
 {
     if l.len == 0 {
+        return l;
+    }
+    if !any_digit(line) {
         return l;
     }
     let mut marks = [false; 257];

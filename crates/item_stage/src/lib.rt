@@ -178,11 +178,15 @@ pub fn add_of_kind(
     requires { ⌜ ((es : List Edge) × Holds (now w) l es) × Offsets (now line) (now offs) × (length (chars (now line)) ≤ 256) × Sounds (chars (now line)) (now table) (itemsAt (drop 39424 (now w)) 0 n) × (39424 + n * 56 ≤ length (now w)) ⌝ }
     ensures { λ r. ⌜ (drop 39424 (now (w .exit)) ≡ drop 39424 (now (w .entry))) × ((es : List Edge) → Holds (now (w .entry)) l es → Holds (now (w .exit)) r (addAll es (map listedEdge (map (edgeOf (chars (now (line .entry))) (now (table .entry))) (ofKind kind (itemsAt (drop 39424 (now (w .entry))) 0 n)))))) ⌝ }
 {
-    let mut done = l;
+    // two words, not a structure: one that is handed back in two pieces and copied as a whole makes the processor wait
+    let mut count = l.count;
+    let mut len = l.len;
     let mut i = 0;
     while i < n {
-        done = add_if(w, done, line, offs, table, i, kind);
+        let done = add_if(w, Lattice { count, len }, line, offs, table, i, kind);
+        count = done.count;
+        len = done.len;
         i += 1;
     }
-    done
+    Lattice { count, len }
 }

@@ -55,7 +55,7 @@ pub fn txt_of(buf: &mut [u8], line: &[u8], offs: &[usize; 257], table: &[u8], x:
     if x.kind == 0 {
         return char_txt(buf, line, offs, table, x.record_at.0, x.start.0, x.end.0);
     }
-    let value = whole::to_u64(x.num.value);
+    let value = whole::u64_of(x.num.value);
     if x.kind == 1 {
         let len = x.end.0 - x.start.0;
         decimal::put_padded(buf, 0, len, value);

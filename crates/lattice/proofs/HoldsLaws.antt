@@ -1,12 +1,12 @@
 -- Laws of `Holds`: stores and edges that leave a lattice as it is. No contract cites this file.
--- In order: stores beside the listing and the cells; a list that is over stays so; an edge that is not added. Assumes nothing.
+-- In order: what lies behind the lattice; stores beside the listing and the cells; a list that is over stays so; an edge that is not added. Assumes nothing.
 use mathlib.Core.Path.{_≡_, refl, sym, _∙_}
 use mathlib.Core.Logic.{_⊎_, inl, inr}
 use mathlib.Core.Bool.{Bool, true, false, cond, _||_}
 use mathlib.Core.List.{List, [], _∷_, _++_}
 use Prim.Native.Nat.{ℕ, _+_, _*_, _≤_, _<_}
 use native.Mathlib.Omega.{arith}
-use lib.ListN.{length, length-append}
+use lib.ListN.{length, drop, length-append}
 use lib.Seq.{sets, length-sets}
 use lib.Dec.{ltb}
 use borrow.Author.Tests.{lt-ltb, ltb-true}
@@ -17,6 +17,13 @@ use Rattle.lattice.specs.declared.Adding.the-variants.{Nothing}
 use Rattle.lattice.specs.Lattice.{has, add, overfull}
 use Rattle.lattice.specs.Kept.{END, OFFSETS, NEXTS, HEADS, cell, Kept, Holds, AddingIs}
 use Rattle.lattice.proofs.KeptLaws.{length-edges-snoc, length-listing, cell-other}
+
+-- ---- what lies behind the lattice, of plain lists: as a place of the code has the two sides, antt takes half a second to compare them
+pub behind-same : (u w : List ℕ) → drop 39424 w ≡ drop 39424 u → drop 39424 w ≡ drop 39424 u
+behind-same u w p = p
+
+pub behind-twice : (u v w : List ℕ) → drop 39424 w ≡ drop 39424 v → drop 39424 v ≡ drop 39424 u → drop 39424 w ≡ drop 39424 u
+behind-twice u v w p q = p ∙ q
 
 -- ---- a lattice that is not full is kept, one that is full is over
 module _ {w : List ℕ} {l : Lattice} {es : List Edge} (q : Holds w l es) where

@@ -8,7 +8,7 @@
 --
 --     cell s base i     the i-th u16 from an offset on
 --     key e             the bytes of an edge that tell it apart: start, end, type and txt; no key begins another
---     hashWords bs k    a hash of the first k times four bytes of bs; hash bs: of all of them, below 256
+--     hash bs           a hash of the bytes of a key, below 256
 --     bucket e          the bucket of an edge, by the hash of its key
 --     lastIn es b k     one more than the index of the last of the first k edges that is in bucket b; 0: there is none
 --     offset es i       where the i-th edge stands in the listing
@@ -69,13 +69,9 @@ key e = bytesOf 2 (e .start) ++ (bytesOf 2 (e .end) ++ (str (e .type) ++ str (e 
 abbrev pub mixed : ℕ → ℕ → ℕ
 mixed h v = (h + v) * 1640531527 % 4294967296
 
-unfoldable pub hashWords : List ℕ → ℕ → ℕ
-hashWords bs zero = 0
-hashWords bs (suc k) = mixed (hashWords bs k) (leAt bs (4 * k) 4)
-
--- the last four bytes count once more, or there would be up to three bytes that don't count
+-- of a key its length, its first four bytes, which are start and end, and its last four, with which its txt ends: few edges of one span agree in these
 unfoldable pub hash : List ℕ → ℕ
-hash bs = mixed (hashWords bs (length bs / 4)) (leAt bs (length bs - 4) 4) / 16777216
+hash bs = mixed (mixed (length bs % 4294967296) (leAt bs 0 4)) (leAt bs (length bs - 4) 4) / 16777216
 
 abbrev pub bucket : Edge → ℕ
 bucket e = hash (key e)

@@ -3,7 +3,7 @@ use mathlib.Core.Path.{_≡_, refl, sym, ap, _∙_}
 use mathlib.Core.Logic.{⊎-elim}
 use mathlib.Core.Bool.{Bool, true, false, cond}
 use mathlib.Core.List.{List, _++_}
-use Prim.Native.Nat.{ℕ, zero, suc, _+_, _*_, _-_, _/_, _≤_, _<_}
+use Prim.Native.Nat.{ℕ, zero, suc, _+_, _*_, _-_, _/_, _%_, _≤_, _<_}
 use native.Mathlib.Nat.{eq-or-lt-of-le, le-of-suc-le-suc}
 use native.Mathlib.Numerals.{add-one}
 use native.Mathlib.Omega.{arith}
@@ -17,22 +17,13 @@ use Rattle.fields.proofs.FieldsLaws.{leAt-of-part}
 use Rattle.fields.proofs.PartLaws.{length-part}
 use Rattle.edge.specs.Edge.{Edge}
 use Rattle.lattice.specs.Lattice.{sameKey}
-use Rattle.lattice.specs.Kept.{noEdge, key, mixed, hashWords, hash, bucket, lastIn}
+use Rattle.lattice.specs.Kept.{noEdge, key, mixed, hash, bucket, lastIn}
 use Rattle.lattice.proofs.KeyLaws.{same-key}
 
--- ---- the hash: h is that of the words before the i-th
-pub hash-zero : (bs : List ℕ) → 0 ≡ hashWords bs 0
-unfolding hashWords
-hash-zero bs = refl
-
-module _ (s : List ℕ) (at n : ℕ) (room : at + n ≤ length s) where
-  pub hash-turn : {h v : ℕ} (i : ℕ) → i < n / 4 → h ≡ hashWords (part s at n) i → v ≡ leAt s (at + 4 * i) 4 → mixed h v ≡ hashWords (part s at n) (i + 1)
-  unfolding hashWords
-  hash-turn i l p q = rw (add-one i, leAt-of-part s at n (4 * i) 4 (omega arith), p, q)
-
-  pub hash-ends : {h v : ℕ} (i : ℕ) → 4 ≤ n → i ≡ n / 4 → h ≡ hashWords (part s at n) i → v ≡ leAt s (at + (n - 4)) 4 → mixed h v / 16777216 ≡ hash (part s at n)
-  unfolding hash
-  hash-ends i l k p q = rw (length-part s at n room, leAt-of-part s at n (n - 4) 4 (omega arith), p, q, k)
+-- ---- the hash
+pub hash-is : (s : List ℕ) (at n : ℕ) → at + n ≤ length s → 4 ≤ n → {h u v : ℕ} → u ≡ leAt s at 4 → h ≡ mixed (n % 4294967296) u → v ≡ leAt s (at + (n - 4)) 4 → mixed h v / 16777216 ≡ hash (part s at n)
+unfolding hash
+hash-is s at n room l p q r = let z : at + 0 ≡ at = omega arith in rw (length-part s at n room, leAt-of-part s at n 0 4 l, z, leAt-of-part s at n (n - 4) 4 (omega arith), q, p, r)
 
 hash-lt : (bs : List ℕ) → hash bs < 256
 unfolding hash

@@ -32,19 +32,13 @@ fn mix(h: u64, v: u32) -> u64
     (h + v as u64) * 1640531527 % 4294967296
 }
 
-// The bucket of a key of n bytes: four of them at a time, and the last four in the end.
+// The bucket of a key of n bytes, by its length, its first four bytes and its last four.
 fn bucket_of(s: &[u8], at: usize, n: usize) -> usize
     requires { ⌜ (at + n ≤ length (now s)) × (4 ≤ n) ⌝ }
     ensures { λ r. ⌜ r ≡ hash (part (now (s .entry)) at n) ⌝ }
 {
-    let words = n / 4;
-    let mut h: u64 = 0;
-    let mut i = 0;
-    while i < words {
-        h = mix(h, fields::u32_at(s, at + 4 * i));
-        i += 1;
-    }
-    (mix(h, fields::u32_at(s, at + (n - 4))) / 16777216) as usize
+    let spans = mix(n as u64 % 4294967296, fields::u32_at(s, at));
+    (mix(spans, fields::u32_at(s, at + (n - 4))) / 16777216) as usize
 }
 
 // Whether n bytes of w are those of s.

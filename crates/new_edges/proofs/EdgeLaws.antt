@@ -1,12 +1,12 @@
 -- What is read of the edges of a lattice. No contract cites this file.
--- In order: what lies behind the lattice; tests and options; the head of an edge; its value; its script. Assumes nothing.
+-- In order: tests and options; the head of an edge; its value; its script. Assumes nothing.
 use mathlib.Core.Path.{_≡_, refl, sym, ap, _∙_, subst}
 use mathlib.Core.Bool.{Bool, true, false, not, true≢false}
 use mathlib.Core.List.{List}
 use mathlib.Core.Option.{Option, none, some, Option·map}
 use Prim.Native.Nat.{ℕ, _+_, _≤_, _<_}
 use native.Mathlib.Omega.{arith}
-use lib.ListN.{length, drop, getD}
+use lib.ListN.{length, getD}
 use lib.Ieee.{binary64, ofBits, toUnsigned}
 use Rattle.fields.specs.Part.{part}
 use Rattle.fields.specs.Fields.{leAt}
@@ -29,13 +29,6 @@ use Rattle.numbers.specs.Listed.{valueOf, wholeValue}
 use Rattle.numbers.specs.Fractions.{scriptOf, isNumeric}
 use Rattle.made.specs.Choice.{numberOr, valueOr, HasValue, Two, One}
 use Rattle.new_edges.specs.NewEdge.{HeadIs, Has}
-
--- ---- what lies behind the lattice, of plain lists: as a place of the code has the two sides, antt takes half a second to compare them
-pub behind-same : (u w : List ℕ) → drop 39424 w ≡ drop 39424 u → drop 39424 w ≡ drop 39424 u
-behind-same u w p = p
-
-pub behind-twice : (u v w : List ℕ) → drop 39424 w ≡ drop 39424 v → drop 39424 v ≡ drop 39424 u → drop 39424 w ≡ drop 39424 u
-behind-twice u v w p q = p ∙ q
 
 -- ---- tests and options
 pub not-true : (t : Bool) → not t ≡ true → t ≡ false

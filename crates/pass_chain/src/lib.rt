@@ -14,19 +14,14 @@ use pass_list::record::PassEdge;
 use pass_rules::rule;
 use whole::Value;
 
-// Whether the pass joins e, as it counts, to the chain, where they touch. With the pass known in each arm, only the values that its rule reads are made.
+// Whether the pass joins e, as it counts, to the chain, where they touch.
 fn ruled(pass: Pass, c: Chain, e: PassEdge) -> bool
+    requires { ⌜ ((x : ItemChain) × ChainIs c x) × ((y : Item) × EdgeIs e y) ⌝ }
     ensures { λ r. ⌜ ((x : ItemChain) (y : Item) → ChainIs c x → EdgeIs e y → r ≡ rule (passOf pass) x y) ⌝ }
 {
-    let l = c.edge.num.value;
-    let r = e.num.value;
-    match pass {
-        Pass::D1 => rule(Pass::D1, c, whole::to_u64(l), e, whole::to_u64(r)),
-        Pass::G1 => rule(Pass::G1, c, whole::to_u64(l), e, whole::to_u64(r)),
-        Pass::G2 => rule(Pass::G2, c, whole::to_u64(l), e, whole::to_u64(r)),
-        Pass::G3 => rule(Pass::G3, c, whole::to_u64(l), e, whole::to_u64(r)),
-        Pass::G4 => rule(Pass::G4, c, whole::to_u64(l), e, whole::to_u64(r)),
-    }
+    let left = whole::u64_of(c.edge.num.value);
+    let right = whole::u64_of(e.num.value);
+    rule(pass, c, left, e, right)
 }
 
 // What the next edge does to a chain.

@@ -44,7 +44,7 @@ fn retagged(last: PassEdge, mut e: PassEdge) -> PassEdge
     ensures { λ r. ⌜ ((x y : Item) → EdgeIs last x → EdgeIs e y → r ≡ passEdge (retagged x y)) ⌝ }
 {
     let tenth = last.num.base / 10;
-    let v = e.num.value * whole::of_u64(tenth);
+    let v = e.num.value * whole::f64_of(tenth);
     e.num.value = v;
     e.num.base = tenth;
     e.num.has_value = true;
@@ -66,7 +66,7 @@ pub fn counted(pass: Pass, last: PassEdge, e: PassEdge) -> PassEdge
             e
         }
         Pass::G4 => {
-            if retags(last, e, whole::to_u64(e.num.value)) {
+            if retags(last, e, whole::u64_of(e.num.value)) {
                 retagged(last, e)
             } else {
                 e

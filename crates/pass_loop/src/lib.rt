@@ -8,8 +8,8 @@ ghost use lib.Seq.{sets};
 ghost use Rattle.fields.specs.Part.{part};
 ghost use Rattle.pass_list.specs.Item.{Small, AllSmall};
 ghost use Rattle.pass_list.specs.Stored.{itemAt, itemsAt};
-ghost use Rattle.pass_list.specs.ItemPass.{ItemChain, begin, joins};
-ghost use Rattle.pass_list.specs.Answers.{passOf, passChain, ChainIs, answer, PassedIs};
+ghost use Rattle.pass_list.specs.ItemPass.{ItemChain};
+ghost use Rattle.pass_list.specs.Answers.{passOf, ChainIs, answer, PassedIs};
 ghost use Rattle.pass_loop.specs.Ended.{Ended};
 ghost use Rattle.pass_loop.specs.Run.{First, RunIs};
 use pass_chain::next;
@@ -17,6 +17,8 @@ use pass_list::chain::Chain;
 use pass_list::chain::Next;
 use pass_list::chain::Pass;
 use pass_list::run::Passed;
+use pass_look::may_join;
+use pass_look::may_take;
 use pass_record::get;
 use pass_record::put;
 use text::Place;
@@ -25,45 +27,6 @@ use text::Place;
 pub enum Run {
     To(usize),
     Above(Place),
-}
-
-// Whether the pass may join the edges at two offsets: where it does, these few fields say so.
-fn may_join(s: &[u8], a: usize, b: usize, pass: Pass) -> bool
-    requires { ⌜ (a + 56 ≤ length (now s)) × (b + 56 ≤ length (now s)) ⌝ }
-    ensures { λ r. ⌜ (joins (passOf pass) (begin (itemAt (now (s .entry)) a)) (itemAt (now (s .entry)) b) ≡ true → r ≡ true) ⌝ }
-{
-    if fields::u16_at(s, a + 2) != fields::u16_at(s, b) {
-        return false;
-    }
-    let l = fields::u16_at(s, a + 6);
-    let r = fields::u16_at(s, b + 6);
-    let base = fields::u64_at(s, a + 16);
-    let next = fields::u64_at(s, b + 16);
-    match pass {
-        Pass::D1 => (l / 256 % 2 == 1) & (r / 256 % 2 == 1),
-        Pass::G1 => (base == 1) & (1 < next) & !(r / 64 % 2 == 1),
-        Pass::G2 => !(l / 64 % 2 == 1) & ((next < base) | (r / 512 % 2 == 1)),
-        Pass::G3 => !(l / 64 % 2 == 1) & (r / 64 % 2 == 1),
-        Pass::G4 => (1000 <= base) | (next < base),
-    }
-}
-
-// Whether the pass may join the edge at an offset to a chain.
-fn may_take(c: Chain, s: &[u8], at: usize, pass: Pass) -> bool
-    requires { ⌜ at + 56 ≤ length (now s) ⌝ }
-    ensures { λ r. ⌜ ((x : ItemChain) → c ≡ passChain x → joins (passOf pass) x (itemAt (now (s .entry)) at) ≡ true → r ≡ true) ⌝ }
-{
-    let start = fields::u16_at(s, at) as usize;
-    let r = fields::u16_at(s, at + 6);
-    let next = fields::u64_at(s, at + 16);
-    let touches = c.edge.end.0 == start;
-    match pass {
-        Pass::D1 => touches & (r / 256 % 2 == 1),
-        Pass::G1 => touches & !c.more,
-        Pass::G2 => touches & ((next < c.near) | (r / 512 % 2 == 1)),
-        Pass::G3 => touches & !c.more,
-        Pass::G4 => touches & ((1000 <= c.edge.num.base) | (next < c.edge.num.base)),
-    }
 }
 
 // Whether the i-th of n edges is a chain of its own, as far as that is told without reading it.

@@ -17,8 +17,8 @@ fn num_at(s: &[u8], at: usize) -> NumData
 {
     let map = fields::u16_at(s, at + 6);
     NumData {
-        value: whole::of_u64(fields::u64_at(s, at + 8)),
-        base_multiplier: whole::of_u64(fields::u64_at(s, at + 24)),
+        value: whole::f64_of(fields::u64_at(s, at + 8)),
+        base_multiplier: whole::f64_of(fields::u64_at(s, at + 24)),
         base: fields::u64_at(s, at + 16),
         has_value: map / 2 % 2 == 1,
         has_base: map / 8 % 2 == 1,
@@ -72,9 +72,9 @@ fn put_num(out: &mut [u8], at: usize, record_at: u64, n: NumData)
     requires { ⌜ (at + 48 ≤ length (now out)) × ((x : Item) × NumIs n x) ⌝ }
     ensures { λ _. ⌜ ((x : Item) → NumIs n x → «record_at» ≡ x .record-at → now (out .exit) ≡ sets (now (out .entry)) at (numBytes x)) ⌝ }
 {
-    fields_write::put_u64(out, at, whole::to_u64(n.value));
+    fields_write::put_u64(out, at, whole::u64_of(n.value));
     fields_write::put_u64(out, at + 8, n.base);
-    fields_write::put_u64(out, at + 16, whole::to_u64(n.base_multiplier));
+    fields_write::put_u64(out, at + 16, whole::u64_of(n.base_multiplier));
     fields_write::put_u64(out, at + 24, record_at);
     fields_write::put_u64(out, at + 32, n.script.0 as u64);
     fields_write::put_u64(out, at + 40, n.script_len as u64);

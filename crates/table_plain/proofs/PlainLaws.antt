@@ -10,22 +10,22 @@ use native.Mathlib.Decide.{decLe}
 use lib.ListN.{length, getD}
 use lib.Seq.{drop-cons}
 use lib.Dec.{leb, ltb, eqb}
-use borrow.Author.Tests.{eq-eqb, le-leb, lt-ltb, le-ltb, eqb-true, eqb-false, leb-true, ltb-true, ltb-false}
+use borrow.Author.Tests.{eq-eqb, le-leb, lt-leb, lt-ltb, le-ltb, eqb-true, eqb-false, ltb-true, ltb-false}
 use Rattle.fields.specs.Fields.{leAt}
 use Rattle.fields.specs.Part.{part}
 use Rattle.fields.proofs.FieldsLaws.{leAt-add, leAt-one}
+use Rattle.fields.proofs.PartLaws.{length-part, part-at}
 use Rattle.text.specs.Bytes.{same}
 use Rattle.text.specs.Text.{wellFormed}
-use Rattle.text.proofs.BytesLaws.{same-refl}
+use Rattle.text.proofs.BytesLaws.{same-refl, same-true}
 use Rattle.text.proofs.RowLaws.{and-true}
 use Rattle.whole.specs.Whole.{TOP}
 use Rattle.dicts.specs.Table.{Text, Record}
 use Rattle.dicts.specs.Layout as Layout
 use Rattle.dicts.specs.Layout.{Field, Is, mapField, bit, text, optional, readNumbers, recordWith, readFields, readRecord}
-use Rattle.dicts.specs.Check.{allOf, isDigitType, legalDigit, digitRule, legalTexts, legalNumbers, legalRecord}
+use Rattle.dicts.specs.Check.{digit, legalCodePoint, allOf, isDigitType, legalDigit, digitRule, legalTexts, legalNumbers, legalRecord}
 use Rattle.dicts.specs.Answers.{Ascii}
 use Rattle.dicts.proofs.LayoutLaws.{number-is, text-is, optional-there, fields-are, record-is}
-use Rattle.dicts.proofs.ContentLaws.{code-first}
 use Rattle.table_plain.specs.Plain.{LegalAt, Head, Digit, Numbers, Tail, TailIs, FieldsIs, PlainIs}
 use Rattle.table_plain.specs.declared.Behind.{Behind}
 use Rattle.table_plain.specs.declared.Behind.the-variants as Behind
@@ -60,27 +60,35 @@ module _ (m : ℕ) (e : m % 64 ≡ 43) where
       let k : at + 8 + 8 ≡ at + 16 = omega arith in
       rw (b1, b2, b3, b4, number-is s at 8 (omega arith), number-is s (at + 8) 8 (omega arith), k)
 
--- ---- the digit rule: it asks for the one digit at most, whatever the type
-digit-holds : (t : Bool) (v : ℕ) (rom : Text) → (v ≤ 9 → rom ≡ (48 + v) ∷ []) → cond t (legalDigit (some v) (some rom)) true ≡ true
+-- ---- the digit rule: it asks for the one digit at most, and of the type "digit" alone
+digit-holds : (t : Bool) (v : ℕ) (rom : Text) → (t ≡ true → v ≤ 9 → rom ≡ (48 + v) ∷ []) → cond t (legalDigit (some v) (some rom)) true ≡ true
 unfolding legalDigit
 digit-holds false v rom f = refl
 digit-holds true v rom f = go (decLe v 9)
   where
     go : Dec (v ≤ 9) → legalDigit (some v) (some rom) ≡ true
-    go (yes h) = rw (le-ltb 9 v h, f h, same-refl ((48 + v) ∷ []))
+    go (yes h) = rw (le-ltb 9 v h, f refl h, same-refl ((48 + v) ∷ []))
     go (no h) = rw (lt-ltb 9 v (omega arith))
 
 part-one : (s : List ℕ) (at : ℕ) → at < length s → part s at 1 ≡ getD s at 0 ∷ []
 unfolding part
 part-one s at h = rw (drop-cons s at 0 h)
 
+-- a type that is "digit" has its first byte
+digit-first : (s : List ℕ) (at n : ℕ) → at + n ≤ length s → isDigitType (part s at n) ≡ true → getD s at 0 ≡ 100
+digit-first s at n h e =
+    let d : part s at n ≡ digit = same-true (part s at n) digit e in
+    let five : n ≡ 5 = sym (length-part s at n h) ∙ ap length d in
+    let z : at + 0 ≡ at = omega arith in
+    rw (← z) (sym (part-at s at n 0 (omega arith)) ∙ ap (λ (t : Text). getD t 0 0) d)
+
 -- the first two bytes of a rom say that it is one digit
-one-digit : (s : List ℕ) (rom v : ℕ) → rom + 2 ≤ length s → ((i : ℕ) → getD s i 0 < 256) → Digit (leAt s rom 2) v → v ≤ 9 → part s (rom + 1) (getD s rom 0) ≡ (48 + v) ∷ []
-one-digit s rom v h f d k =
+one-digit : (s : List ℕ) (t rom v : ℕ) → rom + 2 ≤ length s → ((i : ℕ) → getD s i 0 < 256) → Digit t (leAt s rom 2) v → t ≡ 100 → v ≤ 9 → part s (rom + 1) (getD s rom 0) ≡ (48 + v) ∷ []
+one-digit s t rom v h f d c k =
     let e : leAt s rom 2 ≡ getD s rom 0 + 256 * getD s (rom + 1) 0
     = leAt-add s rom 1 1 (omega arith) ∙ rw (leAt-one s rom (omega arith), leAt-one s (rom + 1) (omega arith)) in
-    let a : getD s rom 0 ≡ 1 = omega (arith, f rom, f (rom + 1), d k) in
-    let b : getD s (rom + 1) 0 ≡ 48 + v = omega (arith, f rom, f (rom + 1), d k) in
+    let a : getD s rom 0 ≡ 1 = omega (arith, f rom, f (rom + 1), d c k) in
+    let b : getD s (rom + 1) 0 ≡ 48 + v = omega (arith, f rom, f (rom + 1), d c k) in
     ap (part s (rom + 1)) a ∙ part-one s (rom + 1) (omega arith) ∙ ap (λ (x : ℕ). x ∷ []) b
 
 -- ---- a string, well-formed
@@ -96,11 +104,11 @@ formed-is s at next k e l a = record {
 
 -- ---- a record of such fields
 legal-plain : (least c m v b : ℕ) (type rom script : Text) → Head least c m → wellFormed type ≡ true → wellFormed rom ≡ true → wellFormed script ≡ true
-    → v ≤ TOP → 0 < b → b ≤ TOP → (v ≤ 9 → rom ≡ (48 + v) ∷ []) → legalRecord least (recordWith c m type (some rom) (numbersWith v b) (some script)) ≡ true
+    → v ≤ TOP → 0 < b → b ≤ TOP → (isDigitType type ≡ true → v ≤ 9 → rom ≡ (48 + v) ∷ []) → legalRecord least (recordWith c m type (some rom) (numbersWith v b) (some script)) ≡ true
 unfolding legalRecord legalTexts legalNumbers digitRule allOf
 legal-plain least c m v b type rom script h ft fr fs sv pb sb d =
     rw (
-      sym (code-first least c (h .rises) (h .below)),
+      h .code,
       ft,
       fr,
       fs,
@@ -110,8 +118,8 @@ legal-plain least c m v b type rom script h ft fr fs sv pb sb d =
       digit-holds (isDigitType type) v rom d,
     )
 
-fields-plain : (least c m : ℕ) (s : List ℕ) (at : ℕ) {type rom script : Text} {a b next : ℕ} → Head least c m → Formed s at type a → Formed s a rom b → Formed s (b + 16) script next
-    → b + 16 ≤ length s → Numbers (leAt s a 2) (leAt s b 8) (leAt s (b + 8) 8) → (leAt s b 8 ≤ 9 → rom ≡ (48 + leAt s b 8) ∷ [])
+fields-plain : (least c m : ℕ) (s : List ℕ) (at : ℕ) {type rom script : Text} {first a b next : ℕ} → Head least c m → Formed s at type a → Formed s a rom b → Formed s (b + 16) script next
+    → b + 16 ≤ length s → Numbers first (leAt s a 2) (leAt s b 8) (leAt s (b + 8) 8) → (isDigitType type ≡ true → leAt s b 8 ≤ 9 → rom ≡ (48 + leAt s b 8) ∷ [])
     → LegalAt least c (readFields c m s at) next
 fields-plain least c m s at {type} {rom} {script} {a} {b} h t r u l n d = record {
   it = recordWith c m type (some rom) (numbersWith (leAt s b 8) (leAt s (b + 8) 8)) (some script);
@@ -125,29 +133,42 @@ or-false : (a b : Bool) → (a || b) ≡ false → (a ≡ false) × (b ≡ false
 or-false false b e = (refl, e)
 or-false true b e = absurd (true≢false e)
 
-pub head-is : (least c m : ℕ) {x : ℕ} → x ≡ c → (((eqb (m % 64) 43 && ltb m 128) && leb least x) && leb x 0xD7FF) ≡ true → Head least c m
-head-is least c m {x} d e =
-    let three = and-true ((eqb (m % 64) 43 && ltb m 128) && leb least x) (leb x 0xD7FF) e in
-    let two = and-true (eqb (m % 64) 43 && ltb m 128) (leb least x) (three .0) in
-    let one = and-true (eqb (m % 64) 43) (ltb m 128) (two .0) in
-    record { fields = eqb-true _ _ (one .0); map = ltb-true _ _ (one .1); rises = rw (← d) (leb-true _ _ (two .1)); below = rw (← d) (leb-true _ _ (three .1)) }
+-- ---- the head, by what is told of it: x is the code point c, and 0 ≤ c needs no test
+module _ (least c m : ℕ) {x : ℕ} {b : Bool} (d : x ≡ c) (told : b ≡ ((eqb (m % 64) 43 && ltb m 128) && leb least x)) where
+  head-told : (leb c 0xD7FF || (leb 0xE000 c && leb c 0x10FFFF)) ≡ true → b ≡ true → Head least c m
+  unfolding legalCodePoint
+  head-told k e =
+      let two = and-true (eqb (m % 64) 43 && ltb m 128) (leb least x) (sym told ∙ e) in
+      let one = and-true (eqb (m % 64) 43) (ltb m 128) (two .0) in
+      let rises : leb least c ≡ true = rw d at (two .1) in
+      record { fields = eqb-true _ _ (one .0); map = ltb-true _ _ (one .1); code = rw (rises, le-leb 0 c (omega arith)) k }
 
-pub numbers-is : (x v b : ℕ) {w d : ℕ} → w ≡ v → d ≡ b → ((ltb TOP w || eqb d 0) || ltb TOP d) ≡ false → Digit x w → Numbers x v b
-numbers-is x v b {w} {d} ev eb e h =
+  pub head-below : x ≤ 0xD7FF → b ≡ true → Head least c m
+  head-below l = head-told (rw (le-leb c 0xD7FF (rw d at l)))
+
+  pub head-above : 0xD7FF < x → ((leb 0xE000 x && leb x 0x10FFFF) && b) ≡ true → Head least c m
+  head-above l e =
+      let two = and-true (leb 0xE000 x && leb x 0x10FFFF) b e in
+      let k : (leb 0xE000 c && leb c 0x10FFFF) ≡ true = rw d at (two .0) in
+      let n : leb c 0xD7FF ≡ false = lt-leb c 0xD7FF (rw d at l) in
+      head-told (rw (n, k)) (two .1)
+
+pub numbers-is : (t x v b : ℕ) {w d : ℕ} → w ≡ v → d ≡ b → ((ltb TOP w || eqb d 0) || ltb TOP d) ≡ false → Digit t x w → Numbers t x v b
+numbers-is t x v b {w} {d} ev eb e h =
     let two = or-false (ltb TOP w || eqb d 0) (ltb TOP d) e in
     let one = or-false (ltb TOP w) (eqb d 0) (two .0) in
     let z : d ≡ 0 → ⊥ = eqb-false _ _ (one .1) in
     record { small = rw (← ev) (ltb-false _ _ (one .0)); positive = rw (← eb) (omega arith); base-small = rw (← eb) (ltb-false _ _ (two .1)); digit = rw (← ev) h }
 
-pub tail-is : (s : List ℕ) (rom at : ℕ) → 17 ≤ length s - at → getD s (at + 16) 0 ≤ 4 → getD s (at + 16) 0 ≤ length s - at - 17
-    → Ascii s (at + 17 + getD s (at + 16) 0 - 4) (at + 17 + getD s (at + 16) 0 - 4 + 4) (at + 17 + getD s (at + 16) 0 - 4 + 4) → Numbers (leAt s rom 2) (leAt s at 8) (leAt s (at + 8) 8)
-    → Tail s rom at (at + 17 + getD s (at + 16) 0)
-tail-is s rom at h k l a n =
+pub tail-is : (s : List ℕ) (t rom at : ℕ) → 17 ≤ length s - at → getD s (at + 16) 0 ≤ 4 → getD s (at + 16) 0 ≤ length s - at - 17
+    → Ascii s (at + 17 + getD s (at + 16) 0 - 4) (at + 17 + getD s (at + 16) 0 - 4 + 4) (at + 17 + getD s (at + 16) 0 - 4 + 4) → Numbers t (leAt s rom 2) (leAt s at 8) (leAt s (at + 8) 8)
+    → Tail s t rom at (at + 17 + getD s (at + 16) 0)
+tail-is s t rom at h k l a n =
     let next = at + 17 + getD s (at + 16) 0 in
     record { numbers = n; room = omega arith; short = k; behind = refl; ends = omega arith; script = ascii-part s (next - 4) (next - 4 + 4) (at + 17) next (omega arith) (omega arith) (omega arith) a }
 
 pub fields-is : (s : List ℕ) (at n q : ℕ) (r : Behind) → n ≡ getD s at 0 → q ≡ getD s (at + 1 + n) 0 → n + 2 + q ≤ 24 → ((i : ℕ) → getD s i 0 < 256) → at + (n + 2 + q) ≤ length s
-    → Ascii s at (at + (n + 2 + q)) (at + (n + 2 + q)) → TailIs s (at + 1 + n) (at + (n + 2 + q)) r → FieldsIs s at r
+    → Ascii s at (at + (n + 2 + q)) (at + (n + 2 + q)) → TailIs s (getD s (at + 1) 0) (at + 1 + n) (at + (n + 2 + q)) r → FieldsIs s at r
 fields-is s at n q Behind.Other en eq l f w a t = tt
 fields-is s at n q (Behind.At next) en eq l f w a t =
     let end = at + (n + 2 + q) in
@@ -155,7 +176,7 @@ fields-is s at n q (Behind.At next) en eq l f w a t =
     (formed-is s at (at + 1 + n) (omega arith) (omega arith) (omega arith) (ascii-part s at end (at + 1) (at + 1 + n) (omega arith) (omega arith) (omega arith) a))
     (formed-is s (at + 1 + n) end (omega arith) (omega arith) w (ascii-part s at end (at + 1 + n + 1) end (omega arith) (omega arith) (omega arith) a))
     (formed-is s (end + 16) next (omega (arith, t .short)) (omega (arith, t .behind)) (t .ends) (let g : end + 17 ≡ end + 16 + 1 = omega arith in subst (λ (x : ℕ). Ascii s x next next) g (t .script)))
-    (omega (arith, t .room)) (t .numbers) (one-digit s (at + 1 + n) (leAt s end 8) (omega (arith, t .room)) f (t .numbers .digit))
+    (omega (arith, t .room)) (t .numbers) (λ e. one-digit s (getD s (at + 1) 0) (at + 1 + n) (leAt s end 8) (omega (arith, t .room)) f (t .numbers .digit) (digit-first s (at + 1) (getD s at 0) (omega arith) e))
 
 pub record-is-plain : (s : List ℕ) (at least : ℕ) {code next : ℕ} → at + 5 ≤ length s → Head least (leAt s at 4) (getD s (at + 4) 0) → FieldsIs s (at + 5) (Behind.At next) → code ≡ leAt s at 4
     → LegalAt least code (readRecord s at) next

@@ -1,10 +1,10 @@
 -- What a look by few tests tells of a record (01, "Record"): nothing where it answers Other. Definitions only.
 --     LegalAt least c f next   the field f holds a legal record with the code point c and ends before next
---     Head least c m           c is a code point below the surrogates, and bits 0 to 5 of the map m say: rom, value, base and script, and no other field
---     Digit x v                a value v of 0 to 9 has the rom of one digit that x says: its length 1, and the digit
---     Numbers x v b            the value v and the base b are legal, and so is the rom by its first two bytes x
---     Script s at next         the string at an offset is ASCII and ends before next
---     TailIs s rom at r        what the answer r tells of the numbers at an offset and the script behind them; the rom stands at another
+--     Head least c m           c is a legal code point, and bits 0 to 5 of the map m say: rom, value, base and script, and no other field
+--     Digit t x v              where the type's first byte t is that of "digit", a value v of 0 to 9 has the rom of one digit that x says: its length 1, and the digit
+--     Numbers t x v b          the value v and the base b are legal, and so is the rom by its first two bytes x and the type's first byte t
+--     Tail s t rom at next     the numbers at an offset are legal, by the rom at another and the type's first byte t, and the script behind them is ASCII and ends before next
+--     TailIs s t rom at r      what the answer r tells of these numbers and the script
 --     FieldsIs s at r          what r tells of the fields behind the map
 --     PlainIs s at least r     what r tells of the record at an offset
 -- Assumes nothing.
@@ -17,7 +17,7 @@ use Rattle.fields.specs.Fields.{leAt}
 use Rattle.whole.specs.Whole.{TOP}
 use Rattle.dicts.specs.Table.{Record}
 use Rattle.dicts.specs.Layout.{Field, Is, readFields, readRecord}
-use Rattle.dicts.specs.Check.{legalRecord}
+use Rattle.dicts.specs.Check.{legalCodePoint, legalRecord}
 use Rattle.dicts.specs.Answers.{Ascii}
 use Rattle.table_plain.specs.declared.Plain.{Plain}
 use Rattle.table_plain.specs.declared.Plain.the-variants as Plain
@@ -33,29 +33,28 @@ pub record LegalAt (least c : ℕ) (f : Field Record) (next : ℕ) : Type 0 wher
 pub record Head (least c m : ℕ) : Type 0 where
   pub fields : m % 64 ≡ 43
   pub map : m < 128
-  pub rises : least ≤ c
-  pub below : c ≤ 0xD7FF
+  pub code : legalCodePoint least c ≡ true
 
-abbrev pub Digit : ℕ → ℕ → Type 0
-Digit x v = v ≤ 9 → x ≡ 0x3001 + 256 * v
+abbrev pub Digit : ℕ → ℕ → ℕ → Type 0
+Digit t x v = t ≡ 100 → v ≤ 9 → x ≡ 0x3001 + 256 * v
 
-pub record Numbers (x v b : ℕ) : Type 0 where
+pub record Numbers (t x v b : ℕ) : Type 0 where
   pub small : v ≤ TOP
   pub positive : 0 < b
   pub base-small : b ≤ TOP
-  pub digit : Digit x v
+  pub digit : Digit t x v
 
-pub record Tail (s : List ℕ) (rom at next : ℕ) : Type 0 where
-  pub numbers : Numbers (leAt s rom 2) (leAt s at 8) (leAt s (at + 8) 8)
+pub record Tail (s : List ℕ) (t rom at next : ℕ) : Type 0 where
+  pub numbers : Numbers t (leAt s rom 2) (leAt s at 8) (leAt s (at + 8) 8)
   pub room : at + 16 < length s
   pub short : getD s (at + 16) 0 ≤ 4
   pub behind : next ≡ at + 17 + getD s (at + 16) 0
   pub ends : next ≤ length s
   pub script : Ascii s (at + 17) next next
 
-abbrev pub TailIs : List ℕ → ℕ → ℕ → Behind → Type 0
-TailIs s rom at (Behind.At next) = Tail s rom at next
-TailIs s rom at Behind.Other = Unit {0}
+abbrev pub TailIs : List ℕ → ℕ → ℕ → ℕ → Behind → Type 0
+TailIs s t rom at (Behind.At next) = Tail s t rom at next
+TailIs s t rom at Behind.Other = Unit {0}
 
 abbrev pub FieldsIs : List ℕ → ℕ → Behind → Type 0
 FieldsIs s at (Behind.At next) = (least c m : ℕ) → Head least c m → LegalAt least c (readFields c m s at) next

@@ -24,10 +24,10 @@ pub enum Behind {
     Other,
 }
 
-// The value and the base, and a script of at most 4 bytes. The rom stands before them.
-fn tail_end(s: &[u8], rom: usize, at: usize) -> Behind
+// The value and the base, and a script of at most 4 bytes. The rom stands before them, and the type, by its first byte, before the rom.
+fn tail_end(s: &[u8], first: u8, rom: usize, at: usize) -> Behind
     requires { ⌜ (rom + 1 ≤ at) × (at < length (now s)) ⌝ }
-    ensures { λ r. ⌜ TailIs (now (s .entry)) rom at r ⌝ }
+    ensures { λ r. ⌜ TailIs (now (s .entry)) first rom at r ⌝ }
 {
     if s.len() - at < 17 {
         return Behind::Other;
@@ -43,7 +43,7 @@ fn tail_end(s: &[u8], rom: usize, at: usize) -> Behind
     if !low_four(s, next - 4) {
         return Behind::Other;
     }
-    if legal_numbers(s, rom, at) {
+    if legal_numbers(s, first, rom, at) {
         Behind::At(next)
     } else {
         Behind::Other
@@ -70,7 +70,8 @@ fn fields_end(s: &[u8], at: usize) -> Behind
     if !ascii(s, at, both) {
         return Behind::Other;
     }
-    tail_end(s, rom_at, at + both)
+    // behind the length of an empty type stands that of the rom: any byte will do there, since no such type is "digit"
+    tail_end(s, s[at + 1], rom_at, at + both)
 }
 
 // The record at an offset, if it is told by few tests.

@@ -9,13 +9,16 @@ use native.Mathlib.Omega.{arith}
 use lib.Dec.{T, ltb, eqb, lt→ltb, le→leb, ltb→lt, eqb→eq, lit<}
 use lib.Arith.{le→nltb}
 use lib.IntN.{ℤ, pos}
-use lib.Ieee.{Float, nan, inf, fin, binary64, neg, up, down, round, ofInt, mul, add, sum, lt, eq, le, inFloat, toUnsigned, fits, ofBits, toBits, isNan, nanBits}
+use lib.Ieee.{Float, nan, inf, fin, binary64, neg, up, down, round, ofInt, mul, add, sum, lt, eq, le, inFloat, inSigned, toUnsigned, toSigned, fits, ofBits, toBits, isNan, nanBits}
 use lib.Ieee.Exact.{HasValue}
-use lib.Ieee.Back.{round-whole, unsigned-back}
+use lib.Ieee.Back.{round-whole, unsigned-back, positive-back}
 use lib.Ieee.Scale.{round-same}
 use lib.Ieee.Order.{round-mono}
 use lib.Ieee.Fits.{down-pos, and-i, and-l, and-r}
 use native.Mathlib.Decide.{decLt}
+use mir.Syntax.{w64}
+use mir.Val.{ofZ, toZ}
+use mir.ValLaws.{toZ-pos}
 use borrow.Author.Tests.{lt-ltb, le-ltb}
 use lib.Ieee.Bits.{is-true, is-false, ofBits-toBits, nanBits-is}
 use lib.Ieee.Fits.{ofInt-fits}
@@ -134,6 +137,17 @@ ofNat-in-float {n} h = le→leb n (2 ^ 53) (omega arith)
 pub ofNat-to-unsigned : {n : ℕ} → n ≤ TOP → toUnsigned 64 (ofNat n) ≡ n
 unfolding ofNat
 ofNat-to-unsigned {n} h = unsigned-back binary64 64 n (ofNat-in-float h) (omega arith) .1
+
+-- the same through i64, which a processor casts in one step
+pub ofNat-to-signed : {n : ℕ} → n ≤ TOP → T (inSigned binary64 63 (ofNat n)) × (toSigned 63 (ofNat n) ≡ pos n)
+unfolding ofNat
+ofNat-to-signed {n} h = positive-back binary64 63 n (ofNat-in-float h) (omega arith)
+
+pub signed-same : {n : ℕ} → n ≤ TOP → toZ w64 n ≡ pos n
+signed-same {n} h = toZ-pos w64 n (omega arith)
+
+pub back-through-signed : {n : ℕ} → n ≤ TOP → toZ w64 (ofZ w64 (toSigned 63 (ofNat n))) ≡ pos n
+back-through-signed h = ap (λ (z : ℤ). toZ w64 (ofZ w64 z)) (ofNat-to-signed h .1) ∙ signed-same h
 
 -- what a u64 can hold of an f64: above -1 and below 2 ^ 64
 abbrev pub over : Float → Bool

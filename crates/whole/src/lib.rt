@@ -64,3 +64,18 @@ pub fn to_u64(x: f64) -> u64
         0
     }
 }
+
+// The same casts where the number is known to be up to TOP: one step of the processor each.
+pub fn f64_of(n: u64) -> f64
+    requires { ⌜ n ≤ TOP ⌝ }
+    ensures { λ r. ⌜ r ≡ ofNat n ⌝ }
+{
+    (n as i64) as f64
+}
+
+pub fn u64_of(x: f64) -> u64
+    requires { ⌜ ((n : ℕ) × (n ≤ TOP) × (x ≡ ofNat n)) ⌝ }
+    ensures { λ r. ⌜ ((n : ℕ) → n ≤ TOP → x ≡ ofNat n → r ≡ n) ⌝ }
+{
+    (x as i64) as u64
+}

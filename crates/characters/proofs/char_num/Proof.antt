@@ -7,14 +7,16 @@ use Rattle.characters.proofs.char_num.Tie as tie
 number-if-requires : tie.Need-number-if-requires
 number-if-requires c κs = search needs
 
-of-u64-requires : tie.Need-of-u64-requires
-of-u64-requires c κs = search needs
+f64-of-requires : tie.Need-f64-of-requires
+unfolding charItem
+f64-of-requires c κs = rw (c .number-if .ensures) (c .before .before .before .before .before .before .before .before .before .pre .1 .value)
 
 number-if-requires-2 : tie.Need-number-if-requires-2
 number-if-requires-2 c κs = search needs
 
-of-u64-requires-2 : tie.Need-of-u64-requires-2
-of-u64-requires-2 c κs = search needs
+f64-of-requires-2 : tie.Need-f64-of-requires-2
+unfolding charItem
+f64-of-requires-2 c κs = rw (c .number-if2 .ensures) (c .before .before .before .before .before .before .before .before .before .before .before .pre .1 .mult)
 
 number-if-requires-3 : tie.Need-number-if-requires-3
 number-if-requires-3 c κs = search needs
@@ -30,9 +32,9 @@ unfolding charItem
 returns c =
     let value = c .before .before .before .before .before .before in
     rw (
-      value .of-u64 .ensures,
+      value .f64-of .ensures,
       value .before .number-if .ensures,
-      c .before .before .before .before .of-u642 .ensures,
+      c .before .before .before .before .f64-of2 .ensures,
       c .before .before .before .before .before .number-if2 .ensures,
       c .before .before .before .number-if3 .ensures,
       c .before .is-digit-type .ensures,
@@ -44,9 +46,9 @@ char-num-spec =
     tie.close
     (tie.spec
     number-if-requires
-    of-u64-requires
+    f64-of-requires
     number-if-requires-2
-    of-u64-requires-2
+    f64-of-requires-2
     number-if-requires-3
     is-digit-type-requires
     is-cjk-requires

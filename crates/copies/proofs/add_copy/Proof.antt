@@ -1,8 +1,9 @@
 -- `copies::add_copy` meets its contract: the copy is composed behind the listing, where there is always room, and added. Assumes nothing.
 use Prim.Native.Nat.{_+_, _≤_}
-use mathlib.Core.Path.{refl, _∙_}
+use mathlib.Core.Path.{refl}
 use native.Mathlib.Omega.{arith}
 use lib.ListN.{length}
+use Rattle.lattice.proofs.HoldsLaws.{behind-twice}
 use Rattle.copies.specs.Copy.{prefixed}
 use Rattle.copies.proofs.CopyLaws.{head-room, key-short, compose-asks, copy-stands, copy-holds, copy-frame}
 use borrow.Author.Needs.{needs}
@@ -53,7 +54,7 @@ returns c =
     let k = head d in
     let s = start k in
     let put = d .compose .ensures .1 in (
-      a .add-edge .ensures .0 ∙ copy-frame (s .args .sep .now) (s .pre .1 .1) (k .edge-at .ensures) put (s .pre .0 .1 .short),
+      behind-twice (s .args .w .now) (d .compose .last .0) (a .add-edge .last .0) (a .add-edge .ensures .0) (copy-frame (s .args .sep .now) (s .pre .1 .1) (k .edge-at .ensures) put (s .pre .0 .1 .short)),
       λ es e h q. a .add-edge .ensures .1 es (prefixed (s .args .sep .now) e) (copy-holds (s .args .sep .now) q (k .edge-at .ensures) put refl h) (copy-stands (s .args .sep .now) q (k .edge-at .ensures) put (room s)),
     )
 

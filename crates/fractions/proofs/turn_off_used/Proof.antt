@@ -1,7 +1,7 @@
 -- `fractions::turn_off_used` meets its contract, by the form: no edge, the right one, or both. Assumes nothing.
 use mathlib.Core.Path.{refl, _∙_}
 use Rattle.lattice.specs.Lattice.{turnOffAt}
-use Rattle.new_edges.proofs.EdgeLaws.{behind-same, behind-twice}
+use Rattle.lattice.proofs.HoldsLaws.{behind-same, behind-twice}
 use Rattle.fractions.proofs.MadesLaws.{off-none, off-right, off-both, two-of, in-count}
 use Rattle.fractions.proofs.turn_off_used.Statement.{statement}
 use Rattle.fractions.proofs.turn_off_used.Tie as tie

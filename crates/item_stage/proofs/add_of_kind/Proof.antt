@@ -9,10 +9,10 @@ use Rattle.item_stage.proofs.add_of_kind.Statement.{statement}
 use Rattle.item_stage.proofs.add_of_kind.Tie as tie
 
 abbrev Inv-loop : tie.InvT-loop
-Inv-loop w₀ line offs table n kind done₀ i₀ w done i = Adding (chars line) table kind n w₀ done₀ w done i
+Inv-loop w₀ line offs table n kind count₀ len₀ i₀ w count len i = Adding (chars line) table kind n w₀ (record { count = count₀; len = len₀ }) w (record { count = count; len = len }) i
 
 abbrev μ-loop : tie.MeasureT-loop
-μ-loop w₀ line offs table n kind done₀ i₀ w done i = n - i
+μ-loop w₀ line offs table n kind count₀ len₀ i₀ w count len i = n - i
 
 loop-holds : tie.Need-loop-holds Inv-loop μ-loop
 loop-holds c = let a = c .before .before .before .args in adding-none (chars (a .line .now)) (a .table .now) (a .kind) (a .n) (a .w .now) (a .l)

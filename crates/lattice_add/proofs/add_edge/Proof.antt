@@ -8,7 +8,7 @@ use Rattle.lattice.specs.declared.Adding.{Adding}
 use Rattle.lattice.specs.Kept.{Holds, Stands, AddingIs}
 use Rattle.lattice_add.proofs.GrowLaws.{link-frame}
 use Rattle.lattice_add.proofs.AddLaws.{link-room, add-too-much, add-into}
-use Rattle.lattice.proofs.HoldsLaws.{add-nothing}
+use Rattle.lattice.proofs.HoldsLaws.{behind-same, add-nothing}
 use Rattle.lattice_add.proofs.add_edge.Statement.{statement}
 use Rattle.lattice_add.proofs.add_edge.Tie as tie
 
@@ -65,7 +65,7 @@ returns-3 c = let g = c .before .before .before in
     let k = asked g in
     let p = start k .pre in
     let r = link-room (p .0 .1) (p .1 .0) _ (says k _ _ (p .0 .1) (p .1 .1) _ (g .before .before .bucket .given .1)) in (
-      link-frame _ _ _ _ (r .1) (r .3) (c .before .before .link .ensures),
+      behind-same (start k .args .w .now) (c .before .before .link .last .0) (link-frame (start k .args .w .now) (start k .args .l .count) (start k .args .l .len) _ (r .1) (r .3) (c .before .before .link .ensures)),
       λ es e q d. add-into q e _ _ _ (says k es e q d _ (g .before .before .bucket .given .1)) d (c .before .before .link .ensures),
     )
 

@@ -12,7 +12,7 @@ use Rattle.lattice.specs.declared.Adding.{Adding}
 use Rattle.lattice.specs.Kept.{Holds, Stands, AddingIs}
 use Rattle.lattice_add.proofs.GivenLaws.{given-stands, given-size}
 use Rattle.lattice_add.proofs.AddLaws.{copy-into, copy-frame, link-room, copy-room, add-too-much}
-use Rattle.lattice.proofs.HoldsLaws.{add-nothing}
+use Rattle.lattice.proofs.HoldsLaws.{behind-same, add-nothing}
 use Rattle.lattice_add.proofs.add_given.Statement.{statement}
 use Rattle.lattice_add.proofs.add_given.Tie as tie
 
@@ -122,7 +122,7 @@ returns-3 c = let g = copying (c .before .before .before) in
     let w = c .before .before .before .before .before .before in
     let r = link-room (s .pre .0 .1) _ _ (says k _ (s .pre .0 .1) _ (g .before .before .bucket .given .1)) in
     let y = copy-room (s .pre .0 .1) _ _ (says k _ (s .pre .0 .1) _ (g .before .before .bucket .given .1)) (stands b) in (
-      copy-frame (s .pre .0 .1) _ _ _ _ _ (stands b) (w .copy-in .ensures) (c .before .before .link .ensures) (omega arith) (r .1) (r .3),
+      behind-same (s .args .w .now) (c .before .before .link .last .0) (copy-frame (s .pre .0 .1) _ _ _ _ _ (stands b) (w .copy-in .ensures) (c .before .before .link .ensures) (omega arith) (r .1) (r .3)),
       λ es q. copy-into q _ _ _ _ _ (stands b) (w .copy-in .ensures) (c .before .before .link .ensures) (says k es q _ (g .before .before .bucket .given .1)),
     )
 

@@ -1,7 +1,7 @@
 -- `new_edges::add_choice` meets its contract, by the form. Assumes nothing.
 use mathlib.Core.Path.{refl}
 use Rattle.made.specs.Choice.{madeOf}
-use Rattle.new_edges.proofs.EdgeLaws.{behind-same}
+use Rattle.lattice.proofs.HoldsLaws.{behind-same}
 use Rattle.new_edges.proofs.FractionLaws.{makes-percent, makes-fraction, makes-txt, makes-nothing, full-stays}
 use Rattle.new_edges.proofs.add_choice.Statement.{statement}
 use Rattle.new_edges.proofs.add_choice.Tie as tie

@@ -8,7 +8,7 @@ use Rattle.lattice.specs.Lattice.{add}
 use Rattle.lattice.specs.Kept.{Holds}
 use Rattle.numbers.specs.Fractions.{fractionType}
 use Rattle.new_edges.specs.NewEdge.{scriptFrom, fractionWith}
-use Rattle.new_edges.proofs.EdgeLaws.{behind-same}
+use Rattle.lattice.proofs.HoldsLaws.{behind-same}
 use Rattle.new_edges.proofs.FractionLaws.{fields-edge, fields-writable, fields-short}
 use borrow.Author.Needs.{needs}
 use Rattle.new_edges.proofs.add_composed.Statement.{statement}

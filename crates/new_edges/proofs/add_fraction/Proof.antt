@@ -11,7 +11,8 @@ use Rattle.made.specs.Choice.{Two}
 use Rattle.new_edges.specs.NewEdge.{Has, scriptFrom, fractionWith, fractionOf}
 use Rattle.new_edges.proofs.TextLaws.{text-count}
 use Rattle.new_edges.proofs.FractionLaws.{fraction-is}
-use Rattle.new_edges.proofs.EdgeLaws.{behind-same, left-in, right-in, call-at, head-small, ScriptRead, script-read}
+use Rattle.lattice.proofs.HoldsLaws.{behind-same}
+use Rattle.new_edges.proofs.EdgeLaws.{left-in, right-in, call-at, head-small, ScriptRead, script-read}
 use borrow.Author.Needs.{needs}
 use Rattle.new_edges.proofs.add_fraction.Statement.{statement}
 use Rattle.new_edges.proofs.add_fraction.Tie as tie

@@ -14,7 +14,8 @@ use Rattle.made.specs.Choice.{Two}
 use Rattle.new_edges.specs.NewEdge.{Has, percentOf}
 use Rattle.new_edges.proofs.TextLaws.{text-count}
 use Rattle.new_edges.proofs.FractionLaws.{regular-is}
-use Rattle.new_edges.proofs.EdgeLaws.{behind-same, left-in, right-in, head-small}
+use Rattle.lattice.proofs.HoldsLaws.{behind-same}
+use Rattle.new_edges.proofs.EdgeLaws.{left-in, right-in, head-small}
 use borrow.Author.Needs.{needs}
 use Rattle.new_edges.proofs.add_percent.Statement.{statement}
 use Rattle.new_edges.proofs.add_percent.Tie as tie

@@ -12,7 +12,8 @@ use Rattle.numbers.specs.Fractions.{percentageType}
 use Rattle.new_edges.specs.NewEdge.{Has, txtPercentOf}
 use Rattle.new_edges.proofs.TextLaws.{text-count}
 use Rattle.new_edges.proofs.FractionLaws.{regular-is}
-use Rattle.new_edges.proofs.EdgeLaws.{behind-same, one-in, call-at, head-small, txt-short}
+use Rattle.lattice.proofs.HoldsLaws.{behind-same}
+use Rattle.new_edges.proofs.EdgeLaws.{one-in, call-at, head-small, txt-short}
 use borrow.Author.Needs.{needs}
 use Rattle.new_edges.proofs.add_txt_percent.Statement.{statement}
 use Rattle.new_edges.proofs.add_txt_percent.Tie as tie

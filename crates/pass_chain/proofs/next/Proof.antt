@@ -48,7 +48,7 @@ counted-requires : tie.Need-counted-requires
 counted-requires c κs = let p = c .before .before .before .before .pre .0 in let q = c .before .before .before .before .pre .1 in ((p .0 .edge, chain-edge (p .1)), q)
 
 ruled-requires : tie.Need-ruled-requires
-ruled-requires c κs = search needs
+ruled-requires c κs = let s = c .before .before .before .before .before .pre in let (x, p) = s .0 in let (y, q) = s .1 in ((x, p), (_, as-counted c x y p q))
 
 returns-2 : tie.Need-returns-2
 returns-2 c x y p q = refused _ x y (touching (c .before .before .before .before) x y p q) (sym (judged (c .before) x y p q) ∙ not-true _ (c .if2 .taken))

@@ -1,5 +1,5 @@
 -- `ahead` meets its contract. Assumes nothing.
-use Rattle.pass_loop.proofs.FilterLaws.{answer-ends}
+use Rattle.pass_look.proofs.FilterLaws.{answer-ends}
 use Rattle.pass_loop.proofs.ahead.Statement.{statement}
 use Rattle.pass_loop.proofs.ahead.Tie as tie
 

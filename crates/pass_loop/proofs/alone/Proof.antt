@@ -1,7 +1,7 @@
 -- `alone` meets its contract. Assumes nothing.
 use native.Mathlib.Omega.{arith}
 use borrow.Author.Tests.{not-true}
-use Rattle.pass_loop.proofs.FilterLaws.{next-none}
+use Rattle.pass_look.proofs.FilterLaws.{next-none}
 use Rattle.pass_loop.proofs.RunLaws.{first-alone}
 use Rattle.pass_loop.proofs.alone.Statement.{statement}
 use Rattle.pass_loop.proofs.alone.Tie as tie

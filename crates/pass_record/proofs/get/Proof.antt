@@ -1,5 +1,5 @@
 -- `get` meets its contract: it reads the fields one by one. Assumes nothing.
-use Rattle.pass_record.proofs.FieldLaws.{itemAt-fields, itemAt-fits}
+use Rattle.pass_record.proofs.FieldLaws.{edge-read, itemAt-fits}
 use borrow.Author.Needs.{needs}
 use Rattle.pass_record.proofs.get.Statement.{statement}
 use Rattle.pass_record.proofs.get.Tie as tie
@@ -36,9 +36,14 @@ num-at-requires c κs = search needs
 
 returns : tie.Need-returns
 returns c =
+    let record-at = c .before in
+    let kind = record-at .before in
+    let end = kind .before in
+    let bytes = end .before .before in
+    let start = bytes .before in
     record {
-      is = rw (c .num-at .ensures, itemAt-fields _ _, c .before .u64-at .ensures, c .before .before .u16-at3 .ensures, c .before .before .before .u16-at2 .ensures, c .before .before .before .before .u16-at .ensures);
-      fits = itemAt-fits _ _ (λ j. c .before .before .before .before .before .shared-slice-known .given j .fits) (c .before .before .before .before .before .before .pre .1);
+      is = edge-read (start .args .s .now) (start .args .at) (end .before .u16-at .ensures) (end .u16-at2 .ensures) (kind .u16-at3 .ensures) (record-at .u64-at .ensures) (c .num-at .ensures);
+      fits = itemAt-fits _ _ (λ j. bytes .shared-slice-known .given j .fits) (start .pre .1);
     }
 
 pub get-spec : {M : Type 1} → statement M

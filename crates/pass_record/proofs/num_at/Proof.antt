@@ -1,5 +1,5 @@
 -- `num_at` meets its contract: it reads the fields one by one. Assumes nothing.
-use Rattle.pass_record.proofs.FieldLaws.{itemAt-fields}
+use Rattle.pass_record.proofs.FieldLaws.{num-read, small-at}
 use borrow.Author.Needs.{needs}
 use Rattle.pass_record.proofs.num_at.Statement.{statement}
 use Rattle.pass_record.proofs.num_at.Tie as tie
@@ -16,8 +16,10 @@ add-u64-at c = search needs
 u64-at-requires : tie.Need-u64-at-requires
 u64-at-requires c κs = search needs
 
-of-u64-requires : tie.Need-of-u64-requires
-of-u64-requires c κs = search needs
+f64-of-requires : tie.Need-f64-of-requires
+f64-of-requires c κs =
+    let p = c .before .before .before in
+    rw (c .u64-at .ensures) (small-at (p .args .s .now) (p .args .at) (p .pre .1) .value)
 
 add-u64-at-2 : tie.Need-add-u64-at-2
 add-u64-at-2 c = search needs
@@ -25,8 +27,10 @@ add-u64-at-2 c = search needs
 u64-at-requires-2 : tie.Need-u64-at-requires-2
 u64-at-requires-2 c κs = search needs
 
-of-u64-requires-2 : tie.Need-of-u64-requires-2
-of-u64-requires-2 c κs = search needs
+f64-of-requires-2 : tie.Need-f64-of-requires-2
+f64-of-requires-2 c κs =
+    let p = c .before .before .before .before .before in
+    rw (c .u64-at2 .ensures) (small-at (p .args .s .now) (p .args .at) (p .pre .1) .mult)
 
 add-u64-at-3 : tie.Need-add-u64-at-3
 add-u64-at-3 c = search needs
@@ -48,7 +52,11 @@ u64-at-requires-5 c κs = search needs
 
 returns : tie.Need-returns
 returns c =
-    rw (itemAt-fields _ _, c .u64-at5 .ensures, c .before .u64-at4 .ensures, c .before .before .u64-at3 .ensures, c .before .before .before .of-u642 .ensures, c .before .before .before .before .u64-at2 .ensures, c .before .before .before .before .before .of-u64 .ensures, c .before .before .before .before .before .before .u64-at .ensures, c .before .before .before .before .before .before .before .u16-at .ensures)
+    let multiplier = c .before .before .before in
+    let value = multiplier .before .before in
+    let map = value .before .before in
+    let start = map .before .before in
+    num-read (start .args .s .now) (start .args .at) (map .u16-at .ensures) (value .before .u64-at .ensures) (value .f64-of .ensures) (multiplier .before .u64-at2 .ensures) (multiplier .f64-of2 .ensures) (c .before .before .u64-at3 .ensures) (c .before .u64-at4 .ensures) (c .u64-at5 .ensures)
 
 pub num-at-spec : {M : Type 1} → statement M
 num-at-spec =
@@ -58,10 +66,10 @@ num-at-spec =
     u16-at-requires
     add-u64-at
     u64-at-requires
-    of-u64-requires
+    f64-of-requires
     add-u64-at-2
     u64-at-requires-2
-    of-u64-requires-2
+    f64-of-requires-2
     add-u64-at-3
     u64-at-requires-3
     add-u64-at-4

@@ -4,11 +4,15 @@ use native.Mathlib.Omega.{arith}
 use Rattle.edge.specs.Edge.{Edge}
 use Rattle.lattice.specs.Lattice.{add}
 use Rattle.lattice.specs.Kept.{Holds}
+use Rattle.lattice.proofs.HoldsLaws.{behind-same}
 use Rattle.copies.proofs.CopyLaws.{source-less}
 use Rattle.separators.proofs.StepLaws.{copy-space, copy-dot}
 use borrow.Author.Needs.{needs}
 use Rattle.separators.proofs.add_separated.Statement.{statement}
 use Rattle.separators.proofs.add_separated.Tie as tie
+
+abbrev start : tie.After-u16-at → tie.Start
+start c = c .before .before .before
 
 u16-at-requires : tie.Need-u16-at-requires
 u16-at-requires c κs = search needs
@@ -31,7 +35,7 @@ returns c =
     let t = a .before .before .before in
     let b = t .before in
     let u = b .before in (
-      a .add-copy .ensures .0,
+      behind-same (start u .args .w .now) (a .add-copy .last .0) (a .add-copy .ensures .0),
       λ es e h q. subst (λ (z : Edge). Holds (a .add-copy .last .0) (a .add-copy .result) (add es z)) (copy-space q (u .u16-at .ensures) (b .bit .ensures) (t .if1 .taken)) (a .add-copy .ensures .1 es e h (source-less (omega arith) q)),
     )
 
@@ -50,7 +54,7 @@ returns-2 c =
     let t = a .before .before .before in
     let b = t .before in
     let u = b .before in (
-      a .add-copy2 .ensures .0,
+      behind-same (start u .args .w .now) (a .add-copy2 .last .0) (a .add-copy2 .ensures .0),
       λ es e h q. subst (λ (z : Edge). Holds (a .add-copy2 .last .0) (a .add-copy2 .result) (add es z)) (copy-dot q (u .u16-at .ensures) (b .bit .ensures) (t .if1 .left)) (a .add-copy2 .ensures .1 es e h q),
     )
 

@@ -1,5 +1,5 @@
 -- `separators::set_apart` meets its contract: the copy is added, then its original turns inactive. Assumes nothing.
-use mathlib.Core.Path.{refl, sym, _∙_, subst}
+use mathlib.Core.Path.{refl, sym, subst}
 use mathlib.Core.List.{List}
 use Prim.Native.Nat.{ℕ, _<_}
 use borrow.Author.Tests.{not-true, not-false}
@@ -11,6 +11,7 @@ use Rattle.numbers.specs.Separators.{copyOf}
 use Rattle.separators.specs.Marks.{setApart}
 use Rattle.edge.specs.Edge.{Edge}
 use Rattle.lattice.specs.Kept.{Holds, noEdge}
+use Rattle.lattice.proofs.HoldsLaws.{behind-same, behind-twice}
 use Rattle.separators.proofs.StepLaws.{counted, edge-spanned, not-apart, is-apart, apart-source, full-apart, full-turned, still-counted}
 use borrow.Author.Needs.{needs}
 use Rattle.separators.proofs.set_apart.Statement.{statement}
@@ -84,7 +85,7 @@ same-length-2 c = search needs
 returns-3 : tie.Need-returns-3
 returns-3 c =
     let a = c .before .before .before .before in
-    (a .add-separated .ensures .0, λ n es few q x call. turned a (a .add-separated .last .0) (a .add-separated .result) n es q x call (full-turned _ (c .if3 .taken) (added a n es q x call)))
+    (behind-same (start (looked a) .args .w .now) (a .add-separated .last .0) (a .add-separated .ensures .0), λ n es few q x call. turned a (a .add-separated .last .0) (a .add-separated .result) n es q x call (full-turned _ (c .if3 .taken) (added a n es q x call)))
 
 turn-off-requires : tie.Need-turn-off-requires
 turn-off-requires c κs =
@@ -101,7 +102,7 @@ returns-4 : tie.Need-returns-4
 returns-4 c =
     let f = c .before .before in
     let a = f .before .before .before .before .before .before in (
-      f .turn-off .ensures .0 ∙ a .add-separated .ensures .0,
+      behind-twice (start (looked a) .args .w .now) (a .add-separated .last .0) (f .turn-off .last .0) (f .turn-off .ensures .0) (a .add-separated .ensures .0),
       λ n es few q x call. turned a (f .turn-off .last .0) (a .add-separated .result) n es q x call (f .turn-off .ensures .1 _ (added a n es q x call)),
     )
 

@@ -50,13 +50,20 @@ returns-4 c = tt
 add-tail-end : tie.Need-add-tail-end
 add-tail-end c = omega arith
 
+shared-slice-read-tail-end : tie.Need-shared-slice-read-tail-end
+shared-slice-read-tail-end c = omega arith
+
+add-tail-end-2 : tie.Need-add-tail-end-2
+add-tail-end-2 c = omega arith
+
 tail-end-requires : tie.Need-tail-end-requires
 tail-end-requires c κs = (omega arith, omega arith)
 
 returns-5 : tie.Need-returns-5
 returns-5 c =
-    let k = c .before .before .before in
-    fields-is _ _ _ _ (c .tail-end .result) refl refl (k .if3 .left) (λ j. k .before .before .shared-slice-known3 .given j .fits) (omega arith) (c .before .before .ascii .ensures (not-false _ (c .before .if4 .left))) (c .tail-end .ensures)
+    let both = c .before .before in
+    let k = both .before .before in
+    fields-is _ _ _ _ (c .tail-end .result) refl refl (k .if3 .left) (λ j. k .before .before .shared-slice-known3 .given j .fits) (omega arith) (both .before .ascii .ensures (not-false _ (both .if4 .left))) (c .tail-end .ensures)
 
 pub fields-end-spec : {M : Type 1} → statement M
 fields-end-spec =
@@ -76,5 +83,7 @@ fields-end-spec =
     ascii-requires
     returns-4
     add-tail-end
+    shared-slice-read-tail-end
+    add-tail-end-2
     tail-end-requires
     returns-5)

@@ -55,7 +55,7 @@ returns-5 : tie.Need-returns-5
 returns-5 c =
     let low = c .before .before .before in
     let k = low .before in
-    tail-is _ _ _ (k .before .before .before .if1 .left) (k .before .if2 .left) (k .if3 .left) (low .low-four .ensures (not-false _ (c .before .before .if4 .left))) (c .before .legal-numbers .ensures (c .if5 .taken))
+    tail-is _ _ _ _ (k .before .before .before .if1 .left) (k .before .if2 .left) (k .if3 .left) (low .low-four .ensures (not-false _ (c .before .before .if4 .left))) (c .before .legal-numbers .ensures (c .if5 .taken))
 
 returns-6 : tie.Need-returns-6
 returns-6 c = tt

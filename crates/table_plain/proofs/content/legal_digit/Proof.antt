@@ -9,6 +9,10 @@ use Rattle.table_plain.proofs.content.legal_digit.Tie as tie
 returns : tie.Need-returns
 returns c = search needs
 
+-- the type begins otherwise than "digit"
+returns-2 : tie.Need-returns-2
+returns-2 c = λ e t h. absurd (omega arith)
+
 u16-at-requires : tie.Need-u16-at-requires
 u16-at-requires c κs = omega arith
 
@@ -21,9 +25,9 @@ mul-result c = omega arith
 add-result : tie.Need-add-result
 add-result c = omega arith
 
-returns-2 : tie.Need-returns-2
-returns-2 c = λ e h. sym (c .u16-at .ensures) ∙ eqb-true _ _ e
+returns-3 : tie.Need-returns-3
+returns-3 c = λ e t h. sym (c .u16-at .ensures) ∙ eqb-true _ _ e
 
 pub legal-digit-spec : {M : Type 1} → statement M
 legal-digit-spec =
-    tie.close (tie.spec returns u16-at-requires cast-result mul-result add-result returns-2)
+    tie.close (tie.spec returns returns-2 u16-at-requires cast-result mul-result add-result returns-3)

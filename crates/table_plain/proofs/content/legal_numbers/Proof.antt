@@ -22,7 +22,7 @@ legal-digit-requires : tie.Need-legal-digit-requires
 legal-digit-requires c κs = omega arith
 
 returns-2 : tie.Need-returns-2
-returns-2 c = λ e. numbers-is _ _ _ (c .before .before .before .u64-at .ensures) (c .before .before .u64-at2 .ensures) (c .before .if1 .left) (c .legal-digit .ensures e)
+returns-2 c = λ e. numbers-is _ _ _ _ (c .before .before .before .u64-at .ensures) (c .before .before .u64-at2 .ensures) (c .before .if1 .left) (c .legal-digit .ensures e)
 
 pub legal-numbers-spec : {M : Type 1} → statement M
 legal-numbers-spec =

@@ -6,11 +6,11 @@ use lib.ListN.{getD}
 use mathlib.Core.Bool.{true}
 use Rattle.dicts.specs.Layout.{Is, readNumbers}
 use Rattle.dicts.specs.Answers.{numbersOf}
-use Rattle.char_index.specs.Walk.{partIf}
-use Rattle.char_index.proofs.WalkLaws.{Fields, numbersAt, scriptAt, stands-told, script-behind, known-is}
+use Rattle.known_record.specs.Walk.{partIf}
+use Rattle.known_record.proofs.WalkLaws.{Fields, numbersAt, scriptAt, stands-told, script-behind, known-is}
 use borrow.Author.Needs.{needs}
-use Rattle.char_index.proofs.known.record_here.Statement.{statement}
-use Rattle.char_index.proofs.known.record_here.Tie as tie
+use Rattle.known_record.proofs.known.record_here.Statement.{statement}
+use Rattle.known_record.proofs.known.record_here.Tie as tie
 
 abbrev map : tie.Start → ℕ
 map s = getD (s .args .s .now) (s .args .at + 4) 0

@@ -3,7 +3,7 @@ ghost use mathlib.Core.Path.{_≡_};
 ghost use mathlib.Core.Bool.{true};
 ghost use Prim.Native.Nat.{ℕ, _<_};
 ghost use lib.ListN.{length};
-ghost use Rattle.char_index.specs.Walk.{endIf, Stands};
+ghost use Rattle.known_record.specs.Walk.{endIf, Stands};
 
 // Behind a string that is there or absent.
 pub fn end_if(s: &[u8], at: usize, there: bool) -> usize

@@ -1,7 +1,7 @@
 -- `number_if` meets its contract: a number that is there is `u64_at`'s.
 use borrow.Author.Needs.{needs}
-use Rattle.char_index.proofs.known.number_if.Statement.{statement}
-use Rattle.char_index.proofs.known.number_if.Tie as tie
+use Rattle.known_record.proofs.known.number_if.Statement.{statement}
+use Rattle.known_record.proofs.known.number_if.Tie as tie
 
 u64-at-requires : tie.Need-u64-at-requires
 u64-at-requires c κs = c .before .before .pre (c .if1 .taken)

@@ -2,9 +2,9 @@
 use native.Mathlib.Omega.{arith}
 use mathlib.Core.Path.{sym, _∙_}
 use Rattle.passes.specs.Passes.{D1, G1, G2, G3, G4}
-use Rattle.pass_loop.proofs.FilterLaws.{join-touches, join-may}
-use Rattle.pass_loop.proofs.may_join.Statement.{statement}
-use Rattle.pass_loop.proofs.may_join.Tie as tie
+use Rattle.pass_look.proofs.FilterLaws.{join-touches, join-may}
+use Rattle.pass_look.proofs.may_join.Statement.{statement}
+use Rattle.pass_look.proofs.may_join.Tie as tie
 
 add-u16-at : tie.Need-add-u16-at
 add-u16-at c = let a = c .before in omega (arith, a .pre .0, a .good)

@@ -3,8 +3,8 @@ use mathlib.Core.Path.{_≡_}
 use mathlib.Core.Bool.{true}
 use native.Mathlib.Omega.{arith}
 use borrow.Author.Needs.{needs}
-use Rattle.char_index.proofs.walk.end_if.Statement.{statement}
-use Rattle.char_index.proofs.walk.end_if.Tie as tie
+use Rattle.known_record.proofs.walk.end_if.Statement.{statement}
+use Rattle.known_record.proofs.walk.end_if.Tie as tie
 
 add-result : tie.Need-add-result
 add-result c = omega (arith, c .before .pre (c .if1 .taken))

@@ -5,7 +5,7 @@ ghost use Prim.Native.Nat.{ℕ, _+_, _*_, _/_, _%_, _≤_, _<_};
 ghost use lib.ListN.{length};
 ghost use Rattle.dicts.specs.Layout.{Is, readNumbers, readRecord};
 ghost use Rattle.dicts.specs.Answers.{numberIf, numbersOf, recordOf, Inside};
-ghost use Rattle.char_index.specs.Walk.{partIf, Stands};
+ghost use Rattle.known_record.specs.Walk.{partIf, Stands};
 use crate::walk::end_if;
 use dicts::layout::NumProp;
 use dicts::layout::Numbers;

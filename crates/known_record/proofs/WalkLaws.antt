@@ -17,7 +17,7 @@ use Rattle.dicts.specs.Answers.{optionally, partOf, numbersOf, recordOf, Within
 use Rattle.dicts.specs.declared.layout.Part.{Part}
 use Rattle.dicts.specs.declared.layout.Numbers as AsRead
 use Rattle.dicts.specs.declared.layout.NumProp.{NumProp}
-use Rattle.char_index.specs.Walk.{endIf, partIf, Stands}
+use Rattle.known_record.specs.Walk.{endIf, partIf, Stands}
 
 -- ---- a field that was read, and what is behind it
 is-next : {A : Type 0} {f : Field A} {a b : A} {m n : ℕ} → f ≡ Is a m → f ≡ Is b n → m ≡ n

@@ -3,8 +3,8 @@ use native.Mathlib.Omega.{arith}
 use borrow.Author.Tests.{eqb-true}
 use Rattle.dicts.proofs.LayoutLaws.{numbers-are}
 use borrow.Author.Needs.{needs}
-use Rattle.char_index.proofs.known.numbers_here.Statement.{statement}
-use Rattle.char_index.proofs.known.numbers_here.Tie as tie
+use Rattle.known_record.proofs.known.numbers_here.Statement.{statement}
+use Rattle.known_record.proofs.known.numbers_here.Tie as tie
 
 cast-numerator-at : tie.Need-cast-numerator-at
 cast-numerator-at c = search needs

@@ -3,10 +3,10 @@ use mathlib.Core.Path.{_≡_, sym, _∙_}
 use Prim.Native.Nat.{ℕ, _+_}
 use native.Mathlib.Omega.{arith}
 use lib.ListN.{getD}
-use Rattle.char_index.proofs.WalkLaws.{Fields, numbersAt, stands-told, stands-at}
+use Rattle.known_record.proofs.WalkLaws.{Fields, numbersAt, stands-told, stands-at}
 use borrow.Author.Needs.{needs}
-use Rattle.char_index.proofs.walk.record_end.Statement.{statement}
-use Rattle.char_index.proofs.walk.record_end.Tie as tie
+use Rattle.known_record.proofs.walk.record_end.Statement.{statement}
+use Rattle.known_record.proofs.walk.record_end.Tie as tie
 
 abbrev map : tie.Start → ℕ
 map s = getD (s .args .s .now) (s .args .at + 4) 0

@@ -3,8 +3,8 @@ use mathlib.Core.Path.{_≡_}
 use mathlib.Core.Bool.{true}
 use native.Mathlib.Omega.{arith}
 use borrow.Author.Needs.{needs}
-use Rattle.char_index.proofs.known.part_if.Statement.{statement}
-use Rattle.char_index.proofs.known.part_if.Tie as tie
+use Rattle.known_record.proofs.known.part_if.Statement.{statement}
+use Rattle.known_record.proofs.known.part_if.Tie as tie
 
 add-t6 : tie.Need-add-t6
 add-t6 c = omega (arith, c .before .pre (c .if1 .taken))

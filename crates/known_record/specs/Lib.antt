@@ -1,0 +1,2 @@
+-- The definitions that the contracts of `known_record` cite.
+pub mod Walk
