@@ -19,10 +19,8 @@ use Rattle.text.proofs.RowLaws.{and-true}
 use Rattle.dicts.specs.Table.{Record}
 use Rattle.dicts.specs.Layout.{Is, Fault, readRecord, numbersIn}
 use Rattle.dicts.specs.Check.{allOf, small, positive, legalRatio, legalNumbers}
-use Rattle.dicts.specs.Answers.{optionally, recordOf, recordField}
+use Rattle.dicts.specs.Answers.{optionally, recordOf}
 use Rattle.dicts.specs.declared.layout.NumProp.{NumProp}
-use Rattle.dicts.specs.declared.layout.RecordAt.{RecordAt}
-use Rattle.dicts.specs.declared.layout.RecordAt.the-variants as RecordAt
 use Rattle.passes.specs.Characters.{lowest}
 use Rattle.pass_list.specs.declared.record.PassEdge.{PassEdge}
 use Rattle.pass_list.specs.Item.{Item, passEdge, EdgeIs}
@@ -39,7 +37,7 @@ use Rattle.items.specs.declared.Fraction.{Fraction}
 use Rattle.items.specs.Sound.{LegalAt, Sound, ItemIs}
 use Rattle.items.specs.Texts.{charType, typeOf, TextsAre}
 use Rattle.items.specs.Fields.{itemFraction, recordFraction, FractionIs, itemMap, partOr, itemFields, Listable}
-use Rattle.items.proofs.TextLaws.{record-told, part-places, spans, Spans, between-short, txt-short, type-short, places-of}
+use Rattle.items.proofs.TextLaws.{part-places, spans, Spans, between-short, txt-short, type-short, places-of}
 
 -- ---- the fraction
 pub fraction-joined : (t : List ℕ) (k at : ℕ) → (k ≡ 0 → ⊥) → none ≡ itemFraction t k at
@@ -53,16 +51,16 @@ module _ (p : NumProp) where
   pub fraction-absent : (p .map / 4 % 2 ≡ 1 → ⊥) → none ≡ recordFraction p
   fraction-absent h = rw (ne-eqb (p .map / 4 % 2) 1 h)
 
-  module _ (s : List ℕ) (at : ℕ) {r : RecordAt} (is : recordField s r ≡ readRecord s at) (e : r ≡ RecordAt.Record p) where
+  module _ (s : List ℕ) (at : ℕ) (is : Is (recordOf s p) (p .next) ≡ readRecord s at) where
     pub fraction-record : (k : ℕ) → k ≡ 0 → recordFraction p ≡ itemFraction s k at
     unfolding itemFraction recordOf
-    fraction-record k z = rw (eq-eqb k 0 z, record-told s at is p e)
+    fraction-record k z = rw (eq-eqb k 0 z, ← is)
 
     -- a record that passed the check has no 0 below
     pub ratio-legal : LegalAt s at → p .map / 4 % 2 ≡ 1 → 0 < p .numbers .denominator
     unfolding legalNumbers recordOf allOf
     ratio-legal l h =
-        let same : l .prop ≡ recordOf s p = cc (l .reads, record-told s at is p e) in
+        let same : l .prop ≡ recordOf s p = cc (l .reads, is) in
         let all : legalNumbers (numbersIn (recordOf s p)) ≡ true = rw same at (l .numbers) in
         let n = numbersIn (recordOf s p) in
         let three = and-true ((allOf small (n .value) && allOf legalRatio (n .fraction)) && allOf positive (n .base)) (allOf small (n .mult)) all .0 in

@@ -23,7 +23,7 @@ use Rattle.items.specs.Texts.{charTxt, charType, typeOf, TextsAre, Front}
 use Rattle.items.specs.Fields.{itemFraction}
 use Rattle.items.specs.Adding.{Asks, Adds}
 use Rattle.items.proofs.RecordLaws.{fraction-absent}
-use Rattle.items.proofs.TextLaws.{part-to, front-take, txt-char, type-char, txt-short, type-short}
+use Rattle.items.proofs.TextLaws.{front-take, txt-char, type-char, txt-short, type-short}
 
 -- ---- an item with its texts is added
 module _ {line t : List ℕ} {e : PassEdge} {ty tx : Text} (are : (x : Item) → ItemIs line t e x → TextsAre line t e ty tx x) where
@@ -36,16 +36,6 @@ module _ {line t : List ℕ} {e : PassEdge} {ty tx : Text} (are : (x : Item) →
   texts-added h = record { frame = h .0; holds = λ es x q is. h .1 es x q (are x is) }
 
 -- ---- a character
--- the bytes of s between two offsets, a length apart
-pub cut : (s : List ℕ) (at n : ℕ) → take (at + n - at) (drop at s) ≡ part s at n
-unfolding part
-cut s at n = part-to s at n
-
--- the bytes of s between two offsets
-pub cut-to : (s : List ℕ) (from to : ℕ) → take (to - from) (drop from s) ≡ part s from (to - from)
-unfolding part
-cut-to s from to = refl
-
 pub no-fraction : (t : List ℕ) (at : ℕ) → LegalAt t at → (getD t (at + 4) 0 / 4 % 2 ≡ 1 → ⊥) → none ≡ itemFraction t 0 at
 unfolding itemFraction
 no-fraction t at l h = rw (l .reads, fraction-absent t at (l .reads) (ne-eqb (getD t (at + 4) 0 / 4 % 2) 1 h))

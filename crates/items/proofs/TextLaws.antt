@@ -1,5 +1,5 @@
--- Laws of an item's texts. In order: a character's bytes; a text at the front of a buffer; the txt and the type of a character, by its record, and by its
--- bytes where it was checked; the line's bytes between two places; the names of the passes; the texts of an item, and that they are short.
+-- Laws of an item's texts. In order: a character's bytes; a text at the front of a buffer; the txt and the type of a character whose record was checked;
+-- bytes between two offsets, and the line's between two places; the names of the passes; the texts of an item, and that they are short.
 use mathlib.Core.Path.{_≡_, refl, sym, ap, _∙_, subst}
 use mathlib.Core.Bool.{Bool, true, false, cond}
 use mathlib.Core.List.{List, [], _∷_}
@@ -14,22 +14,16 @@ use Rattle.fields.proofs.PartLaws.{length-part, part-sets}
 use Rattle.text.specs.Sequence.{encode}
 use Rattle.text.specs.Text.{chars, encodes, offsetOf}
 use Rattle.dicts.specs.Table.{Text}
-use Rattle.dicts.specs.Layout.{Is, Fault, readRecord}
-use Rattle.dicts.specs.Answers.{recordOf, recordField, RecordWithin, Inside}
-use Rattle.dicts.specs.declared.layout.NumProp.{NumProp}
 use Rattle.whole.specs.Whole.{ofNat}
 use Rattle.whole.specs.Decimal.{decimal, padded}
 use Rattle.whole.proofs.DecimalLaws.{length-padded, length-decimal-top}
 use Rattle.pass_list.specs.declared.record.PassEdge.{PassEdge}
 use Rattle.pass_list.specs.Item.{Item, EdgeIs}
 use Rattle.pass_list.specs.Edges.{between, kindName, txtOf, edgeOf}
-use Rattle.dicts.specs.declared.layout.RecordAt.{RecordAt}
-use Rattle.dicts.specs.declared.layout.RecordAt.the-variants as RecordAt
-use Rattle.dicts.proofs.LayoutLaws.{told}
 use Rattle.stages.specs.Ready.{Offsets}
 use Rattle.places.proofs.PlacesLaws.{offset-rises, part-between}
 use Rattle.text.proofs.PlaceLaws.{offset-le}
-use Rattle.items.specs.Sound.{LegalAt, Sound, ItemIs}
+use Rattle.items.specs.Sound.{LegalAt, Rooted, Sound, ItemIs}
 use Rattle.items.specs.Texts.{charTxt, charType, typeOf, Front}
 use Rattle.items.proofs.RecordLaws.{take-short, AtMost, record-short, typeEnd, Lies, type-lies, rom-lies, rom-absent}
 
@@ -57,49 +51,13 @@ between-short w a b = omega (arith, encodes-short (take (b - a) (drop a w)), tak
 pub front-is : {s u : List ℕ} {r : ℕ} {t v : Text} → t ≡ v → Front s u r t → Front s u r v
 front-is {s} {u} {r} e h = subst (Front s u r) e h
 
-pub front-none : (s : List ℕ) {t : Text} → t ≡ [] → Front s s 0 t
-front-none s e = front-is (sym e) (record { wrote = refl; long = refl })
-
 -- it can be taken from there again
 module _ {s u : List ℕ} {r : ℕ} {t : Text} (h : Front s u r t) (k : length t ≤ length s) where
   pub front-take : take r u ≡ t
   unfolding part
   front-take = rw (h .wrote, h .long) (part-sets s 0 t (length t) refl (omega arith))
 
--- ---- the txt and the type of a character, by what stands at an offset of s
-module _ (s : List ℕ) (at : ℕ) {r : RecordAt} (is : recordField s r ≡ readRecord s at) where
-  pub fault-told : r ≡ RecordAt.Fault → readRecord s at ≡ Fault
-  fault-told e = told (recordField s) is e
-
-  pub txt-fault : (w : List ℕ) (a b : ℕ) → r ≡ RecordAt.Fault → charTxt w s at a b ≡ []
-  unfolding charTxt
-  txt-fault w a b e = rw (fault-told e)
-
-  pub type-fault : r ≡ RecordAt.Fault → charType s at ≡ []
-  unfolding charType
-  type-fault e = rw (fault-told e)
-
-  module _ (p : NumProp) (e : r ≡ RecordAt.Record p) where
-    pub record-told : readRecord s at ≡ Is (recordOf s p) (p .next)
-    record-told = told (recordField s) is e
-
-    pub txt-rom : (w : List ℕ) (a b : ℕ) → p .map / 1 % 2 ≡ 1 → charTxt w s at a b ≡ part s (p .rom .at) (p .rom .len)
-    unfolding charTxt recordOf
-    txt-rom w a b h = rw (record-told, eq-eqb (p .map / 1 % 2) 1 h)
-
-    pub txt-own : (w : List ℕ) (a b : ℕ) → (p .map / 1 % 2 ≡ 1 → ⊥) → charTxt w s at a b ≡ between w a b
-    unfolding charTxt recordOf
-    txt-own w a b h = rw (record-told, ne-eqb (p .map / 1 % 2) 1 h)
-
-    pub type-record : charType s at ≡ part s (p .«num_type» .at) (p .«num_type» .len)
-    unfolding charType recordOf
-    type-record = rw record-told
-
-    pub type-length : p .«num_type» .at + p .«num_type» .len ≤ length s → p .«num_type» .len ≤ 60
-    unfolding recordOf
-    type-length h = omega (arith, length-part s (p .«num_type» .at) (p .«num_type» .len) h, record-short s at record-told .type)
-
--- the same where the record was checked, by the lengths that stand in it
+-- ---- the txt and the type of a character whose record was checked, by the lengths that stand in it
 module _ (t : List ℕ) (at : ℕ) (l : LegalAt t at) where
   pub type-part : charType t at ≡ part t (at + 6) (getD t (at + 5) 0)
   unfolding charType
@@ -116,9 +74,17 @@ module _ (t : List ℕ) (at : ℕ) (l : LegalAt t at) where
   unfolding charTxt
   own-part w a b h = rw (l .reads, rom-absent t at (l .reads) (ne-eqb (getD t (at + 4) 0 / 1 % 2) 1 h))
 
--- what stands between two offsets, a length apart
-pub part-to : (s : List ℕ) (at n : ℕ) → part s at (at + n - at) ≡ part s at n
-part-to s at n = let e : at + n - at ≡ n = omega arith in rw e
+  pub type-fits : length (charType t at) ≤ 60
+  unfolding charType
+  type-fits = rw (l .reads) (record-short t at (l .reads) .type)
+
+-- ---- the bytes of s between two offsets, and where they are a length apart
+pub cut-to : (s : List ℕ) (from to : ℕ) → take (to - from) (drop from s) ≡ part s from (to - from)
+unfolding part
+cut-to s from to = refl
+
+pub cut : (s : List ℕ) (at n : ℕ) → take (at + n - at) (drop at s) ≡ part s at n
+cut s at n = let e : at + n - at ≡ n = omega arith in cut-to s at (at + n) ∙ ap (part s at) e
 
 -- the bytes of the line between two places, by the offsets
 pub part-places : (line offs : List ℕ) (a b : ℕ) → Offsets line offs → a ≤ b → b ≤ length (chars line) → part line (getD offs a 0) (getD offs b 0 - getD offs a 0) ≡ between (chars line) a b
@@ -141,9 +107,6 @@ spans line offs a b o h k =
       within = omega arith;
       long = sym l ∙ ap length (part-places line offs a b o h k);
     }
-
-pub inside-told : {s : List ℕ} {r : RecordAt} {p : NumProp} → RecordWithin s r → r ≡ RecordAt.Record p → Inside s p
-inside-told {s} h e = subst (RecordWithin s) e h
 
 -- ---- the names of the passes
 module _ (k : ℕ) where
@@ -184,6 +147,10 @@ module _ (w t : List ℕ) (e : PassEdge) (x : Item) (h : EdgeIs e x) where
   pub type-kind : (e .kind ≡ 0 → ⊥) → kindName (e .kind) ≡ typeOf t x
   unfolding typeOf
   type-kind z = rw (ne-eqb (x .kind) 0 (λ o. z (kind-is ∙ o)), h .is)
+
+-- the record of a character was checked
+pub rooted-char : (t : List ℕ) (e : PassEdge) (x : Item) → EdgeIs e x → Rooted t x → e .kind ≡ 0 → LegalAt t (e .«record_at» .0)
+rooted-char t e x h r z = let k : x .kind ≡ 0 = sym (kind-is [] t e x h) ∙ z in subst (LegalAt t) (ap (λ (e : PassEdge). e .«record_at» .0) (sym (h .is))) (r .legal k)
 
 -- ---- the txt of a sound item is short
 get-short : (o : Option Text) (d : Text) → AtMost o → length d ≤ 60 → length (Option·getD o d) ≤ 60
@@ -234,9 +201,9 @@ name-short k = go (eqb k 1) (eqb k 2) (eqb k 3) (eqb k 4)
     go false false false false = omega arith
 
 pub type-short : (w t : List ℕ) (x : Item) → Sound w t x → length (typeOf t x) ≤ 60
-unfolding typeOf charType
+unfolding typeOf
 type-short w t x s = go (eqb (x .kind) 0) refl
   where
     go : (b : Bool) → eqb (x .kind) 0 ≡ b → length (cond b (charType t (x .record-at)) (kindName (x .kind))) ≤ 60
-    go true e = let l = s .rooted .legal (eqb-true (x .kind) 0 e) in rw (l .reads) (record-short t (x .record-at) (l .reads) .type)
+    go true e = type-fits t (x .record-at) (s .rooted .legal (eqb-true (x .kind) 0 e))
     go false e = name-short (x .kind)

@@ -21,7 +21,7 @@ ghost use Rattle.pass_list.specs.Item.{Item, EdgeIs};
 ghost use Rattle.pass_list.specs.Stored.{itemsAt};
 ghost use Rattle.pass_list.specs.Edges.{txtOf, edgeOf};
 ghost use Rattle.stages.specs.Ready.{Ready, Offsets};
-ghost use Rattle.items.specs.Sound.{Sounds, ItemIs};
+ghost use Rattle.items.specs.Sound.{Rooted, Sounds, ItemIs};
 ghost use Rattle.items.specs.Texts.{typeOf};
 ghost use Rattle.items.specs.Adding.{Asks};
 ghost use Rattle.numbers.specs.Signs.{signs};
@@ -35,7 +35,7 @@ const LIST: usize = 39424;
 
 // The type of a sign's edge goes to the front of a buffer: the item's, a space and the sign.
 fn sign_type(buf: &mut [u8], table: &[u8], x: PassEdge, sign: u8) -> usize
-    requires { ⌜ (62 ≤ length (now buf)) × ((i : Item) × EdgeIs x i × (length (typeOf (now table) i) ≤ 60)) ⌝ }
+    requires { ⌜ (62 ≤ length (now buf)) × ((i : Item) × EdgeIs x i × (length (typeOf (now table) i) ≤ 60) × Rooted (now table) i) ⌝ }
     ensures { λ r. ⌜ ((i : Item) → EdgeIs x i → Begins (now (buf .exit)) r (typeOf (now (table .entry)) i ++ (32 ∷ sign ∷ []))) ⌝ }
 {
     let n = items::type_of(buf, table, x);

@@ -29,7 +29,7 @@ use Rattle.dicts.proofs.LayoutLaws.{number-is, text-is, optional-there, fields-
 use Rattle.table_plain.specs.Plain.{LegalAt, Head, Digit, Numbers, Tail, TailIs, FieldsIs, PlainIs}
 use Rattle.table_plain.specs.declared.Behind.{Behind}
 use Rattle.table_plain.specs.declared.Behind.the-variants as Behind
-use Rattle.table_plain.proofs.MaskLaws.{ascii-part, ascii-formed}
+use Rattle.table_texts.proofs.MaskLaws.{ascii-part, ascii-formed}
 
 -- ---- the map
 odd : (n : ℕ) → (2 * n + 1) % 2 ≡ 1

@@ -1,6 +1,5 @@
 // Records as most of a table are, those of the plain table among them: with rom, value, base and script, no other field, and short ASCII strings.
 // They are read and found legal in one go, by few tests: of a record that is not told by them nothing is said, and the general reading decides.
-mod masks; // masks.rt: ASCII bytes looked at 8 at once
 mod content; // content.rt: the code point and the numbers
 
 ghost use mathlib.Core.Path.{_≡_};
@@ -9,8 +8,8 @@ ghost use lib.ListN.{length, getD};
 ghost use Rattle.table_plain.specs.Plain.{TailIs, FieldsIs, PlainIs};
 use crate::content::legal_head;
 use crate::content::legal_numbers;
-use crate::masks::ascii;
-use crate::masks::low_four;
+use table_texts::masks::ascii;
+use table_texts::masks::low_four;
 
 // A legal record: its code point, and the offset behind it; any other, or none.
 pub enum Plain {

@@ -1,107 +1,68 @@
 -- `items::char_txt` meets its contract: rom is a part of the table, the character the line's bytes between two places. Assumes nothing.
 use borrow.Author.Needs.{needs}
 use mathlib.Core.Path.{_≡_, sym, ap, _∙_}
+use Prim.Native.Nat.{_≤_}
 use native.Mathlib.Omega.{arith}
 use lib.ListN.{length}
-use Rattle.fields.proofs.PartLaws.{length-part}
 use Rattle.text.specs.Text.{chars}
-use Rattle.items.proofs.TextLaws.{inside-told, txt-rom, txt-own, txt-fault, front-is, front-none, part-to, part-places, spans}
+use Rattle.pass_list.specs.Edges.{between}
+use Rattle.items.specs.Texts.{charTxt}
+use Rattle.items.proofs.RecordLaws.{typeEnd}
+use Rattle.items.proofs.TextLaws.{front-is, own-part, type-within}
 use Rattle.items.proofs.char_txt.Statement.{statement}
 use Rattle.items.proofs.char_txt.Tie as tie
 
-record-at-requires : tie.Need-record-at-requires
-record-at-requires c κs = search needs
+within : (s : tie.Start) → typeEnd (s .args .table .now) (s .args .at) ≤ length (s .args .table .now)
+within s = type-within (s .args .table .now) (s .args .at) (s .pre .5)
 
-enum-known-p : tie.Need-enum-known-p
-enum-known-p c = search needs
+-- a record without rom
+abbrev start : tie.Else1 → tie.Start
+start c = c .before .before .before .before .before
 
-add-copy-part : tie.Need-add-copy-part
-add-copy-part c =
-    let at-p = c .before .before .before .before .before .before in
-    let within = inside-told (at-p .before .before .record-at .ensures .1) (at-p .p .given .1) .rom-within in
-    omega (arith, within)
+own : (c : tie.Else1) → let a = start c .args in charTxt (chars (a .line .now)) (a .table .now) (a .at) (a .start) (a .end) ≡ between (chars (a .line .now)) (a .start) (a .end)
+own c = let s = start c in own-part (s .args .table .now) (s .args .at) (s .pre .5) (chars (s .args .line .now)) (s .args .start) (s .args .end) (c .if1 .left)
 
-copy-part-requires : tie.Need-copy-part-requires
-copy-part-requires c κs =
-    let at-p = c .before .before .before .before .before .before in
-    let a = at-p .before .before .before .before .before .before .args in
-    let p = at-p .p .given .0 .0 in
-    let within = inside-told (at-p .before .before .record-at .ensures .1) (at-p .p .given .1) .rom-within in
-    let fits = at-p .before .before .before .before .before .before .pre .4 in
-    let txt = txt-rom (a .table .now) (a .at) (at-p .before .before .record-at .ensures .0) p (at-p .p .given .1) (chars (a .line .now)) (a .start) (a .end) (c .before .before .before .if1 .taken) in
-    let long = length-part (a .table .now) (p .rom .at) (p .rom .len) within in
-    (omega arith, within, omega (arith, fits, ap length txt, long))
+add-if1 : tie.Need-add-if1
+add-if1 c = let s = c .before .before .before in omega (arith, within s, s .good .1 .1 .1 .0)
+
+shared-slice-read-if1 : tie.Need-shared-slice-read-if1
+shared-slice-read-if1 c = omega (arith, within (c .before .before .before .before))
+
+rom-at-requires : tie.Need-rom-at-requires
+rom-at-requires c κs = search needs
+
+put-text-requires : tie.Need-put-text-requires
+put-text-requires c κs = let s = c .before .before .before .before .before .before .before in omega (arith, ap length (c .rom-at .ensures (chars (s .args .line .now)) (s .args .start) (s .args .end)), s .pre .4)
 
 same-length : tie.Need-same-length
-same-length c = c .before .before .copy-part .kept .0
+same-length c = c .before .before .put-text .kept .0
 
 returns : tie.Need-returns
-returns c =
-    let at-rom = c .before .before .before .before in
-    let at-p = at-rom .before .before .before .before .before in
-    let a = at-p .before .before .before .before .before .before .args in
-    let p = at-p .p .given .0 .0 in
-    let txt = txt-rom (a .table .now) (a .at) (at-p .before .before .record-at .ensures .0) p (at-p .p .given .1) (chars (a .line .now)) (a .start) (a .end) (at-rom .before .before .if1 .taken) in
-    front-is (part-to (a .table .now) (p .rom .at) (p .rom .len) ∙ sym txt) (c .before .before .copy-part .ensures)
+returns c = let r = c .before .before .before in front-is (r .rom-at .ensures _ _ _) (c .before .before .put-text .ensures)
 
-mul-copy-part : tie.Need-mul-copy-part
-mul-copy-part c = search needs
+own-at-requires : tie.Need-own-at-requires
+own-at-requires c κs = search needs
 
-element-copy-out-copy-part : tie.Need-element-copy-out-copy-part
-element-copy-out-copy-part c = search needs
-
-mul-copy-part-2 : tie.Need-mul-copy-part-2
-mul-copy-part-2 c = search needs
-
-element-copy-out-copy-part-2 : tie.Need-element-copy-out-copy-part-2
-element-copy-out-copy-part-2 c = search needs
-
-copy-part-requires-2 : tie.Need-copy-part-requires-2
-copy-part-requires-2 c κs =
-    let at-else = c .before .before .before in
-    let at-p = at-else .before .before .before in
-    let start = at-p .before .before .before .before .before .before in
-    let a = start .args in
-    let txt = txt-own (a .table .now) (a .at) (at-p .before .before .record-at .ensures .0) (at-p .p .given .0 .0) (at-p .p .given .1) (chars (a .line .now)) (a .start) (a .end) (at-else .if1 .left) in
-    let s = spans (a .line .now) (a .offs .now) (a .start) (a .end) (start .pre .0) (start .pre .1) (start .pre .2) in
-    (s .rises, s .within, omega (arith, start .pre .4, ap length txt, s .long))
-
-enum-told : tie.Need-enum-told
-enum-told c = search needs
+put-text-requires-2 : tie.Need-put-text-requires-2
+put-text-requires-2 c κs = let e = c .before .before in omega (arith, ap length (c .own-at .ensures), ap length (own e), start e .pre .4)
 
 same-length-2 : tie.Need-same-length-2
-same-length-2 c = c .before .before .copy-part2 .kept .0
+same-length-2 c = c .before .before .put-text2 .kept .0
 
 returns-2 : tie.Need-returns-2
-returns-2 c =
-    let at-else = c .before .before .before .before .before .before in
-    let at-p = at-else .before .before .before in
-    let start = at-p .before .before .before .before .before .before in
-    let a = start .args in
-    let txt = txt-own (a .table .now) (a .at) (at-p .before .before .record-at .ensures .0) (at-p .p .given .0 .0) (at-p .p .given .1) (chars (a .line .now)) (a .start) (a .end) (at-else .if1 .left) in
-    front-is (part-places (a .line .now) (a .offs .now) (a .start) (a .end) (start .pre .0) (start .pre .1) (start .pre .2) ∙ sym txt) (c .before .before .copy-part2 .ensures)
-
-returns-3 : tie.Need-returns-3
-returns-3 c =
-    let a = c .before .before .before .before .before .before .args in
-    front-none (a .buf .now) (txt-fault (a .table .now) (a .at) (c .before .before .record-at .ensures .0) (chars (a .line .now)) (a .start) (a .end) (c .enum-told .given .1))
+returns-2 c = let r = c .before .before .before in front-is (r .own-at .ensures ∙ sym (own (r .before .before))) (c .before .before .put-text2 .ensures)
 
 pub char-txt-spec : {M : Type 1} → statement M
 char-txt-spec =
     tie.close
     (tie.spec
-    record-at-requires
-    enum-known-p
-    add-copy-part
-    copy-part-requires
+    add-if1
+    shared-slice-read-if1
+    rom-at-requires
+    put-text-requires
     same-length
     returns
-    mul-copy-part
-    element-copy-out-copy-part
-    mul-copy-part-2
-    element-copy-out-copy-part-2
-    copy-part-requires-2
-    enum-told
+    own-at-requires
+    put-text-requires-2
     same-length-2
-    returns-2
-    returns-3)
+    returns-2)

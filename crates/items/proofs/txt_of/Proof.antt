@@ -5,7 +5,7 @@ use native.Mathlib.Omega.{arith}
 use native.Mathlib.Nat.{zero-add}
 use Rattle.text.specs.Text.{chars}
 use Rattle.whole.proofs.DecimalLaws.{length-padded, length-decimal-top}
-use Rattle.items.proofs.TextLaws.{front-is, txt-char, txt-digits, txt-value, places-of, char-fits, value-is}
+use Rattle.items.proofs.TextLaws.{front-is, txt-char, txt-digits, txt-value, rooted-char, places-of, char-fits, value-is}
 use Rattle.items.proofs.txt_of.Statement.{statement}
 use Rattle.items.proofs.txt_of.Tie as tie
 
@@ -16,7 +16,8 @@ char-txt-requires c κs =
     let (i, is) = start .pre .1 in
     let places = places-of (a .line .now) (a .table .now) (a .x) i is in
     let fits = char-fits (a .line .now) (a .table .now) (a .x) i is (start .pre .2) (c .before .if1 .taken) in
-    (start .pre .0, places .0, places .1, start .pre .2, omega (arith, fits, start .pre .3))
+    let legal = rooted-char (a .table .now) (a .x) i (is .is) (is .sound .rooted) (c .before .if1 .taken) in
+    (start .pre .0, places .0, places .1, start .pre .2, omega (arith, fits, start .pre .3), legal)
 
 same-length : tie.Need-same-length
 same-length c = c .before .before .char-txt .kept .0

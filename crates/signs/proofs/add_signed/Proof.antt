@@ -35,7 +35,7 @@ sign-type-requires : tie.Need-sign-type-requires
 sign-type-requires c κs =
     let s = c .before .before .before .before in
     let (i, is) = s .pre .0 .item in
-    (omega arith, (i, is .is, type-short (chars (s .args .line .now)) (s .args .table .now) i (is .sound)))
+    (omega arith, (i, is .is, type-short (chars (s .args .line .now)) (s .args .table .now) i (is .sound), is .sound .rooted))
 
 slice-aggregate-sign-txt : tie.Need-slice-aggregate-sign-txt
 slice-aggregate-sign-txt c = search needs

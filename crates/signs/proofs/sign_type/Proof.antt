@@ -15,7 +15,7 @@ room : (c : tie.After-slice-known2) → 62 ≤ length (c .before .before .type-o
 room c = let p = c .before .before .before .before .before .before .pre in omega (arith, front-length (c .before .before .type-of .ensures (p .1 .0) (p .1 .1)), p .0)
 
 type-of-requires : tie.Need-type-of-requires
-type-of-requires c κs = search needs
+type-of-requires c κs = let p = c .before .before .before .pre in ((p .1 .0, p .1 .1, p .1 .3), omega (arith, p .0))
 
 slice-write-buf : tie.Need-slice-write-buf
 slice-write-buf c = omega (arith, small c, room c)

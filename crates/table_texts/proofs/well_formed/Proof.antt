@@ -1,11 +1,18 @@
--- `table_texts::well_formed` meets its contract: what stands before the rest is well-formed.
+-- `table_texts::well_formed` meets its contract: a string that is told to be ASCII is well-formed; of any other what stands before the rest is.
 use mathlib.Core.Path.{sym, _∙_}
 use Rattle.dicts.proofs.ContentLaws.{behind-ascii}
+use Rattle.table_texts.proofs.MaskLaws.{ascii-formed}
 use Rattle.table_texts.proofs.ThreeLaws.{threes-all}
 use Rattle.fields.specs.Part.{part}
 use borrow.Author.Needs.{needs}
 use Rattle.table_texts.proofs.well_formed.Statement.{statement}
 use Rattle.table_texts.proofs.well_formed.Tie as tie
+
+short-ascii-requires : tie.Need-short-ascii-requires
+short-ascii-requires c κs = search needs
+
+returns : tie.Need-returns
+returns c = let p = c .before .before .before .pre in sym (ascii-formed _ _ _ p (c .before .short-ascii .ensures (c .if1 .taken)))
 
 add-end : tie.Need-add-end
 add-end c = search needs
@@ -14,12 +21,12 @@ ascii-end-requires : tie.Need-ascii-end-requires
 ascii-end-requires c κs = search needs
 
 threes-end-requires : tie.Need-threes-end-requires
-threes-end-requires c κs = (c .ascii-end .ensures .before, c .before .before .before .pre)
+threes-end-requires c κs = (c .ascii-end .ensures .before, c .before .before .before .before .before .pre)
 
-returns : tie.Need-returns
-returns c =
+returns-2 : tie.Need-returns-2
+returns-2 c =
     let a = c .before .before in
-    sym (behind-ascii _ _ _ _ (a .before .before .before .pre) (a .ascii-end .ensures) ∙ threes-all _ _ _ _ (c .before .threes-end .ensures) (c .if1 .taken))
+    sym (behind-ascii _ _ _ _ (a .before .before .before .before .before .pre) (a .ascii-end .ensures) ∙ threes-all _ _ _ _ (c .before .threes-end .ensures) (c .if2 .taken))
 
 sub-well-formed : tie.Need-sub-well-formed
 sub-well-formed c = search needs
@@ -33,23 +40,25 @@ part-well-formed-end c = search needs
 well-formed-requires : tie.Need-well-formed-requires
 well-formed-requires c κs = search needs
 
-returns-2 : tie.Need-returns-2
+returns-3 : tie.Need-returns-3
 unfolding part
-returns-2 c =
+returns-3 c =
     let k = c .before .before .before in
     let a = k .before in
-    c .well-formed .ensures ∙ sym (behind-ascii _ _ _ _ (a .before .before .before .pre) (a .ascii-end .ensures) ∙ k .threes-end .ensures .same)
+    c .well-formed .ensures ∙ sym (behind-ascii _ _ _ _ (a .before .before .before .before .before .pre) (a .ascii-end .ensures) ∙ k .threes-end .ensures .same)
 
 pub well-formed-spec : {M : Type 1} → statement M
 well-formed-spec =
     tie.close
     (tie.spec
+    short-ascii-requires
+    returns
     add-end
     ascii-end-requires
     threes-end-requires
-    returns
+    returns-2
     sub-well-formed
     part-well-formed-start
     part-well-formed-end
     well-formed-requires
-    returns-2)
+    returns-3)

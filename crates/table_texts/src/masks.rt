@@ -5,7 +5,7 @@ ghost use Prim.Native.Nat.{ℕ, _+_, _≤_, _<_};
 ghost use lib.ListN.{length, getD};
 ghost use Rattle.dicts.specs.Answers.{Ascii};
 
-fn low_eight(s: &[u8], at: usize) -> bool
+pub fn low_eight(s: &[u8], at: usize) -> bool
     requires { ⌜ at + 8 ≤ length (now s) ⌝ }
     requires bytes { ⌜ ((i : ℕ) → getD (now s) i 0 < 256) ⌝ }
     ensures { λ r. ⌜ (r ≡ true → Ascii (now (s .entry)) at (at + 8) (at + 8)) ⌝ }

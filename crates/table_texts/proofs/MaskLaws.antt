@@ -1,5 +1,5 @@
 -- Laws of ASCII bytes: looked at by a mask, and joined. No contract cites this file.
--- In order: bytes whose highest bits a mask finds clear; the bytes from an offset on; two parts that meet, and three; a part of them; UTF-8.
+-- In order: bytes whose highest bits a mask finds clear; the bytes from an offset on; two parts that meet, and three; a part of them, or at their end; UTF-8.
 use mathlib.Core.Path.{_≡_, refl, sym, ap, _∙_, subst}
 use mathlib.Core.Bool.{true}
 use mathlib.Core.List.{List, [], _∷_}
@@ -81,6 +81,10 @@ module _ (s : List ℕ) where
       let m = at + (n - 8) / 2 in
       let e : at + (n - 8) + 8 ≡ at + n = omega arith in
       ascii-join at (m + 8) (at + (n - 8)) (at + n) (omega arith) (omega arith) (ascii-join at (at + 8) m (m + 8) (omega arith) (omega arith) p q) (subst (λ (x : ℕ). Ascii s (at + (n - 8)) x x) e r)
+
+  -- a part that ends with the w bytes that are looked at
+  pub ascii-ending : (at n w : ℕ) → n ≤ w → w ≤ at + n → Ascii s (at + n - w) (at + n - w + w) (at + n - w + w) → Ascii s at (at + n) (at + n)
+  ascii-ending at n w h k p = record { behind = omega arith; before = omega arith; ascii = λ i z l. p .ascii i (omega arith) (omega arith) }
 
   pub ascii-part : (a b c d : ℕ) → a ≤ c → c ≤ d → d ≤ b → Ascii s a b b → Ascii s c d d
   ascii-part a b c d h k l p = record { behind = k; before = omega arith; ascii = λ i z w. p .ascii i (omega arith) (omega arith) }
