@@ -1,5 +1,5 @@
--- Laws of `specs/Lookup.antt` and of rising records. No contract cites this file.
--- In order: dropBelow and a turn of `seek`; who looks up in rising order may go on from where he is; the first record decides; a table's records rise.
+-- Laws of rising records. No contract cites this file.
+-- In order: the records from a code point on; among them it is found as among all; the first record decides; a table's records rise.
 use mathlib.Core.Path.{_≡_, refl, sym, ap, _∙_}
 use mathlib.Core.Bool.{Bool, true, false, cond, _&&_}
 use mathlib.Core.List.{List, [], _∷_}
@@ -12,43 +12,15 @@ use borrow.Author.Tests.{le-leb, lt-ltb, le-ltb, ltb-true, ltb-false, leb-true, 
 use Rattle.dicts.specs.Table.{Text, Record, Table, find}
 use Rattle.dicts.specs.Layout.{Field, Is, Fault, number, readRecord, recordsAt}
 use Rattle.dicts.specs.Check.{Checked, Fine, Refused, thenItem, item, legalRecord, legalCodePoint, rising, readList, readRecords, readTable}
-use Rattle.dicts.specs.Answers.{recordOf}
-use Rattle.dicts.specs.Lookup.{recordsOf, dropBelow}
-use Rattle.dicts.specs.declared.layout.NumProp.{NumProp}
-use Rattle.dicts.specs.declared.lookup.Records.{Records}
-use Rattle.dicts.specs.declared.lookup.Records.the-variants.{Next, End}
 
--- ---- dropBelow, one record at a time
-pub drop-below : (c : ℕ) (r : Record) (rs : List Record) → r .code-point < c → dropBelow c (r ∷ rs) ≡ dropBelow c rs
-unfolding dropBelow
-drop-below c r rs h = simp (lt-ltb (r .code-point) c h)
+-- ---- the records from the first on whose code point is not below c
+unfoldable pub dropBelow : ℕ → List Record → List Record
+dropBelow c [] = []
+dropBelow c (r ∷ rs) = cond (ltb (r .code-point) c) (dropBelow c rs) (r ∷ rs)
 
 pub drop-stops : (c : ℕ) (r : Record) (rs : List Record) → c ≤ r .code-point → dropBelow c (r ∷ rs) ≡ r ∷ rs
 unfolding dropBelow
 drop-stops c r rs h = simp (le-ltb (r .code-point) c h)
-
--- ---- a turn of `seek`: here the walk stands, r is where it goes on
-module _ (s : List ℕ) (c : ℕ) {here : Records} where
-  pub seek-ends : {l : List Record} → here ≡ End → dropBelow c (recordsOf s here) ≡ l → recordsOf s here ≡ l
-  unfolding dropBelow
-  seek-ends e h = ap (recordsOf s) e ∙ ap (λ (x : Records). dropBelow c (recordsOf s x)) (sym e) ∙ h
-
-  module _ {p : NumProp} {n : ℕ} (e : here ≡ Next p n) where
-    pub seek-stops : {l : List Record} → c ≤ p .«code_point» → dropBelow c (recordsOf s here) ≡ l → recordOf s p ∷ recordsAt n s (p .next) ≡ l
-    unfolding recordOf
-    seek-stops k h = sym (drop-stops c (recordOf s p) (recordsAt n s (p .next)) k) ∙ ap (λ (x : Records). dropBelow c (recordsOf s x)) (sym e) ∙ h
-
-    module _ (r : Records) (f : recordsOf s r ≡ recordsAt n s (p .next)) where
-      pub seek-turn : {l : List Record} → p .«code_point» < c → dropBelow c (recordsOf s here) ≡ l → dropBelow c (recordsOf s r) ≡ l
-      unfolding recordOf
-      seek-turn k h =
-          ap (dropBelow c) f ∙ sym (drop-below c (recordOf s p) (recordsAt n s (p .next)) k) ∙ ap (λ (x : Records). dropBelow c (recordsOf s x)) (sym e) ∙ h
-
-      pub seek-less : length (recordsOf s r) < length (recordsOf s here)
-      seek-less = rw (f, e) (omega arith)
-
-pub sought : (s : List ℕ) (c : ℕ) {r h : Records} {x y : List Record} → recordsOf s r ≡ dropBelow c x → x ≡ y → r ≡ h → recordsOf s h ≡ dropBelow c y
-sought s c e f t = ap (recordsOf s) (sym t) ∙ e ∙ ap (dropBelow c) f
 
 by : {A : Type 0} (P : A → Type 0) (b : Bool) {x y : A} → (b ≡ true → P x) → (b ≡ false → P y) → P (cond b x y)
 by P true f g = f refl
@@ -130,15 +102,8 @@ module _ (c : ℕ) (l : List Record) (h : rising 0 l ≡ true) where
         let up : rising 0 (r ∷ rs) ≡ true = rw e (rising-dropped c 0 l h) in
         sym (first-decides c 0 r rs up (dropped-head c l e)) ∙ ap (λ (x : List Record). find x c) e ∙ find-dropped c c l (omega arith)
 
-    pub found-is : r .code-point ≡ c → some r ≡ find l c
-    found-is q = simp (eq-eqb (r .code-point) c q) at decided
-
     pub found-other : (r .code-point ≡ c → ⊥) → none ≡ find l c
     found-other q = simp (ne-eqb (r .code-point) c q) at decided
-
-  pub found-none : [] ≡ dropBelow c l → none ≡ find l c
-  unfolding find
-  found-none e = ap (λ (x : List Record). find x c) e ∙ find-dropped c c l (omega arith)
 
 -- ---- a table's records rise
 pub item-fine : {A : Type 0} (at : ℕ) (legal : A → Bool) (f : Field A) {a : A} {next : ℕ} → item at legal f ≡ Fine a next → (f ≡ Is a next) × (legal a ≡ true)

@@ -2,8 +2,8 @@
 --     partOf s p        the bytes of a part
 --     recordOf s p      the record that a NumProp stands for
 --     tableOf s h       the table that a shape stands for
---     textField, optText, numbersField, recordField   an answer as a field (`specs/Layout.antt`)
---     endOf             checked items as an answer that keeps no values; recordItem, tableAnswer: an answer as checked items
+--     textField, optText   an answer as a field (`specs/Layout.antt`)
+--     endOf             checked items as an answer that keeps no values; tableAnswer: an answer as a checked table
 --     Within, Inside    a part, the parts of a NumProp lie within the bytes
 use Prim.Native.Nat.{ℕ, _+_, _≤_, _<_}
 use mathlib.Core.Bool.{Bool, true, false, cond}
@@ -21,15 +21,9 @@ use Rattle.dicts.specs.declared.layout.Part.{Part}
 use Rattle.dicts.specs.declared.layout.TextAt.{TextAt}
 use Rattle.dicts.specs.declared.layout.TextAt.the-variants as TextAt
 use Rattle.dicts.specs.declared.layout.Numbers.{Numbers}
-use Rattle.dicts.specs.declared.layout.NumbersAt.{NumbersAt}
-use Rattle.dicts.specs.declared.layout.NumbersAt.the-variants as NumbersAt
 use Rattle.dicts.specs.declared.layout.NumProp.{NumProp}
-use Rattle.dicts.specs.declared.layout.RecordAt.{RecordAt}
-use Rattle.dicts.specs.declared.layout.RecordAt.the-variants as RecordAt
 use Rattle.dicts.specs.declared.shape.Items.{Items}
 use Rattle.dicts.specs.declared.shape.Items.the-variants as Items
-use Rattle.dicts.specs.declared.shape.RecordItem.{RecordItem}
-use Rattle.dicts.specs.declared.shape.RecordItem.the-variants as RecordItem
 use Rattle.dicts.specs.declared.shape.Shape.{Shape}
 use Rattle.dicts.specs.declared.shape.TableCheck.{TableCheck}
 use Rattle.dicts.specs.declared.shape.TableCheck.the-variants as TableCheck
@@ -61,20 +55,12 @@ numbersOf m n = record {
   mult = optionally (bit m 4) (n .mult);
 }
 
-abbrev pub numbersField : ℕ → NumbersAt → Field Layout.Numbers
-numbersField m (NumbersAt.Numbers n) = Is (numbersOf m n) (n .next)
-numbersField m NumbersAt.Fault = Layout.Fault
-
 unfoldable pub recordOf : List ℕ → NumProp → Record
 recordOf s p =
     Layout.recordWith (p .«code_point») (p .map) (partOf s (p .«num_type»))
     (optionally (bit (p .map) 0) (partOf s (p .rom)))
     (numbersOf (p .map) (p .numbers))
     (optionally (bit (p .map) 5) (partOf s (p .script)))
-
-abbrev pub recordField : List ℕ → RecordAt → Field Record
-recordField s (RecordAt.Record p) = Is (recordOf s p) (p .next)
-recordField s RecordAt.Fault = Layout.Fault
 
 -- ---- what lies within the bytes
 abbrev pub Within : List ℕ → Part → Type 0
@@ -89,10 +75,6 @@ abbrev pub TextWithin : List ℕ → TextAt → Type 0
 TextWithin s (TextAt.Text p next) = Within s p
 TextWithin s TextAt.Fault = Unit {0}
 
-abbrev pub RecordWithin : List ℕ → RecordAt → Type 0
-RecordWithin s (RecordAt.Record p) = Inside s p
-RecordWithin s RecordAt.Fault = Unit {0}
-
 -- the bytes from an offset on up to r, within those up to end, are ASCII
 pub record Ascii (s : List ℕ) (from end r : ℕ) : Type 0 where
   pub behind : from ≤ r
@@ -103,10 +85,6 @@ pub record Ascii (s : List ℕ) (from end r : ℕ) : Type 0 where
 abbrev pub endOf : {A : Type 0} → Checked A → Items
 endOf (Fine a next) = Items.End next
 endOf (Check.Refused number at) = Items.Refused number at
-
-abbrev pub recordItem : List ℕ → ℕ → RecordItem → Checked Record
-recordItem s at (RecordItem.Record p) = Fine (recordOf s p) (p .next)
-recordItem s at (RecordItem.Refused number) = Check.Refused number at
 
 unfoldable pub tableOf : List ℕ → Shape → Table
 tableOf s h = record {

@@ -3,4 +3,3 @@ pub mod Table
 pub mod Layout
 pub mod Check
 pub mod Answers
-pub mod Lookup

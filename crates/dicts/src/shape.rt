@@ -1,16 +1,9 @@
 // What the check of a table answers (crate `table_check`): the table's shape, or a refusal.
-use crate::layout::NumProp;
 
 // What checking items gives: the offset behind them, or the refusal's number and offset.
 pub enum Items {
     End(usize),
     Refused(u8, usize),
-}
-
-// A record, or the refusal's number.
-pub enum RecordItem {
-    Record(NumProp),
-    Refused(u8),
 }
 
 // Where each list begins, at its count; how many records there are and where they begin.

@@ -1,8 +1,8 @@
 // The whole table: the first faulty item decides, its layout (4) before its content (5).
 ghost use mathlib.Core.Path.{_≡_};
-ghost use Rattle.dicts.specs.Layout.{text, readRecord};
-ghost use Rattle.dicts.specs.Check.{item, legalMark, legalRecord, readTexts, readList, readRecords, readTable};
-ghost use Rattle.dicts.specs.Answers.{endOf, recordItem, tableAnswer};
+ghost use Rattle.dicts.specs.Layout.{text};
+ghost use Rattle.dicts.specs.Check.{item, legalMark, readTexts, readList, readRecords, readTable};
+ghost use Rattle.dicts.specs.Answers.{endOf, tableAnswer};
 ghost use lib.ListN.{length};
 ghost use Rattle.char_index.specs.Index.{IndexIf};
 ghost use Rattle.table_check.specs.Step.{StepIs};
@@ -10,15 +10,14 @@ ghost use Rattle.table_check.specs.Indexed.{TableIndexed};
 use char_index::Index;
 use char_index::Rest;
 use char_index::enter;
-use dicts::layout::RecordAt;
 use dicts::layout::TextAt;
-use dicts::layout::record_at;
 use dicts::layout::text_at;
 use dicts::shape::Items;
-use dicts::shape::RecordItem;
 use dicts::shape::Shape;
 use dicts::shape::TableCheck;
 use table_content::legal_record;
+use table_layout::RecordAt;
+use table_layout::record_at;
 use table_plain::Plain;
 use table_plain::plain_at;
 use table_texts::legal_mark;
@@ -76,18 +75,18 @@ fn list_end(s: &[u8], at: usize) -> Items
 }
 
 // A record of any form.
-fn any_item(s: &[u8], at: usize, least: u64) -> RecordItem
-    ensures { λ r. ⌜ recordItem (now (s .entry)) at r ≡ item at (legalRecord least) (readRecord (now (s .entry)) at) ⌝ }
+fn any_item(s: &[u8], at: usize, least: u64) -> Step
+    ensures { λ r. ⌜ StepIs (now (s .entry)) at least r ⌝ }
 {
     match record_at(s, at) {
         RecordAt::Record(p) => {
             if legal_record(s, p, least) {
-                RecordItem::Record(p)
+                Step::Next(p.code_point, p.next)
             } else {
-                RecordItem::Refused(5)
+                Step::Refused(5)
             }
         }
-        RecordAt::Fault => RecordItem::Refused(4),
+        RecordAt::Fault => Step::Refused(4),
     }
 }
 
@@ -97,10 +96,7 @@ fn record_item(s: &[u8], at: usize, least: u64) -> Step
 {
     match plain_at(s, at, least) {
         Plain::Legal(code, next) => Step::Next(code, next),
-        Plain::Other => match any_item(s, at, least) {
-            RecordItem::Record(p) => Step::Next(p.code_point, p.next),
-            RecordItem::Refused(number) => Step::Refused(number),
-        },
+        Plain::Other => any_item(s, at, least),
     }
 }
 

@@ -1,9 +1,7 @@
 -- `table_check::record_item` meets its contract: a record that is told by few tests is legal, and of any other the reading in full decides.
 use mathlib.Core.Path.{subst}
-use Rattle.dicts.specs.Answers.{recordItem}
-use Rattle.dicts.proofs.LayoutLaws.{told}
 use Rattle.table_plain.specs.Plain.{PlainIs}
-use Rattle.table_check.proofs.StepLaws.{plain-passed, any-passed}
+use Rattle.table_check.proofs.StepLaws.{plain-passed}
 use borrow.Author.Needs.{needs}
 use Rattle.table_check.proofs.record_item.Statement.{statement}
 use Rattle.table_check.proofs.record_item.Tie as tie
@@ -20,20 +18,11 @@ enum-told c = search needs
 any-item-requires : tie.Need-any-item-requires
 any-item-requires c κs = search needs
 
-enum-known-p : tie.Need-enum-known-p
-enum-known-p c = search needs
-
-enum-known-number : tie.Need-enum-known-number
-enum-known-number c = search needs
-
 returns : tie.Need-returns
 returns c = plain-passed _ _ _ (subst (PlainIs _ _ _) (c .before .code .given .1) (c .before .before .before .plain-at .ensures))
 
 returns-2 : tie.Need-returns-2
-returns-2 c = let a = c .before .before .before in any-passed _ _ _ (c .before .p .given .0 .0) (told (recordItem (a .before .before .before .before .before .args .s .now) (a .before .before .before .before .before .args .at)) (a .any-item .ensures) (c .before .p .given .1))
-
-returns-3 : tie.Need-returns-3
-returns-3 c = let a = c .before .before .before in told (recordItem (a .before .before .before .before .before .args .s .now) (a .before .before .before .before .before .args .at)) (a .any-item .ensures) (c .before .number .given .1)
+returns-2 c = c .any-item .ensures
 
 pub record-item-spec : {M : Type 1} → statement M
 record-item-spec =
@@ -43,8 +32,5 @@ record-item-spec =
     enum-known-code
     enum-told
     any-item-requires
-    enum-known-p
-    enum-known-number
     returns
-    returns-2
-    returns-3)
+    returns-2)

@@ -1,8 +1,8 @@
--- `dicts::layout::number_if` meets its contract: a number that is there is `u64_at`'s.
+-- `table_layout::number_if` meets its contract: a number that is there is `u64_at`'s.
 use mathlib.Core.Path.{sym}
 use borrow.Author.Needs.{needs}
-use Rattle.dicts.proofs.layout.number_if.Statement.{statement}
-use Rattle.dicts.proofs.layout.number_if.Tie as tie
+use Rattle.table_layout.proofs.number_if.Statement.{statement}
+use Rattle.table_layout.proofs.number_if.Tie as tie
 
 u64-at-requires : tie.Need-u64-at-requires
 u64-at-requires c κs = c .before .before .pre (c .if1 .taken)

@@ -1,12 +1,12 @@
--- `dicts::layout::numbers_at` meets its contract: the bytes that the map asks for are there, or the first number that lacks some is at fault.
+-- `table_layout::numbers_at` meets its contract: the bytes that the map asks for are there, or the first number that lacks some is at fault.
 use mathlib.Core.Path.{sym}
 use Prim.Native.Nat.{_+_, _*_, _/_, _%_, _≤_, _<_}
 use native.Mathlib.Omega.{arith}
 use lib.ListN.{length}
 use borrow.Author.Needs.{needs}
 use Rattle.dicts.proofs.LayoutLaws.{numbers-fit, value-room, numerator-room, denominator-room, base-room, mult-room, ratio-fits, denominator-fits, base-fits, mult-fits, end-fits, numbers-are, numbers-cut}
-use Rattle.dicts.proofs.layout.numbers_at.Statement.{statement}
-use Rattle.dicts.proofs.layout.numbers_at.Tie as tie
+use Rattle.table_layout.proofs.numbers_at.Statement.{statement}
+use Rattle.table_layout.proofs.numbers_at.Tie as tie
 
 -- where the test of the length leads on, the numbers end within the bytes
 fit : (c : tie.Else1) → let a = c .before .before .args in

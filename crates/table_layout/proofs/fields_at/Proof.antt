@@ -1,13 +1,14 @@
--- `dicts::layout::fields_at` meets its contract: what each call read is what the definition reads there, and where one fails it fails.
+-- `table_layout::fields_at` meets its contract: what each call read is what the definition reads there, and where one fails it fails.
 use mathlib.Core.Path.{_≡_, sym}
 use Prim.Native.Nat.{_≤_}
 use lib.ListN.{length}
 use borrow.Author.Needs.{needs}
 use Rattle.dicts.specs.Layout.{Is, bit, text, optional, readNumbers}
-use Rattle.dicts.specs.Answers.{partOf, optionally, textField, optText, numbersOf, numbersField, recordOf}
+use Rattle.dicts.specs.Answers.{partOf, optionally, textField, optText, numbersOf, recordOf}
+use Rattle.table_layout.specs.Answers.{numbersField}
 use Rattle.dicts.proofs.LayoutLaws.{type-fault, rom-fault, numbers-fault, script-fault, fields-are, text-ends, opt-text-ends, told, ends-at, within-told}
-use Rattle.dicts.proofs.layout.fields_at.Statement.{statement}
-use Rattle.dicts.proofs.layout.fields_at.Tie as tie
+use Rattle.table_layout.proofs.fields_at.Statement.{statement}
+use Rattle.table_layout.proofs.fields_at.Tie as tie
 
 type-read : (c : tie.After-known-told) → let a = c .before .before .before .before .before .args in
     text (a .s .now) (a .at) ≡ Is (partOf (a .s .now) (c .before .num-type .given .0 .0)) (c .before .num-type .given .0 .1 .0)

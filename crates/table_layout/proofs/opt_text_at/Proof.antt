@@ -1,11 +1,11 @@
--- `dicts::layout::opt_text_at` meets its contract: a string that is there is `text_at`'s; an absent one has no bytes.
+-- `table_layout::opt_text_at` meets its contract: a string that is there is `text_at`'s; an absent one has no bytes.
 use mathlib.Core.Path.{sym}
 use native.Mathlib.Omega.{arith}
 use borrow.Author.Needs.{needs}
 use Rattle.dicts.specs.Layout.{text}
 use Rattle.dicts.proofs.LayoutLaws.{opt-text-there, opt-absent}
-use Rattle.dicts.proofs.layout.opt_text_at.Statement.{statement}
-use Rattle.dicts.proofs.layout.opt_text_at.Tie as tie
+use Rattle.table_layout.proofs.opt_text_at.Statement.{statement}
+use Rattle.table_layout.proofs.opt_text_at.Tie as tie
 
 text-at-requires : tie.Need-text-at-requires
 text-at-requires c κs = search needs

@@ -1,10 +1,10 @@
--- `dicts::layout::record_at` meets its contract: the code point and the map are there and bit 7 isn't, or the record is at fault.
+-- `table_layout::record_at` meets its contract: the code point and the map are there and bit 7 isn't, or the record is at fault.
 use mathlib.Core.Path.{sym}
 use native.Mathlib.Omega.{arith}
 use borrow.Author.Needs.{needs}
 use Rattle.dicts.proofs.LayoutLaws.{record-cut, record-is, record-bit-7}
-use Rattle.dicts.proofs.layout.record_at.Statement.{statement}
-use Rattle.dicts.proofs.layout.record_at.Tie as tie
+use Rattle.table_layout.proofs.record_at.Statement.{statement}
+use Rattle.table_layout.proofs.record_at.Tie as tie
 
 returns : tie.Need-returns
 returns c = (sym (record-cut _ _ (omega arith)), tt)
