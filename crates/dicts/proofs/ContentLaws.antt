@@ -1,27 +1,20 @@
 -- Laws of the content of `specs/Check.antt`, by the way that a test goes. No contract cites this file.
--- In order: code points; ASCII and UTF-8; the digit rule; a record.
+-- In order: code points; ASCII and UTF-8; a string of a list.
 use mathlib.Core.Path.{_≡_, refl, sym, ap, _∙_}
 use mathlib.Core.Bool.{Bool, true, false, cond, _&&_, _||_, and-false, and-true}
 use mathlib.Core.List.{List, [], _∷_, _++_}
-use mathlib.Core.Option.{Option, none, some}
 use Prim.Native.Nat.{ℕ, zero, suc, _+_, _-_, _≤_, _<_}
 use native.Mathlib.Omega.{arith}
 use lib.ListN.{length, getD, drop, take}
-use lib.Seq.{drop-cons}
 use lib.Dec.{leb, ltb, eqb}
 use borrow.Author.Tests.{le-leb, lt-leb, lt-ltb, le-ltb}
 use Rattle.fields.specs.Part.{part}
 use Rattle.fields.proofs.PartLaws.{length-part, part-at, part-add}
-use Rattle.text.specs.Bytes.{same}
 use Rattle.text.specs.Text.{wellFormed, left, isNil}
 use Rattle.text.specs.Sequence.{scalar, encode}
-use Rattle.text.proofs.BytesLaws.{same-lengths}
 use Rattle.text.proofs.TextLaws.{left-cons}
-use Rattle.dicts.specs.Table.{Text}
-use Rattle.dicts.specs.Check.{legalMark, legalCodePoint, isDigitType, legalDigit, digitRule}
-use Rattle.dicts.specs.Answers.{optionally, partOf, recordOf, Within, Ascii}
-use Rattle.dicts.specs.Layout.{bit}
-use Rattle.dicts.specs.declared.layout.NumProp.{NumProp}
+use Rattle.dicts.specs.Check.{legalMark, legalCodePoint}
+use Rattle.dicts.specs.Answers.{Ascii}
 
 -- ---- code points
 module _ (least c : ℕ) where
@@ -75,53 +68,3 @@ module _ (s : List ℕ) (at n : ℕ) (w : at + n ≤ length s) where
   pub mark-is : (n ≡ 0 → ⊥) → wellFormed (part s at n) ≡ legalMark (part s at n)
   unfolding legalMark
   mark-is e = simp (length-part s at n w, lt-ltb 0 n (omega arith))
-
--- ---- the digit rule
-same-one : (s : List ℕ) (at y : ℕ) → at < length s → eqb (getD s at 0) y ≡ same (part s at 1) (y ∷ [])
-unfolding part same
-same-one s at y h = rw (drop-cons s at 0 h) (sym (and-true _))
-
-same-other : (s : List ℕ) (at n y : ℕ) → at + n ≤ length s → (n ≡ 1 → ⊥) → false ≡ same (part s at n) (y ∷ [])
-same-other s at n y w h = same-lengths _ _ (λ e. h (sym (length-part s at n w) ∙ e))
-
--- t says that the type is "digit", b that there is a value v
-no-value : (v : ℕ) (t : Bool) {b : Bool} (x : Option Text) → b ≡ false → true ≡ cond t (legalDigit (optionally b v) x) true
-unfolding legalDigit
-no-value v true x e = rw e
-no-value v false x e = refl
-
-large-value : (v : ℕ) (t b : Bool) (x : Option Text) → 9 < v → true ≡ cond t (legalDigit (optionally b v) x) true
-unfolding legalDigit
-large-value v true true none h = simp (lt-ltb 9 v h)
-large-value v true true (some x) h = simp (lt-ltb 9 v h)
-large-value v true false x h = refl
-large-value v false b x h = refl
-
-module _ (s : List ℕ) (p : NumProp) where
-  pub digit-no-value : bit (p .map) 1 ≡ false → true ≡ digitRule (recordOf s p)
-  unfolding digitRule recordOf
-  digit-no-value e = no-value (p .numbers .value) (isDigitType (partOf s (p .«num_type»))) (optionally (bit (p .map) 0) (partOf s (p .rom))) e
-
-  pub digit-large : 9 < p .numbers .value → true ≡ digitRule (recordOf s p)
-  unfolding digitRule recordOf
-  digit-large h = large-value (p .numbers .value) (isDigitType (partOf s (p .«num_type»))) (bit (p .map) 1) (optionally (bit (p .map) 0) (partOf s (p .rom))) h
-
-  pub digit-other : isDigitType (partOf s (p .«num_type»)) ≡ false → true ≡ digitRule (recordOf s p)
-  unfolding digitRule recordOf
-  digit-other e = rw e
-
-  module _ (is : isDigitType (partOf s (p .«num_type»)) ≡ true) (there : bit (p .map) 1 ≡ true) (h : p .numbers .value ≤ 9) where
-    pub digit-no-rom : bit (p .map) 0 ≡ false → false ≡ digitRule (recordOf s p)
-    unfolding digitRule recordOf legalDigit
-    digit-no-rom e = rw (is, there, e) (simp (le-ltb 9 (p .numbers .value) h))
-
-    rom-decides : bit (p .map) 0 ≡ true → same (partOf s (p .rom)) ((48 + p .numbers .value) ∷ []) ≡ digitRule (recordOf s p)
-    unfolding digitRule recordOf legalDigit
-    rom-decides e = rw (is, there, e) (simp (le-ltb 9 (p .numbers .value) h))
-
-    module _ (e : bit (p .map) 0 ≡ true) (w : Within s (p .rom)) where
-      pub digit-long-rom : (p .rom .len ≡ 1 → ⊥) → false ≡ digitRule (recordOf s p)
-      digit-long-rom l = same-other s (p .rom .at) (p .rom .len) _ w l ∙ rom-decides e
-
-      pub digit-rom : p .rom .len ≡ 1 → eqb (getD s (p .rom .at) 0) (48 + p .numbers .value) ≡ digitRule (recordOf s p)
-      digit-rom l = same-one s (p .rom .at) _ (omega arith) ∙ rw (← l) (rom-decides e)

@@ -1,5 +1,5 @@
 -- Laws of `specs/Layout.antt`, by the way that a field's tests go. No contract cites this file.
--- In order: numbers; strings; fields that may be absent; the numbers of a record, and room for them; a record; where fields end; what answers tell; items one after the other.
+-- In order: a field and what is behind it; numbers; strings; fields that may be absent; the numbers of a record, and room for them; a record; where fields end; what answers tell; items one after the other.
 use mathlib.Core.Path.{_≡_, refl, sym, ap, _∙_, subst}
 use mathlib.Core.Bool.{Bool, true, false, cond}
 use mathlib.Core.List.{List, [], _∷_}
@@ -23,6 +23,21 @@ use Rattle.dicts.specs.declared.layout.Part.{Part}
 use Rattle.dicts.specs.declared.layout.TextAt.{TextAt}
 use Rattle.dicts.specs.declared.layout.TextAt.the-variants as TextAt
 
+-- ---- a field that was read, and what is behind it
+pub no-fault : {A P : Type 0} {f : Field A} {a : A} {next : ℕ} → f ≡ Fault → f ≡ Is a next → P
+no-fault e d = let z : _≡_ {A = ℕ} 0 1 = cc in absurd (omega arith)
+
+pub record ThenIs {A B : Type 0} (f : Field A) (k : A → ℕ → Field B) (b : B) (end : ℕ) : Type 0 where
+  pub value : A
+  pub next : ℕ
+  pub first : f ≡ Is value next
+  pub rest : k value next ≡ Is b end
+
+pub then-is : {A B : Type 0} (f : Field A) (k : A → ℕ → Field B) {b : B} {end : ℕ} → thenField f k ≡ Is b end → ThenIs f k b end
+then-is (Is a next) k e = record { value = a; next = next; first = refl; rest = e }
+then-is Fault k e = no-fault refl e
+
+-- ---- numbers and strings
 module _ (s : List ℕ) (at : ℕ) where
   pub number-cut : (w : ℕ) → length s < at + w → number w s at ≡ Fault
   unfolding number

@@ -12,7 +12,7 @@ use Rattle.fields.specs.Fields.{leAt}
 use Rattle.fields.specs.Part.{part}
 use Rattle.dicts.specs.Table.{Text, Record}
 use Rattle.dicts.specs.Layout.{Field, Is, Fault, Numbers, thenField, mapField, bit, text, optional, readNumbers, recordWith, readFields, readRecord}
-use Rattle.dicts.proofs.LayoutLaws.{text-missing, text-long, text-cut, text-is, numbers-are, numbers-cut, record-cut, record-bit-7, record-is, text-ends, opt-text-ends, ends-at}
+use Rattle.dicts.proofs.LayoutLaws.{no-fault, then-is, text-missing, text-long, text-cut, text-is, numbers-are, numbers-cut, record-cut, record-bit-7, record-is, text-ends, opt-text-ends, ends-at}
 use Rattle.dicts.specs.Answers.{optionally, partOf, numbersOf, recordOf, Within, Inside}
 use Rattle.dicts.specs.declared.layout.Part.{Part}
 use Rattle.dicts.specs.declared.layout.Numbers as AsRead
@@ -22,19 +22,6 @@ use Rattle.known_record.specs.Walk.{endIf, partIf, Stands}
 -- ---- a field that was read, and what is behind it
 is-next : {A : Type 0} {f : Field A} {a b : A} {m n : ℕ} → f ≡ Is a m → f ≡ Is b n → m ≡ n
 is-next e d = cc
-
-pub no-fault : {A P : Type 0} {f : Field A} {a : A} {next : ℕ} → f ≡ Fault → f ≡ Is a next → P
-no-fault e d = let z : _≡_ {A = ℕ} 0 1 = cc in absurd (omega arith)
-
-record ThenIs {A B : Type 0} (f : Field A) (k : A → ℕ → Field B) (b : B) (end : ℕ) : Type 0 where
-  value : A
-  next : ℕ
-  first : f ≡ Is value next
-  rest : k value next ≡ Is b end
-
-then-is : {A B : Type 0} (f : Field A) (k : A → ℕ → Field B) {b : B} {end : ℕ} → thenField f k ≡ Is b end → ThenIs f k b end
-then-is (Is a next) k e = record { value = a; next = next; first = refl; rest = e }
-then-is Fault k e = no-fault refl e
 
 -- ---- a string
 record Known (s : List ℕ) (at : ℕ) : Type 0 where

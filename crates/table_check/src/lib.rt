@@ -15,11 +15,10 @@ use dicts::layout::text_at;
 use dicts::shape::Items;
 use dicts::shape::Shape;
 use dicts::shape::TableCheck;
-use table_content::legal_record;
-use table_layout::RecordAt;
-use table_layout::record_at;
+use table_numbers::Look;
 use table_plain::Plain;
 use table_plain::plain_at;
+use table_record::fields_look;
 use table_texts::legal_mark;
 
 // What checking a record gives: its code point and the offset behind it, or the refusal's number.
@@ -78,15 +77,26 @@ fn list_end(s: &[u8], at: usize) -> Items
 fn any_item(s: &[u8], at: usize, least: u64) -> Step
     ensures { λ r. ⌜ StepIs (now (s .entry)) at least r ⌝ }
 {
-    match record_at(s, at) {
-        RecordAt::Record(p) => {
-            if legal_record(s, p, least) {
-                Step::Next(p.code_point, p.next)
+    if s.len() < 5 {
+        return Step::Refused(4);
+    }
+    if s.len() - 5 < at {
+        return Step::Refused(4);
+    }
+    let code = fields::u32_at(s, at);
+    let map = s[at + 4];
+    if 128 <= map {
+        return Step::Refused(4);
+    }
+    match fields_look(s, code, map, at + 5, least) {
+        Look::Field(legal, next) => {
+            if legal {
+                Step::Next(code, next)
             } else {
                 Step::Refused(5)
             }
         }
-        RecordAt::Fault => Step::Refused(4),
+        Look::Fault => Step::Refused(4),
     }
 }
 

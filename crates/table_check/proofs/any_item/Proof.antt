@@ -1,48 +1,90 @@
--- `table_check::any_item` meets its contract: the record's layout, then its content.
-use mathlib.Core.Path.{_≡_, sym, subst, _∙_}
-use Rattle.dicts.specs.Layout.{Is, readRecord}
+-- `table_check::any_item` meets its contract: the code point and the map are there and bit 7 isn't, and the fields decide; or the record is at fault.
+use mathlib.Core.Path.{sym}
+use native.Mathlib.Omega.{arith}
+use lib.ListN.{getD}
+use Prim.Native.Nat.{_+_}
+use Rattle.dicts.specs.Layout.{readFields}
 use Rattle.dicts.specs.Check.{legalRecord}
-use Rattle.dicts.specs.Answers.{recordOf}
-use Rattle.dicts.proofs.LayoutLaws.{told}
-use Rattle.dicts.proofs.CheckLaws.{item-fault, item-illegal}
-use Rattle.table_layout.specs.Answers.{recordField, RecordWithin}
-use Rattle.table_check.proofs.StepLaws.{any-passed}
+use Rattle.dicts.proofs.LayoutLaws.{told, record-cut, record-bit-7}
+use Rattle.dicts.proofs.CheckLaws.{item-fault}
+use Rattle.table_numbers.specs.Look.{lookField}
+use Rattle.table_numbers.proofs.LookLaws.{Looked, looked, look-fault}
+use Rattle.table_check.proofs.StepLaws.{any-passed, any-illegal, any-fault}
 use borrow.Author.Needs.{needs}
 use Rattle.table_check.proofs.any_item.Statement.{statement}
 use Rattle.table_check.proofs.any_item.Tie as tie
 
-reads : (c : tie.After-p) → let a = c .before .before .before .before .args in let p = c .p .given .0 .0 in readRecord (a .s .now) (a .at) ≡ Is (recordOf (a .s .now) p) (p .next)
-reads c = told (recordField (c .before .before .before .before .args .s .now)) (c .before .before .record-at .ensures .0) (c .p .given .1)
+-- where the code point was read, and what the look at the fields told
+abbrev at-code : tie.Else3 → tie.After-u32-at
+at-code c = c .before .before
 
-record-at-requires : tie.Need-record-at-requires
-record-at-requires c κs = search needs
+abbrev at-fields : tie.After-known-told → tie.Else3
+at-fields c = c .before .before .before .before
 
-enum-known-p : tie.Need-enum-known-p
-enum-known-p c = search needs
+fields-told : (c : tie.After-known-told) → let u = at-code (at-fields c) in let a = u .before .before .before .before .args in let g = c .before .legal .given .0 in
+    Looked (legalRecord (a .least)) (readFields (u .u32-at .result) (getD (a .s .now) (a .at + 4) 0) (a .s .now) (a .at + 5)) (g .0) (g .1 .0)
+fields-told c = let k = c .before in looked (legalRecord _) _ (told lookField (k .before .before .fields-look .ensures) (k .legal .given .1))
 
-legal-record-requires : tie.Need-legal-record-requires
-legal-record-requires c κs = subst (RecordWithin (c .before .before .before .before .before .args .s .now)) (c .before .p .given .1) (c .before .before .before .record-at .ensures .1)
+returns : tie.Need-returns
+returns c = sym (item-fault _ (legalRecord _) (record-cut _ _ (omega arith)))
+
+sub-if2 : tie.Need-sub-if2
+sub-if2 c = search needs
+
+returns-2 : tie.Need-returns-2
+returns-2 c = sym (item-fault _ (legalRecord _) (record-cut _ _ (omega arith)))
+
+u32-at-requires : tie.Need-u32-at-requires
+u32-at-requires c κs = search needs
+
+add-map : tie.Need-add-map
+add-map c = search needs
+
+shared-slice-read-map : tie.Need-shared-slice-read-map
+shared-slice-read-map c = search needs
+
+returns-3 : tie.Need-returns-3
+returns-3 c = sym (item-fault _ (legalRecord _) (record-bit-7 _ _ (omega arith) (c .if3 .taken)))
+
+add-fields-look : tie.Need-add-fields-look
+add-fields-look c = search needs
+
+fields-look-requires : tie.Need-fields-look-requires
+fields-look-requires c κs = search needs
+
+enum-known-legal : tie.Need-enum-known-legal
+enum-known-legal c = search needs
 
 enum-told : tie.Need-enum-told
 enum-told c = search needs
 
-returns : tie.Need-returns
-returns c = let k = c .before .before .before in any-passed _ _ _ (k .p .given .0 .0) (reads k) (sym (c .before .legal-record .ensures) ∙ c .if1 .taken)
+returns-4 : tie.Need-returns-4
+returns-4 c = let f = at-fields (c .before) in any-passed _ _ _ (omega arith) (f .if3 .left) (at-code f .u32-at .ensures) (fields-told (c .before)) (c .if4 .taken)
 
-returns-2 : tie.Need-returns-2
-returns-2 c = sym (item-illegal _ (legalRecord _) (reads (c .before .before .before)) (sym (c .before .legal-record .ensures) ∙ c .if1 .left))
+returns-5 : tie.Need-returns-5
+returns-5 c = let f = at-fields (c .before) in any-illegal _ _ _ (omega arith) (f .if3 .left) (at-code f .u32-at .ensures) (fields-told (c .before)) (c .if4 .left)
 
-returns-3 : tie.Need-returns-3
-returns-3 c = sym (item-fault _ (legalRecord _) (told (recordField (c .before .before .before .before .args .s .now)) (c .before .before .record-at .ensures .0) (c .enum-told .given .1)))
+returns-6 : tie.Need-returns-6
+returns-6 c =
+    let k = c .before .before in
+    let f = k .before in
+    any-fault _ _ _ (omega arith) (f .if3 .left) (at-code f .u32-at .ensures) (look-fault (legalRecord _) _ (told lookField (k .fields-look .ensures) (c .enum-told .given .1)))
 
 pub any-item-spec : {M : Type 1} → statement M
 any-item-spec =
     tie.close
     (tie.spec
-    record-at-requires
-    enum-known-p
-    legal-record-requires
-    enum-told
     returns
+    sub-if2
     returns-2
-    returns-3)
+    u32-at-requires
+    add-map
+    shared-slice-read-map
+    returns-3
+    add-fields-look
+    fields-look-requires
+    enum-known-legal
+    enum-told
+    returns-4
+    returns-5
+    returns-6)

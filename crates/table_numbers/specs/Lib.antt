@@ -1,0 +1,2 @@
+-- The definitions that the contracts of `table_numbers` cite besides those of `dicts`.
+pub mod Look

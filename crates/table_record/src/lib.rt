@@ -1,0 +1,126 @@
+// A record of the table, all but the numbers: its layout (01, cause 4) and what it may hold (cause 5), in one walk. Its strings are looked at in `table_texts`,
+// its numbers in `table_numbers`.
+ghost use mathlib.Core.Path.{_≡_};
+ghost use mathlib.Core.Bool.{true};
+ghost use Prim.Native.Nat.{_+_, _≤_};
+ghost use lib.ListN.{length};
+ghost use Rattle.text.specs.Text.{wellFormed};
+ghost use Rattle.dicts.specs.Layout.{mapField, text, optional, readFields};
+ghost use Rattle.dicts.specs.Check.{allOf, legalCodePoint, legalRecord};
+ghost use Rattle.dicts.specs.Answers.{partOf, optionally, optText, numberIf, Within, TextWithin};
+ghost use Rattle.table_numbers.specs.Look.{lookField};
+ghost use Rattle.table_record.specs.Content.{textsFine, digitFine};
+use dicts::layout::Part;
+use dicts::layout::TextAt;
+use dicts::layout::text_at;
+use table_numbers::Look;
+use table_numbers::numbers_look;
+
+// A scalar value, and at least `least`.
+pub fn legal_code_point(c: u32, least: u64) -> bool
+    ensures { λ r. ⌜ r ≡ legalCodePoint least c ⌝ }
+{
+    if (c as u64) < least {
+        return false;
+    }
+    if c <= 0xD7FF {
+        return true;
+    }
+    if c < 0xE000 {
+        return false;
+    }
+    c <= 0x10FFFF
+}
+
+// Whether a part that is there is UTF-8.
+fn well_formed_if(s: &[u8], p: Part, there: bool) -> bool
+    requires { ⌜ Within (now s) p ⌝ }
+    ensures { λ r. ⌜ r ≡ allOf wellFormed (optionally there (partOf (now (s .entry)) p)) ⌝ }
+{
+    if there {
+        table_texts::well_formed(s, p)
+    } else {
+        true
+    }
+}
+
+fn legal_texts(s: &[u8], map: u8, kind: Part, rom: Part, script: Part) -> bool
+    requires { ⌜ Within (now s) kind × Within (now s) rom × Within (now s) script ⌝ }
+    ensures { λ r. ⌜ r ≡ textsFine map (partOf (now (s .entry)) kind) (partOf (now (s .entry)) rom) (partOf (now (s .entry)) script) ⌝ }
+{
+    table_texts::well_formed(s, kind)
+        & (well_formed_if(s, rom, map / 1 % 2 == 1) & well_formed_if(s, script, map / 32 % 2 == 1))
+}
+
+// Type "digit" with value 0 to 9: rom is that one ASCII digit.
+fn legal_digit(s: &[u8], map: u8, value: u64, kind: Part, rom: Part) -> bool
+    requires { ⌜ Within (now s) kind × Within (now s) rom ⌝ }
+    ensures { λ r. ⌜ r ≡ digitFine map value (partOf (now (s .entry)) kind) (partOf (now (s .entry)) rom) ⌝ }
+{
+    if map / 2 % 2 != 1 {
+        return true;
+    }
+    if 9 < value {
+        return true;
+    }
+    if !table_texts::is_digit_type(s, kind) {
+        return true;
+    }
+    if map / 1 % 2 != 1 {
+        return false;
+    }
+    if rom.len != 1 {
+        return false;
+    }
+    let at = rom.at;
+    wide(s[at]) == 48 + value
+}
+
+fn wide(x: u8) -> u64
+    ensures { λ r. ⌜ r ≡ x ⌝ }
+{
+    x as u64
+}
+
+// A string that is there or absent.
+fn opt_text_at(s: &[u8], at: usize, there: bool) -> TextAt
+    ensures { λ r. ⌜ optText there (now (s .entry)) r ≡ optional there text (now (s .entry)) at ⌝ }
+    ensures within { λ r. ⌜ TextWithin (now (s .entry)) r ⌝ }
+{
+    if there {
+        text_at(s, at)
+    } else {
+        TextAt::Text(Part { at: 0, len: 0 }, at)
+    }
+}
+
+// A number that is there, or 0.
+fn number_if(s: &[u8], at: usize, there: bool) -> u64
+    requires { ⌜ (there ≡ true → at + 8 ≤ length (now s)) ⌝ }
+    ensures { λ r. ⌜ r ≡ numberIf there (now (s .entry)) at ⌝ }
+{
+    if there { fields::u64_at(s, at) } else { 0 }
+}
+
+// The fields behind the code point and the map: whether they make a legal record, and the offset behind them.
+pub fn fields_look(s: &[u8], code: u32, map: u8, at: usize, least: u64) -> Look
+    ensures { λ r. ⌜ lookField r ≡ mapField (legalRecord least) (readFields code map (now (s .entry)) at) ⌝ }
+{
+    let TextAt::Text(kind, rom_at) = text_at(s, at) else {
+        return Look::Fault;
+    };
+    let TextAt::Text(rom, value_at) = opt_text_at(s, rom_at, map / 1 % 2 == 1) else {
+        return Look::Fault;
+    };
+    let Look::Field(numbers, script_at) = numbers_look(s, map, value_at) else {
+        return Look::Fault;
+    };
+    let TextAt::Text(script, next) = opt_text_at(s, script_at, map / 32 % 2 == 1) else {
+        return Look::Fault;
+    };
+    let value = number_if(s, value_at, map / 2 % 2 == 1);
+    let legal = legal_code_point(code, least)
+        & (legal_texts(s, map, kind, rom, script)
+            & (numbers & legal_digit(s, map, value, kind, rom)));
+    Look::Field(legal, next)
+}
