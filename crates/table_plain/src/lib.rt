@@ -54,6 +54,10 @@ fn fields_end(s: &[u8], at: usize) -> Behind
     requires { ⌜ at + 28 ≤ length (now s) ⌝ }
     ensures { λ r. ⌜ FieldsIs (now (s .entry)) at r ⌝ }
 {
+    // most strings that are not ASCII are not from their first byte on
+    if 0x80 <= s[at + 1] {
+        return Behind::Other;
+    }
     let n = s[at] as usize;
     if 8 < n {
         return Behind::Other;

@@ -37,13 +37,10 @@ fn between(lo: u8, hi: u8, x: u8) -> bool
 }
 
 // Whether a sequence of three bytes stands at an offset whose lead byte is E1 to EC: those of Han and Kana are, and most of three bytes.
-fn three_at(s: &[u8], at: usize, end: usize) -> bool
-    requires { ⌜ (at < end) × (end ≤ length (now s)) ⌝ }
-    ensures { λ r. ⌜ (r ≡ true → (at + 3 ≤ end) × (plainThree (getD (now (s .entry)) at 0) (getD (now (s .entry)) (at + 1) 0) (getD (now (s .entry)) (at + 2) 0) ≡ true)) ⌝ }
+fn three_at(s: &[u8], at: usize) -> bool
+    requires { ⌜ at + 3 ≤ length (now s) ⌝ }
+    ensures { λ r. ⌜ r ≡ plainThree (getD (now (s .entry)) at 0) (getD (now (s .entry)) (at + 1) 0) (getD (now (s .entry)) (at + 2) 0) ⌝ }
 {
-    if end - at < 3 {
-        return false;
-    }
     let b = s[at];
     let c = s[at + 1];
     let d = s[at + 2];
@@ -56,8 +53,8 @@ fn threes_end(s: &[u8], from: usize, end: usize) -> usize
     ensures { λ r. ⌜ Threes (now (s .entry)) from end r ⌝ }
 {
     let mut at = from;
-    while at < end {
-        if three_at(s, at, end) {
+    while 3 <= end - at {
+        if three_at(s, at) {
             at += 3;
         } else {
             return at;
@@ -91,14 +88,11 @@ fn short_ascii(s: &[u8], at: usize, len: usize) -> bool
     ascii(s, at, len)
 }
 
-// Whether the bytes of a part are UTF-8. Most are ASCII or sequences of three bytes, and only the rest is taken apart into characters.
-pub fn well_formed(s: &[u8], p: Part) -> bool
+// Whether the bytes of a part are UTF-8: most that are not ASCII are sequences of three bytes behind some ASCII, and only the rest is taken apart into characters.
+fn any_formed(s: &[u8], p: Part) -> bool
     requires { ⌜ Within (now s) p ⌝ }
     ensures { λ r. ⌜ r ≡ wellFormed (partOf (now (s .entry)) p) ⌝ }
 {
-    if short_ascii(s, p.at, p.len) {
-        return true;
-    }
     let end = p.at + p.len;
     let behind = ascii_end(s, p.at, end);
     let rest = threes_end(s, behind, end);
@@ -106,6 +100,17 @@ pub fn well_formed(s: &[u8], p: Part) -> bool
         return true;
     }
     text_line::well_formed(&s[rest..end])
+}
+
+// The same, most being short and ASCII.
+pub fn well_formed(s: &[u8], p: Part) -> bool
+    requires { ⌜ Within (now s) p ⌝ }
+    ensures { λ r. ⌜ r ≡ wellFormed (partOf (now (s .entry)) p) ⌝ }
+{
+    if short_ascii(s, p.at, p.len) {
+        return true;
+    }
+    any_formed(s, p)
 }
 
 // A string of a list: not empty, and UTF-8.

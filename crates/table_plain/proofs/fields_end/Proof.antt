@@ -8,14 +8,23 @@ use Rattle.table_plain.proofs.PlainLaws.{fields-is}
 use Rattle.table_plain.proofs.fields_end.Statement.{statement}
 use Rattle.table_plain.proofs.fields_end.Tie as tie
 
+add-if1 : tie.Need-add-if1
+add-if1 c = omega arith
+
+shared-slice-read-if1 : tie.Need-shared-slice-read-if1
+shared-slice-read-if1 c = omega arith
+
+returns : tie.Need-returns
+returns c = tt
+
 shared-slice-read-n : tie.Need-shared-slice-read-n
 shared-slice-read-n c = omega arith
 
 cast-n : tie.Need-cast-n
-cast-n c = omega (arith, c .shared-slice-known2 .given (c .before .before .args .at))
+cast-n c = omega (arith, c .shared-slice-known3 .given (c .before .before .before .before .args .at))
 
-returns : tie.Need-returns
-returns c = tt
+returns-2 : tie.Need-returns-2
+returns-2 c = tt
 
 add-rom-at : tie.Need-add-rom-at
 add-rom-at c = omega arith
@@ -30,22 +39,22 @@ shared-slice-read-both : tie.Need-shared-slice-read-both
 shared-slice-read-both c = omega arith
 
 cast-both : tie.Need-cast-both
-cast-both c = let a = c .before .before .before .before .args in omega (arith, c .shared-slice-known3 .given (a .at + 1 + getD (a .s .now) (a .at) 0))
+cast-both c = let a = c .before .before .before .before .before .before .args in omega (arith, c .shared-slice-known4 .given (a .at + 1 + getD (a .s .now) (a .at) 0))
 
 add-both-2 : tie.Need-add-both-2
-add-both-2 c = let a = c .before .before .before .before .args in omega (arith, c .shared-slice-known3 .given (a .at + 1 + getD (a .s .now) (a .at) 0))
-
-returns-2 : tie.Need-returns-2
-returns-2 c = tt
+add-both-2 c = let a = c .before .before .before .before .before .before .args in omega (arith, c .shared-slice-known4 .given (a .at + 1 + getD (a .s .now) (a .at) 0))
 
 returns-3 : tie.Need-returns-3
 returns-3 c = tt
 
-ascii-requires : tie.Need-ascii-requires
-ascii-requires c κs = ((omega arith, omega arith, omega arith), λ j. c .before .before .shared-slice-known3 .given j .fits)
-
 returns-4 : tie.Need-returns-4
 returns-4 c = tt
+
+ascii-requires : tie.Need-ascii-requires
+ascii-requires c κs = ((omega arith, omega arith, omega arith), λ j. c .before .before .shared-slice-known4 .given j .fits)
+
+returns-5 : tie.Need-returns-5
+returns-5 c = tt
 
 add-tail-end : tie.Need-add-tail-end
 add-tail-end c = omega arith
@@ -59,31 +68,34 @@ add-tail-end-2 c = omega arith
 tail-end-requires : tie.Need-tail-end-requires
 tail-end-requires c κs = (omega arith, omega arith)
 
-returns-5 : tie.Need-returns-5
-returns-5 c =
+returns-6 : tie.Need-returns-6
+returns-6 c =
     let both = c .before .before in
     let k = both .before .before in
-    fields-is _ _ _ _ (c .tail-end .result) refl refl (k .if3 .left) (λ j. k .before .before .shared-slice-known3 .given j .fits) (omega arith) (both .before .ascii .ensures (not-false _ (both .if4 .left))) (c .tail-end .ensures)
+    fields-is _ _ _ _ (c .tail-end .result) refl refl (k .if4 .left) (λ j. k .before .before .shared-slice-known4 .given j .fits) (omega arith) (both .before .ascii .ensures (not-false _ (both .if5 .left))) (c .tail-end .ensures)
 
 pub fields-end-spec : {M : Type 1} → statement M
 fields-end-spec =
     tie.close
     (tie.spec
+    add-if1
+    shared-slice-read-if1
+    returns
     shared-slice-read-n
     cast-n
-    returns
+    returns-2
     add-rom-at
     add-rom-at-2
     add-both
     shared-slice-read-both
     cast-both
     add-both-2
-    returns-2
     returns-3
-    ascii-requires
     returns-4
+    ascii-requires
+    returns-5
     add-tail-end
     shared-slice-read-tail-end
     add-tail-end-2
     tail-end-requires
-    returns-5)
+    returns-6)

@@ -1,16 +1,7 @@
--- `table_texts::three_at` meets its contract: the three bytes are there, and are within the limits.
-use mathlib.Core.Path.{sym}
-use mathlib.Core.Bool.{true≢false}
-use native.Mathlib.Omega.{arith}
+-- `table_texts::three_at` meets its contract: each byte is asked for its limits.
 use borrow.Author.Needs.{needs}
 use Rattle.table_texts.proofs.three_at.Statement.{statement}
 use Rattle.table_texts.proofs.three_at.Tie as tie
-
-sub-if1 : tie.Need-sub-if1
-sub-if1 c = search needs
-
-returns : tie.Need-returns
-returns c = λ e. absurd (true≢false (sym e))
 
 shared-slice-read-b : tie.Need-shared-slice-read-b
 shared-slice-read-b c = search needs
@@ -36,15 +27,13 @@ between-requires-2 c κs = search needs
 between-requires-3 : tie.Need-between-requires-3
 between-requires-3 c κs = search needs
 
-returns-2 : tie.Need-returns-2
-returns-2 c = λ e. (omega arith, rw (← c .before .before .between .ensures, ← c .before .between2 .ensures, ← c .between3 .ensures) e)
+returns : tie.Need-returns
+returns c = rw (c .before .before .between .ensures, c .before .between2 .ensures, c .between3 .ensures)
 
 pub three-at-spec : {M : Type 1} → statement M
 three-at-spec =
     tie.close
     (tie.spec
-    sub-if1
-    returns
     shared-slice-read-b
     add-c
     shared-slice-read-c
@@ -53,4 +42,4 @@ three-at-spec =
     between-requires
     between-requires-2
     between-requires-3
-    returns-2)
+    returns)

@@ -1,9 +1,9 @@
 -- `table_texts::threes_end` meets its contract. The loop's invariant is what the contract says of the offset reached; the measure is what is left.
+use mathlib.Core.Path.{sym, _∙_}
 use Prim.Native.Nat.{_-_}
 use native.Mathlib.Omega.{arith}
 use Rattle.table_texts.specs.Threes.{Threes}
 use Rattle.table_texts.proofs.ThreeLaws.{threes-none, threes-more}
-use borrow.Author.Needs.{needs}
 use Rattle.table_texts.proofs.threes_end.Statement.{statement}
 use Rattle.table_texts.proofs.threes_end.Tie as tie
 
@@ -16,20 +16,22 @@ abbrev μ-loop : tie.MeasureT-loop
 loop-holds : tie.Need-loop-holds Inv-loop μ-loop
 loop-holds c = threes-none _ _ _ (c .before .pre .0)
 
+sub-loop : tie.Need-sub-loop Inv-loop μ-loop
+sub-loop c = c .loop .inv .before
+
 three-at-requires : tie.Need-three-at-requires Inv-loop μ-loop
-three-at-requires c κs = (c .loop-test .taken, c .before .before .before .pre .1)
+three-at-requires c κs = omega (arith, c .before .loop .inv .before, c .before .before .before .pre .1)
 
 add-at : tie.Need-add-at Inv-loop μ-loop
-add-at c = omega (arith, c .before .three-at .ensures (c .if1 .taken) .0)
+add-at c = let l = c .before .before .before in omega (arith, l .loop .inv .before, l .before .before .pre .1)
 
 loop-less : tie.Need-loop-less Inv-loop μ-loop
-loop-less c = omega (arith, c .before .three-at .ensures (c .if1 .taken) .0)
+loop-less c = omega arith
 
 loop-again : tie.Need-loop-again Inv-loop μ-loop
 loop-again c =
     let l = c .before .before .before in
-    let three = c .before .three-at .ensures (c .if1 .taken) in
-    threes-more _ _ _ _ (l .before .before .pre .1) (l .loop .inv) (three .0) (three .1)
+    threes-more _ _ _ _ (l .before .before .pre .1) (l .loop .inv) (omega (arith, l .loop .inv .before)) (sym (c .before .three-at .ensures) ∙ c .if1 .taken)
 
 returns : tie.Need-returns Inv-loop μ-loop
 returns c = c .before .before .before .loop .inv
@@ -44,6 +46,7 @@ threes-end-spec =
     Inv-loop
     μ-loop
     loop-holds
+    sub-loop
     three-at-requires
     add-at
     loop-less

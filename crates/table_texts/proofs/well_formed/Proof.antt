@@ -1,9 +1,6 @@
--- `table_texts::well_formed` meets its contract: a string that is told to be ASCII is well-formed; of any other what stands before the rest is.
-use mathlib.Core.Path.{sym, _∙_}
-use Rattle.dicts.proofs.ContentLaws.{behind-ascii}
+-- `table_texts::well_formed` meets its contract: a string that is told to be ASCII is well-formed.
+use mathlib.Core.Path.{sym}
 use Rattle.table_texts.proofs.MaskLaws.{ascii-formed}
-use Rattle.table_texts.proofs.ThreeLaws.{threes-all}
-use Rattle.fields.specs.Part.{part}
 use borrow.Author.Needs.{needs}
 use Rattle.table_texts.proofs.well_formed.Statement.{statement}
 use Rattle.table_texts.proofs.well_formed.Tie as tie
@@ -12,53 +9,13 @@ short-ascii-requires : tie.Need-short-ascii-requires
 short-ascii-requires c κs = search needs
 
 returns : tie.Need-returns
-returns c = let p = c .before .before .before .pre in sym (ascii-formed _ _ _ p (c .before .short-ascii .ensures (c .if1 .taken)))
+returns c = sym (ascii-formed _ _ _ (c .before .before .before .pre) (c .before .short-ascii .ensures (c .if1 .taken)))
 
-add-end : tie.Need-add-end
-add-end c = search needs
-
-ascii-end-requires : tie.Need-ascii-end-requires
-ascii-end-requires c κs = search needs
-
-threes-end-requires : tie.Need-threes-end-requires
-threes-end-requires c κs = (c .ascii-end .ensures .before, c .before .before .before .before .before .pre)
+any-formed-requires : tie.Need-any-formed-requires
+any-formed-requires c κs = search needs
 
 returns-2 : tie.Need-returns-2
-returns-2 c =
-    let a = c .before .before in
-    sym (behind-ascii _ _ _ _ (a .before .before .before .before .before .pre) (a .ascii-end .ensures) ∙ threes-all _ _ _ _ (c .before .threes-end .ensures) (c .if2 .taken))
-
-sub-well-formed : tie.Need-sub-well-formed
-sub-well-formed c = search needs
-
-part-well-formed-start : tie.Need-part-well-formed-start
-part-well-formed-start c = search needs
-
-part-well-formed-end : tie.Need-part-well-formed-end
-part-well-formed-end c = search needs
-
-well-formed-requires : tie.Need-well-formed-requires
-well-formed-requires c κs = search needs
-
-returns-3 : tie.Need-returns-3
-unfolding part
-returns-3 c =
-    let k = c .before .before .before in
-    let a = k .before in
-    c .well-formed .ensures ∙ sym (behind-ascii _ _ _ _ (a .before .before .before .before .before .pre) (a .ascii-end .ensures) ∙ k .threes-end .ensures .same)
+returns-2 c = c .any-formed .ensures
 
 pub well-formed-spec : {M : Type 1} → statement M
-well-formed-spec =
-    tie.close
-    (tie.spec
-    short-ascii-requires
-    returns
-    add-end
-    ascii-end-requires
-    threes-end-requires
-    returns-2
-    sub-well-formed
-    part-well-formed-start
-    part-well-formed-end
-    well-formed-requires
-    returns-3)
+well-formed-spec = tie.close (tie.spec short-ascii-requires returns any-formed-requires returns-2)
