@@ -1,45 +1,25 @@
--- Laws of `specs/Step.antt`. No contract cites this file.
--- In order: a record told by few tests; one read in full; a turn over the records; the index that is made on the way.
+-- Laws of a step from record to record (`table_record`, Step). No contract cites this file.
+-- In order: a record told by few tests; a turn over the records; the index that is made on the way.
 use mathlib.Core.Path.{_≡_, refl, sym, ap, _∙_}
-use mathlib.Core.Bool.{Bool, true, false}
 use mathlib.Core.List.{List}
-use Prim.Native.Nat.{ℕ, _+_, _-_, _*_, _≤_, _<_}
+use Prim.Native.Nat.{ℕ, _+_, _-_, _*_, _<_}
 use native.Mathlib.Omega.{arith}
-use lib.ListN.{length, getD}
+use lib.ListN.{length}
 use Rattle.dicts.specs.Table.{Record}
-use Rattle.fields.specs.Fields.{leAt}
-use Rattle.dicts.specs.Layout.{Is, Fault, readFields, readRecord, recordsAt}
-use Rattle.dicts.specs.Check.{Refused, item, legalRecord, readRecords}
+use Rattle.dicts.specs.Layout.{readRecord, recordsAt}
+use Rattle.dicts.specs.Check.{legalRecord, readRecords}
 use Rattle.dicts.specs.Answers.{endOf}
-use Rattle.dicts.proofs.LayoutLaws.{record-is}
-use Rattle.dicts.proofs.CheckLaws.{item-fault, item-legal, item-illegal, records-turn}
-use Rattle.known_record.proofs.WalkLaws.{fields-code}
-use Rattle.table_numbers.proofs.LookLaws.{Looked}
+use Rattle.dicts.proofs.CheckLaws.{item-legal, records-turn}
 use Rattle.dicts.proofs.LookupLaws.{item-fine}
 use Rattle.char_index.specs.Index.{Whole, Tail, Entry, strideOf, Growing, IndexIf}
 use Rattle.char_index.specs.declared.Index.{Index}
 use Rattle.char_index.proofs.IndexLaws.{index-none, tail-all, tail-entry, tail-next}
 use Rattle.table_plain.specs.Plain.{LegalAt}
-use Rattle.table_check.specs.Step.{Passed}
+use Rattle.table_record.specs.Step.{Passed}
 
 module _ (s : List ℕ) (at least : ℕ) where
   pub plain-passed : {c next : ℕ} → LegalAt least c (readRecord s at) next → Passed s at least c next
   plain-passed k = record { it = k .it; is = sym (item-legal at (legalRecord least) (k .is) (k .legal)); point = k .point }
-
-  -- a record whose fields were looked at
-  module _ (h : at + 5 ≤ length s) (k : getD s (at + 4) 0 < 128) {c : ℕ} (e : c ≡ leAt s at 4) where
-    reads : {r : Record} {next : ℕ} → readFields c (getD s (at + 4) 0) s (at + 5) ≡ Is r next → readRecord s at ≡ Is r next
-    reads f = sym (record-is s at h e k (sym f))
-
-    module _ {b : Bool} {next : ℕ} (f : Looked (legalRecord least) (readFields c (getD s (at + 4) 0) s (at + 5)) b next) where
-      pub any-passed : b ≡ true → Passed s at least c next
-      any-passed t = record { it = f .it; is = sym (item-legal at (legalRecord least) (reads (f .is)) (f .says ∙ t)); point = fields-code c (getD s (at + 4) 0) s (at + 5) (f .is) }
-
-      pub any-illegal : b ≡ false → item at (legalRecord least) (readRecord s at) ≡ Refused 5 at
-      any-illegal t = sym (item-illegal at (legalRecord least) (reads (f .is)) (f .says ∙ t))
-
-    pub any-fault : readFields c (getD s (at + 4) 0) s (at + 5) ≡ Fault → item at (legalRecord least) (readRecord s at) ≡ Refused 4 at
-    any-fault f = sym (item-fault at (legalRecord least) (sym (record-is s at h e k (sym f))))
 
   pub passed-turn : (left : ℕ) {c next : ℕ} → 0 < left → Passed s at least c next → endOf (readRecords left least s at) ≡ endOf (readRecords (left - 1) (c + 1) s next)
   passed-turn left {c} {next} h k = records-turn s at least left h (k .is) ∙ ap (λ (x : ℕ). endOf (readRecords (left - 1) (x + 1) s next)) (k .point)

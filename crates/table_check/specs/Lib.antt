@@ -1,3 +1,2 @@
 -- The definitions that the contracts of `table_check` cite besides those of `dicts`.
-pub mod Step
 pub mod Indexed

@@ -5,7 +5,7 @@ ghost use Rattle.dicts.specs.Check.{item, legalMark, readTexts, readList, readR
 ghost use Rattle.dicts.specs.Answers.{endOf, tableAnswer};
 ghost use lib.ListN.{length};
 ghost use Rattle.char_index.specs.Index.{IndexIf};
-ghost use Rattle.table_check.specs.Step.{StepIs};
+ghost use Rattle.table_record.specs.Step.{StepIs};
 ghost use Rattle.table_check.specs.Indexed.{TableIndexed};
 use char_index::Index;
 use char_index::Rest;
@@ -15,17 +15,11 @@ use dicts::layout::text_at;
 use dicts::shape::Items;
 use dicts::shape::Shape;
 use dicts::shape::TableCheck;
-use table_numbers::Look;
 use table_plain::Plain;
 use table_plain::plain_at;
-use table_record::fields_look;
+use table_record::Step;
+use table_record::any_item;
 use table_texts::legal_mark;
-
-// What checking a record gives: its code point and the offset behind it, or the refusal's number.
-pub enum Step {
-    Next(u32, usize),
-    Refused(u8),
-}
 
 fn mark_item(s: &[u8], at: usize) -> Items
     ensures { λ r. ⌜ r ≡ endOf (item at legalMark (text (now (s .entry)) at)) ⌝ }
@@ -71,33 +65,6 @@ fn list_end(s: &[u8], at: usize) -> Items
     }
     let n = s[at] as usize;
     texts_end(s, at + 1, n)
-}
-
-// A record of any form.
-fn any_item(s: &[u8], at: usize, least: u64) -> Step
-    ensures { λ r. ⌜ StepIs (now (s .entry)) at least r ⌝ }
-{
-    if s.len() < 5 {
-        return Step::Refused(4);
-    }
-    if s.len() - 5 < at {
-        return Step::Refused(4);
-    }
-    let code = fields::u32_at(s, at);
-    let map = s[at + 4];
-    if 128 <= map {
-        return Step::Refused(4);
-    }
-    match fields_look(s, code, map, at + 5, least) {
-        Look::Field(legal, next) => {
-            if legal {
-                Step::Next(code, next)
-            } else {
-                Step::Refused(5)
-            }
-        }
-        Look::Fault => Step::Refused(4),
-    }
 }
 
 // A record. Most are told by few tests.

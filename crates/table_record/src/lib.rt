@@ -1,5 +1,5 @@
-// A record of the table, all but the numbers: its layout (01, cause 4) and what it may hold (cause 5), in one walk. Its strings are looked at in `table_texts`,
-// its numbers in `table_numbers`.
+// A record of the table: its layout (01, cause 4) and what it may hold (cause 5), in one walk. Its strings are looked at in `table_texts`, its numbers in
+// `table_numbers`.
 ghost use mathlib.Core.Path.{_≡_};
 ghost use mathlib.Core.Bool.{true};
 ghost use Prim.Native.Nat.{_+_, _≤_};
@@ -10,14 +10,21 @@ ghost use Rattle.dicts.specs.Check.{allOf, legalCodePoint, legalRecord};
 ghost use Rattle.dicts.specs.Answers.{partOf, optionally, optText, numberIf, Within, TextWithin};
 ghost use Rattle.table_numbers.specs.Look.{lookField};
 ghost use Rattle.table_record.specs.Content.{textsFine, digitFine};
+ghost use Rattle.table_record.specs.Step.{StepIs};
 use dicts::layout::Part;
 use dicts::layout::TextAt;
 use dicts::layout::text_at;
 use table_numbers::Look;
 use table_numbers::numbers_look;
 
+// What checking a record gives: its code point and the offset behind it, or the refusal's number.
+pub enum Step {
+    Next(u32, usize),
+    Refused(u8),
+}
+
 // A scalar value, and at least `least`.
-pub fn legal_code_point(c: u32, least: u64) -> bool
+fn legal_code_point(c: u32, least: u64) -> bool
     ensures { λ r. ⌜ r ≡ legalCodePoint least c ⌝ }
 {
     if (c as u64) < least {
@@ -103,7 +110,7 @@ fn number_if(s: &[u8], at: usize, there: bool) -> u64
 }
 
 // The fields behind the code point and the map: whether they make a legal record, and the offset behind them.
-pub fn fields_look(s: &[u8], code: u32, map: u8, at: usize, least: u64) -> Look
+fn fields_look(s: &[u8], code: u32, map: u8, at: usize, least: u64) -> Look
     ensures { λ r. ⌜ lookField r ≡ mapField (legalRecord least) (readFields code map (now (s .entry)) at) ⌝ }
 {
     let TextAt::Text(kind, rom_at) = text_at(s, at) else {
@@ -123,4 +130,31 @@ pub fn fields_look(s: &[u8], code: u32, map: u8, at: usize, least: u64) -> Look
         & (legal_texts(s, map, kind, rom, script)
             & (numbers & legal_digit(s, map, value, kind, rom)));
     Look::Field(legal, next)
+}
+
+// The record at an offset, whatever its form.
+pub fn any_item(s: &[u8], at: usize, least: u64) -> Step
+    ensures { λ r. ⌜ StepIs (now (s .entry)) at least r ⌝ }
+{
+    if s.len() < 5 {
+        return Step::Refused(4);
+    }
+    if s.len() - 5 < at {
+        return Step::Refused(4);
+    }
+    let code = fields::u32_at(s, at);
+    let map = s[at + 4];
+    if 128 <= map {
+        return Step::Refused(4);
+    }
+    match fields_look(s, code, map, at + 5, least) {
+        Look::Field(legal, next) => {
+            if legal {
+                Step::Next(code, next)
+            } else {
+                Step::Refused(5)
+            }
+        }
+        Look::Fault => Step::Refused(4),
+    }
 }

@@ -5,7 +5,7 @@ use native.Mathlib.Omega.{arith}
 use Rattle.dicts.specs.Check.{readRecords}
 use Rattle.dicts.specs.Answers.{endOf}
 use Rattle.dicts.proofs.CheckLaws.{records-none, records-stop}
-use Rattle.table_check.specs.Step.{StepIs}
+use Rattle.table_record.specs.Step.{StepIs}
 use Rattle.table_check.proofs.StepLaws.{passed-turn, Making, making-none, making-index, making-more}
 use borrow.Author.Needs.{needs}
 use Rattle.table_check.proofs.records_end.Statement.{statement}

@@ -9,8 +9,8 @@ use Rattle.dicts.specs.Table.{Record}
 use Rattle.dicts.specs.Layout.{readRecord}
 use Rattle.dicts.specs.Check.{Fine, item, legalRecord}
 use Rattle.dicts.specs.Check as Check
-use Rattle.table_check.specs.declared.Step.{Step}
-use Rattle.table_check.specs.declared.Step.the-variants as Step
+use Rattle.table_record.specs.declared.Step.{Step}
+use Rattle.table_record.specs.declared.Step.the-variants as Step
 
 pub record Passed (s : List ℕ) (at least c next : ℕ) : Type 0 where
   pub it : Record

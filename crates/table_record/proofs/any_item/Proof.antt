@@ -1,4 +1,4 @@
--- `table_check::any_item` meets its contract: the code point and the map are there and bit 7 isn't, and the fields decide; or the record is at fault.
+-- `table_record::any_item` meets its contract: the code point and the map are there and bit 7 isn't, and the fields decide; or the record is at fault.
 use mathlib.Core.Path.{sym}
 use native.Mathlib.Omega.{arith}
 use lib.ListN.{getD}
@@ -9,10 +9,10 @@ use Rattle.dicts.proofs.LayoutLaws.{told, record-cut, record-bit-7}
 use Rattle.dicts.proofs.CheckLaws.{item-fault}
 use Rattle.table_numbers.specs.Look.{lookField}
 use Rattle.table_numbers.proofs.LookLaws.{Looked, looked, look-fault}
-use Rattle.table_check.proofs.StepLaws.{any-passed, any-illegal, any-fault}
+use Rattle.table_record.proofs.StepLaws.{any-passed, any-illegal, any-fault}
 use borrow.Author.Needs.{needs}
-use Rattle.table_check.proofs.any_item.Statement.{statement}
-use Rattle.table_check.proofs.any_item.Tie as tie
+use Rattle.table_record.proofs.any_item.Statement.{statement}
+use Rattle.table_record.proofs.any_item.Tie as tie
 
 -- where the code point was read, and what the look at the fields told
 abbrev at-code : tie.Else3 → tie.After-u32-at
