@@ -8,7 +8,6 @@
 #include "rilvostam.h"
 
 size_t timed_check_table(const uint8_t *table, size_t len);
-size_t timed_find_record(const uint8_t *table, size_t len, size_t at, size_t n, uint32_t c);
 size_t timed_check_listing(const uint8_t *listing, size_t len, size_t chars);
 size_t timed_walk(const uint8_t *listing, size_t len, size_t count);
 
@@ -26,24 +25,24 @@ static void text(const char *s, int width) {
     len += n;
 }
 
-/* Records of 40 or so bytes: type, rom, value, base, script. */
-static size_t table(unsigned n, const char *type, const char *rom, const char *script) {
+/* Records by their map: 1 rom, 2 value, 4 fraction, 8 base, 16 mult, 32 script. */
+static void table(unsigned n, int map, const char *type, const char *rom, const char *script) {
     len = 0;
     put(n, 2);
     put(1, 1);
     text("%", 1);
     for (int i = 0; i < 3; i++) put(0, 1);
-    size_t records = len;
     for (unsigned i = 0; i < n; i++) {
         put(0x10000 + i, 4);
-        put(1 + 2 + 8 + 32, 1);
+        put(map, 1);
         text(type, 1);
-        text(rom, 1);
-        put(10, 8);
-        put(10, 8);
-        text(script, 1);
+        if (map & 1) text(rom, 1);
+        for (int bit = 2; bit <= 16; bit *= 2) {
+            if (map & bit) put(10, 8);
+            if (map & bit & 4) put(10, 8);
+        }
+        if (map & 32) text(script, 1);
     }
-    return records;
 }
 
 /* Edges over a line of 256 characters; numeric ones with value, base and script. */
@@ -105,19 +104,13 @@ static void same(size_t got) {
         fflush(stdout); \
     } while (0)
 
-static void tables(const char *what, const char *type, const char *rom, const char *script) {
+static void tables(const char *what, int map, const char *type, const char *rom, const char *script) {
     static const unsigned sizes[] = {16, 1500, 65535};
     printf("%-44s", what);
     for (int i = 0; i < 3; i++) {
-        table(sizes[i], type, rom, script);
+        table(sizes[i], map, type, rom, script);
         expected = sizes[i];
         TIME(sizes[i], timed_check_table(bytes, len));
-    }
-    printf("\n%-44s", "  find_record of the last");
-    for (int i = 0; i < 3; i++) {
-        size_t at = table(sizes[i], type, rom, script);
-        expected = len;
-        TIME(sizes[i], timed_find_record(bytes, len, at, sizes[i], 0x10000 + sizes[i] - 1));
     }
     printf("\n");
 }
@@ -148,8 +141,12 @@ static void listings(const char *what, int numeric, const char *type, const char
 int main(void) {
     memset(line, 'x', sizeof line);
     printf("ns a record, check_table                           16    1,500   65,535\n");
-    tables("short ASCII strings", "multi", "shi", "Han");
-    tables("strings of 3 bytes each", "\xE5\xA4\x9A", "\xE5\x8D\x81", "\xE6\xBC\xA2");
+    tables("short ASCII strings, value and base", 43, "multi", "shi", "Han");
+    tables("the same without base", 35, "multi", "shi", "Han");
+    tables("the same with every field", 63, "multi", "shi", "Han");
+    tables("ASCII strings of 23, 17 and 10 bytes", 43, "a-rather-long-type-name", "some-romanisation", "Devanagari");
+    tables("strings of one 3-byte character each", 43, "\xE5\xA4\x9A", "\xE5\x8D\x81", "\xE6\xBC\xA2");
+    tables("strings of one 2-byte character each", 43, "\xC3\xA9", "\xC3\xB6", "\xC3\xBC");
     printf("\nns an edge, check_listing                          10    1,000   60,000\n");
     listings("regular edges, ASCII", 0, "wylie", "bcu");
     listings("regular edges, a text of 3 bytes", 0, "tib", "\xE5\x8D\x81");
