@@ -19,7 +19,7 @@ pub fn walk(s: &[u8], most: usize) -> Walked
     let mut count = 0;
     let mut at = 0;
     while count < most {
-        match text::seq_at(s, Offset(at)) {
+        match text_seq::seq_at(s, Offset(at)) {
             Seq::Char(_, len) => {
                 count += 1;
                 at += len;

@@ -1,9 +1,9 @@
--- `digits::first_is_digit` meets its contract: by what stands at the text's start. Assumes nothing.
+-- `digit_ends::first_is_digit` meets its contract: by what stands at the text's start. Assumes nothing.
 use mathlib.Core.Path.{sym, ap, _∙_}
 use borrow.Author.Needs.{needs}
 use Rattle.digits.specs.TextEnds.{digitSeq, beginsWithDigit}
-use Rattle.digits.proofs.first_is_digit.Statement.{statement}
-use Rattle.digits.proofs.first_is_digit.Tie as tie
+use Rattle.digit_ends.proofs.first_is_digit.Statement.{statement}
+use Rattle.digit_ends.proofs.first_is_digit.Tie as tie
 
 seq-at-requires : tie.Need-seq-at-requires
 seq-at-requires c κs = search needs

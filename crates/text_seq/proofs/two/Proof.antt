@@ -1,9 +1,9 @@
--- `text::two` meets its contract: the line ends within the sequence, or its trailing byte is there and is tested.
+-- `text_seq::two` meets its contract: the line ends within the sequence, or its trailing byte is there and is tested.
 use mathlib.Core.Path.{_∙_}
 use borrow.Author.Needs.{needs}
 use Rattle.text.proofs.SequenceLaws.{cut-at, two-at}
-use Rattle.text.proofs.two.Statement.{statement}
-use Rattle.text.proofs.two.Tie as tie
+use Rattle.text_seq.proofs.two.Statement.{statement}
+use Rattle.text_seq.proofs.two.Tie as tie
 
 sub-if1 : tie.Need-sub-if1
 sub-if1 c = search needs

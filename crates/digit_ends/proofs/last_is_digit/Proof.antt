@@ -1,14 +1,14 @@
--- `digits::last_is_digit` meets its contract. The loop's invariant: no shorter ending than of k bytes is one whole sequence, so that those
+-- `digit_ends::last_is_digit` meets its contract. The loop's invariant: no shorter ending than of k bytes is one whole sequence, so that those
 -- from k bytes on decide. The measure is the number of endings left. Assumes nothing.
 use mathlib.Core.Path.{_≡_, refl, _∙_}
 use mathlib.Core.Logic.{⊎-elim}
 use Prim.Native.Nat.{_-_, _≤_}
 use native.Mathlib.Omega.{arith}
 use borrow.Author.Needs.{needs}
 use Rattle.digits.specs.TextEnds.{endsFrom, endsWithDigit}
 use Rattle.digits.proofs.TextEndsLaws.{NotWhole, other-length, no-char, none-left, too-short, whole-ending, longer-ending}
-use Rattle.digits.proofs.last_is_digit.Statement.{statement}
-use Rattle.digits.proofs.last_is_digit.Tie as tie
+use Rattle.digit_ends.proofs.last_is_digit.Statement.{statement}
+use Rattle.digit_ends.proofs.last_is_digit.Tie as tie
 
 abbrev Inv-loop : tie.InvT-loop
 Inv-loop txt k₀ k = (1 ≤ k) × (k ≤ 5) × (endsFrom (5 - k) k txt ≡ endsWithDigit txt)

@@ -1,10 +1,10 @@
--- `digits::begins_with_digit` meets its contract: a byte of ASCII is a whole character, and of any other text `first_is_digit` answers. Assumes nothing.
+-- `digit_ends::begins_with_digit` meets its contract: a byte of ASCII is a whole character, and of any other text `first_is_digit` answers. Assumes nothing.
 use mathlib.Core.Path.{_∙_}
 use native.Mathlib.Omega.{arith}
 use borrow.Author.Needs.{needs}
 use Rattle.digits.proofs.TextEndsLaws.{empty-begins, ascii-begins}
-use Rattle.digits.proofs.begins_with_digit.Statement.{statement}
-use Rattle.digits.proofs.begins_with_digit.Tie as tie
+use Rattle.digit_ends.proofs.begins_with_digit.Statement.{statement}
+use Rattle.digit_ends.proofs.begins_with_digit.Tie as tie
 
 returns : tie.Need-returns
 returns c = empty-begins _ (c .if1 .taken)

@@ -1,10 +1,10 @@
--- `digits::ends_with_digit` meets its contract: a byte of ASCII is a whole character, and of any other text `last_is_digit` answers. Assumes nothing.
+-- `digit_ends::ends_with_digit` meets its contract: a byte of ASCII is a whole character, and of any other text `last_is_digit` answers. Assumes nothing.
 use mathlib.Core.Path.{_∙_}
 use native.Mathlib.Omega.{arith}
 use borrow.Author.Needs.{needs}
 use Rattle.digits.proofs.TextEndsLaws.{empty-ends, ascii-ends}
-use Rattle.digits.proofs.ends_with_digit.Statement.{statement}
-use Rattle.digits.proofs.ends_with_digit.Tie as tie
+use Rattle.digit_ends.proofs.ends_with_digit.Statement.{statement}
+use Rattle.digit_ends.proofs.ends_with_digit.Tie as tie
 
 returns : tie.Need-returns
 returns c = empty-ends _ (c .if1 .taken)

@@ -1,9 +1,9 @@
--- `text::seq_at` meets its contract: the end, or the sequence that the lead byte's row asks for.
+-- `text_seq::seq_at` meets its contract: the end, or the sequence that the lead byte's row asks for.
 use mathlib.Core.Path.{_∙_}
 use borrow.Author.Needs.{needs}
 use Rattle.text.proofs.SequenceLaws.{seq-end, seq-one, seq-two, seq-three, seq-four, seq-none}
-use Rattle.text.proofs.seq_at.Statement.{statement}
-use Rattle.text.proofs.seq_at.Tie as tie
+use Rattle.text_seq.proofs.seq_at.Statement.{statement}
+use Rattle.text_seq.proofs.seq_at.Tie as tie
 
 returns : tie.Need-returns
 returns c = seq-end _ _ (c .if1 .taken)

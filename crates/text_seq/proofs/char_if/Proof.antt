@@ -1,7 +1,7 @@
--- `text::char_if` meets its contract, by its one test.
+-- `text_seq::char_if` meets its contract, by its one test.
 use borrow.Author.Needs.{needs}
-use Rattle.text.proofs.char_if.Statement.{statement}
-use Rattle.text.proofs.char_if.Tie as tie
+use Rattle.text_seq.proofs.char_if.Statement.{statement}
+use Rattle.text_seq.proofs.char_if.Tie as tie
 
 returns : tie.Need-returns
 returns c = rw (c .if1 .taken)

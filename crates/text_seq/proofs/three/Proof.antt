@@ -1,9 +1,9 @@
--- `text::three` meets its contract: the line ends within the sequence, or its trailing bytes are there and are tested.
+-- `text_seq::three` meets its contract: the line ends within the sequence, or its trailing bytes are there and are tested.
 use mathlib.Core.Path.{_∙_}
 use borrow.Author.Needs.{needs}
 use Rattle.text.proofs.SequenceLaws.{cut-at, three-at}
-use Rattle.text.proofs.three.Statement.{statement}
-use Rattle.text.proofs.three.Tie as tie
+use Rattle.text_seq.proofs.three.Statement.{statement}
+use Rattle.text_seq.proofs.three.Tie as tie
 
 sub-if1 : tie.Need-sub-if1
 sub-if1 c = search needs
