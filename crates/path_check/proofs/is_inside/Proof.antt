@@ -1,18 +1,17 @@
 -- `path_check::is_inside` meets its contract, by the kind of the query. Assumes nothing.
 use mathlib.Core.Path.{_≡_}
 use Rattle.paths.specs.Reading.{inside}
-use borrow.Author.Needs.{needs}
 use Rattle.path_check.proofs.is_inside.Statement.{statement}
 use Rattle.path_check.proofs.is_inside.Tie as tie
 
 enum-known-q : tie.Need-enum-known-q
-enum-known-q c = search needs
+enum-known-q c = c .match .keys1
 
 enum-known-q-2 : tie.Need-enum-known-q-2
-enum-known-q-2 c = search needs
+enum-known-q-2 c = c .match .keys2
 
 enum-known-q-3 : tie.Need-enum-known-q-3
-enum-known-q-3 c = search needs
+enum-known-q-3 c = c .match .keys3
 
 returns : tie.Need-returns
 unfolding inside
