@@ -37,7 +37,7 @@ pub fn place_of(r: Refusal) -> usize
 pub fn check(line: &[u8], listing: &[u8]) -> Checked
     ensures { λ r. ⌜ r ≡ readCheck (now (line .entry)) (now (listing .entry)) ⌝ }
 {
-    match text_line::check_line(line) {
+    match line_check::check_line(line) {
         LineCheck::IllFormed(at) => Checked::Refused(Refusal::NotUtf8(at)),
         LineCheck::TooLong(at) => Checked::Refused(Refusal::OverLong(at)),
         LineCheck::Chars(chars) => match edge_check::check_listing(listing, chars, false) {

@@ -1,4 +1,4 @@
-// Text as bytes: equality of bytes, and the types of one UTF-8 sequence (`text_seq`) and of what a line's functions answer (`text_line`).
+// Text as bytes: equality of bytes, and the types of one UTF-8 sequence (`text_seq`) and of what a line's functions answer (`text_line`, `line_check`).
 ghost use mathlib.Core.Path.{_≡_};
 ghost use Rattle.text.specs.Bytes.{same};
 

@@ -47,7 +47,7 @@ fn show_first(bytes: &[u8], n: usize)
 }
 
 fn show(line: &[u8]) {
-    match text_line::check_line(line) {
+    match line_check::check_line(line) {
         LineCheck::Chars(n) => {
             io::write_all(1, b"chars ");
             io::print_decimal(1, n as u64);

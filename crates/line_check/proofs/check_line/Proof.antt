@@ -1,8 +1,8 @@
--- `text_line::check_line` meets its contract, by where the walk over all characters stopped and how many it passed.
+-- `line_check::check_line` meets its contract, by where the walk over all characters stopped and how many it passed.
 use borrow.Author.Needs.{needs}
 use Rattle.text_line.proofs.LineLaws.{check-ill, check-ok, check-long}
-use Rattle.text_line.proofs.check_line.Statement.{statement}
-use Rattle.text_line.proofs.check_line.Tie as tie
+use Rattle.line_check.proofs.check_line.Statement.{statement}
+use Rattle.line_check.proofs.check_line.Tie as tie
 
 walk-requires : tie.Need-walk-requires
 walk-requires c κs = search needs
