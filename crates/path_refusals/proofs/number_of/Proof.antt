@@ -1,8 +1,8 @@
--- `path_check::number_of` meets its contract: each arm says the number of its variant. Assumes nothing.
+-- `path_refusals::number_of` meets its contract: each arm says the number of its variant. Assumes nothing.
 use mathlib.Core.Path.{sym, ap}
 use Rattle.paths.specs.Reading.{number}
-use Rattle.path_check.proofs.number_of.Statement.{statement}
-use Rattle.path_check.proofs.number_of.Tie as tie
+use Rattle.path_refusals.proofs.number_of.Statement.{statement}
+use Rattle.path_refusals.proofs.number_of.Tie as tie
 
 enum-told : tie.Need-enum-told
 enum-told c = c .match .keys1

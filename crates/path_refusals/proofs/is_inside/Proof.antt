@@ -1,8 +1,8 @@
--- `path_check::is_inside` meets its contract, by the kind of the query. Assumes nothing.
+-- `path_refusals::is_inside` meets its contract, by the kind of the query. Assumes nothing.
 use mathlib.Core.Path.{_≡_}
 use Rattle.paths.specs.Reading.{inside}
-use Rattle.path_check.proofs.is_inside.Statement.{statement}
-use Rattle.path_check.proofs.is_inside.Tie as tie
+use Rattle.path_refusals.proofs.is_inside.Statement.{statement}
+use Rattle.path_refusals.proofs.is_inside.Tie as tie
 
 enum-known-q : tie.Need-enum-known-q
 enum-known-q c = c .match .keys1

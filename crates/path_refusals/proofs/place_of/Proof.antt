@@ -1,8 +1,8 @@
--- `path_check::place_of` meets its contract: each arm says the place of its variant. Assumes nothing.
+-- `path_refusals::place_of` meets its contract: each arm says the place of its variant. Assumes nothing.
 use mathlib.Core.Path.{sym, ap}
 use Rattle.paths.specs.Reading.{place}
-use Rattle.path_check.proofs.place_of.Statement.{statement}
-use Rattle.path_check.proofs.place_of.Tie as tie
+use Rattle.path_refusals.proofs.place_of.Statement.{statement}
+use Rattle.path_refusals.proofs.place_of.Tie as tie
 
 enum-known-r : tie.Need-enum-known-r
 enum-known-r c = c .match .keys1
