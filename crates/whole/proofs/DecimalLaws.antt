@@ -5,7 +5,7 @@ use mathlib.Core.Path.{_≡_, refl, sym, ap, _∙_}
 use mathlib.Core.Bool.{true}
 use mathlib.Core.List.{List, [], _∷_, _++_, map, map-append, append-assoc, append-nil}
 use Prim.Native.Nat.{ℕ, zero, suc, _+_, _*_, _-_, _/_, _%_, _^_, _≤_, _<_}
-use native.Mathlib.Nat.{le-refl, le-trans, add-zero, zero-add, add-suc, suc-add}
+use native.Mathlib.Nat.{le-refl, add-zero, zero-add, add-suc, suc-add}
 use native.Mathlib.Numerals.{add-one}
 use lib.Pow.{pow-add}
 use native.Mathlib.Omega.{arith}
@@ -100,12 +100,6 @@ digitsFrom-append v (d ∷ ds) es = digitsFrom-append (v * 10 + d) ds es
 pub digitsFrom-snoc : (v : ℕ) (ds : List ℕ) (d : ℕ) → digitsFrom v (ds ++ (d ∷ [])) ≡ digitsFrom v ds * 10 + d
 unfolding digitsFrom
 digitsFrom-snoc v ds d = digitsFrom-append v ds (d ∷ [])
-
--- further digits never lower a value: once above TOP, always above
-pub digitsFrom-le : (v : ℕ) (ds : List ℕ) → v ≤ digitsFrom v ds
-unfolding digitsFrom
-digitsFrom-le v [] = le-refl v
-digitsFrom-le v (d ∷ ds) = le-trans (omega arith) (digitsFrom-le (v * 10 + d) ds)
 
 -- ---- the text and its number
 pub digitsValue-decimal : (n : ℕ) → digitsValue (map digitOf (decimal n)) ≡ n
