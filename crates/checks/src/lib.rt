@@ -58,7 +58,7 @@ pub fn check(
     ensures { λ r. ⌜ LentIs (now (line .entry)) (now (table .entry)) (now (edges .entry)) r ⌝ }
     ensures indexed { λ r. ⌜ LentIndexed (now (table .entry)) (now (offs .exit)) (now (entries .exit)) r ⌝ }
 {
-    match text_line::check_line(line) {
+    match line_check::check_line(line) {
         LineCheck::IllFormed(at) => Lent::Refused(Refusal::NotUtf8(at)),
         LineCheck::TooLong(at) => Lent::Refused(Refusal::OverLong(at)),
         LineCheck::Chars(chars) => check_rest(chars, table, edges, offs, entries),

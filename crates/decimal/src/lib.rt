@@ -1,13 +1,8 @@
-// Whole numbers in decimal: what the Rust has `format!` and `parse::<f64>` for. Decimal text is `decimal` of `whole`'s specs/Decimal.antt.
-use whole::Row;
+// Whole numbers in decimal: what the Rust has `format!` for. Decimal text is `decimal` of `whole`'s specs/Decimal.antt.
 ghost use mathlib.Core.Path.{_≡_};
-ghost use mathlib.Core.Bool.{cond};
-ghost use Prim.Native.Nat.{_+_, _*_, _≤_};
-ghost use lib.Dec.{ltb};
+ghost use Prim.Native.Nat.{_+_, _≤_};
 ghost use lib.ListN.{length};
 ghost use lib.Seq.{sets};
-ghost use Rattle.whole.specs.Whole.{TOP};
-ghost use Rattle.whole.specs.Answers.{readDigits};
 ghost use Rattle.whole.specs.Decimal.{decimal, padded};
 
 // How many bytes the decimal text of n has: four digits are told by comparing, without a division.
@@ -52,35 +47,4 @@ pub fn put_decimal(out: &mut [u8], at: usize, n: u64) -> usize
     let len = decimal_len(n);
     put_padded(out, at, len, n);
     at + len
-}
-
-// What a row says with one digit more; above TOP it stays what it is, so that no row overflows.
-fn said_with(said: u64, digit: u8) -> u64
-    ensures { λ r. ⌜ r ≡ cond (ltb TOP said) said (said * 10 + digit) ⌝ }
-{
-    if 9007199254740991 < said {
-        return said;
-    }
-    said * 10 + digit as u64
-}
-
-// What a row of ASCII digits says, the first the most significant.
-pub fn read_digits(s: &[u8]) -> Row
-    ensures { λ r. ⌜ r ≡ readDigits (now (s .entry)) ⌝ }
-{
-    let mut said = 0;
-    let mut i = 0;
-    while i < s.len() {
-        let byte = s[i];
-        if byte < 48 || byte > 57 {
-            return Row::NoDigits;
-        }
-        said = said_with(said, byte - 48);
-        i += 1;
-    }
-    if said > 9007199254740991 {
-        Row::Above
-    } else {
-        Row::Fits(said)
-    }
 }

@@ -130,10 +130,6 @@ module _ (c : ℕ) where
 
   -- ---- `isDigit` by the number of starts not above c
   module _ (n : ℕ) (e : n ≡ notAbove starts c) where
-    pub digit-none : n ≡ 0 → false ≡ isDigit c
-    unfolding isDigit
-    digit-none z = sym (runs-by-last 0 starts starts-apart ∙ ap (byLast starts) (sym e ∙ z))
-
     -- the table's bound, the difference that the code takes, and its test
     pub digit-last : (n ≡ 0 → ⊥) → (n ≤ 68) × (getD starts (n - 1) 0 ≤ c) × (leb (c - getD starts (n - 1) 0) 9 ≡ isDigit c)
     unfolding isDigit LastOf

@@ -68,10 +68,10 @@ module _ (s : List ℕ) (k : ℕ) (so-far : endsFrom (5 - k) k s ≡ endsWithDig
           let e : 5 - (k + 1) ≡ 4 - k = omega arith in
           rw (e, add-one) (sym (n (endsFrom (4 - k) (suc k) s)) ∙ by-ending)
 
--- ---- a byte of ASCII is a whole character, and a digit from 48 to 57
-pub ascii-digit : (b : ℕ) → b < 0x80 → within 48 57 b ≡ isDigit b
+-- ---- below the second run a digit is from 48 to 57, and a byte of ASCII is a whole character
+pub first-run-digit : (c : ℕ) → c < 0x660 → within 48 57 c ≡ isDigit c
 unfolding isDigit inRuns starts apart
-ascii-digit b h = sym (ap (λ t. within 48 57 b || t) (below b 0x80 (drop 1 starts) tt h) ∙ or-false (within 48 57 b))
+first-run-digit c h = sym (ap (λ t. within 48 57 c || t) (below c 0x660 (drop 1 starts) tt h) ∙ or-false (within 48 57 c))
 
 ascii-at : (s : List ℕ) (at : ℕ) → at < length s → getD s at 0 < 0x80 → seq (drop at s) ≡ Char (getD s at 0) 1
 unfolding rowOf

@@ -1,11 +1,7 @@
-// Decimal digits: the 680 characters of general category Nd in Unicode 15.0 (UAX #44), 68 runs of ten. The words of the contracts are in
-// specs/Digits.antt (a character) and specs/TextEnds.antt (a text).
-use text::Offset;
-use text::Seq;
+// Decimal digits: the 680 characters of general category Nd in Unicode 15.0 (UAX #44), 68 runs of ten. The word of the contract is in specs/Digits.antt;
+// specs/TextEnds.antt has those of `digit_ends`.
 ghost use mathlib.Core.Path.{_≡_};
-ghost use Prim.Native.Nat.{_<_};
 ghost use Rattle.digits.specs.Digits.{isDigit};
-ghost use Rattle.digits.specs.TextEnds.{beginsWithDigit, endsWithDigit};
 
 // The first character of each run, in rising order; `tools/check_nd` holds it against UnicodeData.txt.
 const STARTS: [u32; 68] = [
@@ -84,11 +80,8 @@ const STARTS: [u32; 68] = [
 pub fn is_digit(c: u32) -> bool
     ensures { λ r. ⌜ r ≡ isDigit c ⌝ }
 {
-    if c < STARTS[0] {
-        return false;
-    }
-    if c < STARTS[1] {
-        return c - STARTS[0] <= 9;
+    if c < 0x660 {
+        return (48 <= c) & (c <= 57);
     }
     let starts = STARTS;
     let mut n = 2;
@@ -99,70 +92,4 @@ pub fn is_digit(c: u32) -> bool
         n += 1;
     }
     c - starts[n - 1] <= 9
-}
-
-// ---- a text's first and last character: where its byte is ASCII's, that byte is the whole character
-
-fn ascii_digit(b: u8) -> bool
-    requires { ⌜ b < 0x80 ⌝ }
-    ensures { λ r. ⌜ r ≡ isDigit b ⌝ }
-{
-    (48 <= b) & (b <= 57)
-}
-
-// Of the first character; no, where the text is empty or begins ill-formed.
-fn first_is_digit(txt: &[u8]) -> bool
-    ensures { λ r. ⌜ r ≡ beginsWithDigit (now (txt .entry)) ⌝ }
-{
-    match text::seq_at(txt, Offset(0)) {
-        Seq::Char(c, _) => is_digit(c),
-        Seq::Ill => false,
-        Seq::End => false,
-    }
-}
-
-pub fn begins_with_digit(txt: &[u8]) -> bool
-    ensures { λ r. ⌜ r ≡ beginsWithDigit (now (txt .entry)) ⌝ }
-{
-    if txt.len() == 0 {
-        return false;
-    }
-    let b = txt[0];
-    if b < 0x80 {
-        return ascii_digit(b);
-    }
-    first_is_digit(txt)
-}
-
-// The last bytes are tried, one to four of them: the first ending that is one whole sequence is the last character.
-fn last_is_digit(txt: &[u8]) -> bool
-    ensures { λ r. ⌜ r ≡ endsWithDigit (now (txt .entry)) ⌝ }
-{
-    let mut k = 1;
-    while k <= 4 {
-        if txt.len() < k {
-            return false;
-        }
-        let at = txt.len() - k;
-        if let Seq::Char(c, len) = text::seq_at(txt, Offset(at)) {
-            if len == k {
-                return is_digit(c);
-            }
-        }
-        k += 1;
-    }
-    false
-}
-
-pub fn ends_with_digit(txt: &[u8]) -> bool
-    ensures { λ r. ⌜ r ≡ endsWithDigit (now (txt .entry)) ⌝ }
-{
-    if txt.len() == 0 {
-        return false;
-    }
-    let b = txt[txt.len() - 1];
-    if b < 0x80 {
-        return ascii_digit(b);
-    }
-    last_is_digit(txt)
 }

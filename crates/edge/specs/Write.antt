@@ -5,7 +5,7 @@
 --     numbersBytes d      the numbers of the fields d as they are listed
 --     fieldsPast d at     where the fields d end that are written from at on
 --     Writable .. d       the fields d can be listed: their map may stand in a numeric edge, their texts are within the lists and have a u16 length
---     fieldsOf d, dataOf d    the fields of numeric data, their floats as bits, and the way back
+--     fieldsOf d          the fields of numeric data, their floats as bits
 --     Assumes nothing.
 use mathlib.Core.Path.{_≡_}
 use mathlib.Core.Bool.{Bool, true, cond}
@@ -15,7 +15,7 @@ use Prim.Native.Nat.{ℕ, _+_, _≤_, _<_}
 use lib.Dec.{leb}
 use lib.ListN.{length}
 use lib.Seq.{sets}
-use lib.Ieee.{binary64, toBits, ofBits}
+use lib.Ieee.{binary64, toBits}
 use Rattle.fields.specs.Fields.{bytesOf}
 use Rattle.edge.specs.declared.NumFields.{NumFields}
 use Rattle.edge.specs.declared.NumData.{NumData}
@@ -75,20 +75,6 @@ fieldsOf d = record {
   denominator = d .denominator;
   base = d .base;
   «base_multiplier» = toBits binary64 (d .«base_multiplier»);
-  orig = d .orig;
-  script = d .script;
-  «value_s» = d .«value_s»;
-}
-
--- the numeric data of fields
-unfoldable pub dataOf : NumFields → NumData
-dataOf d = record {
-  map = d .map;
-  value = ofBits binary64 (d .value);
-  numerator = d .numerator;
-  denominator = d .denominator;
-  base = d .base;
-  «base_multiplier» = ofBits binary64 (d .«base_multiplier»);
   orig = d .orig;
   script = d .script;
   «value_s» = d .«value_s»;

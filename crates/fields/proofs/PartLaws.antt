@@ -9,7 +9,7 @@ use native.Mathlib.Nat.{zero-add, suc-add}
 use native.Mathlib.Numerals.{add-one}
 use native.Mathlib.Omega.{arith}
 use lib.ListN.{length, take, drop, getD, set, length-drop}
-use lib.Seq.{sets, sets-eq, length-take-le, take-at, drop-at, take-add, take-take, take-all, take-suc, take-length, take-nil, take-append-le, drop-drop, drop-append-le, drop-append-add, drop-set-lt, drop-set-add, take-set-le, getD-take, getD-drop}
+use lib.Seq.{sets, sets-eq, length-take-le, take-at, drop-at, take-add, take-take, take-all, take-suc, take-length, take-nil, drop-drop, drop-append-add, drop-set-lt, drop-set-add, take-set-le, getD-take, getD-drop}
 use Rattle.whole.proofs.SetsLaws.{sets-append}
 use Rattle.fields.specs.Part.{part}
 
@@ -59,10 +59,6 @@ unfolding part
 part-of-part s at n i m h = part-of-take (drop at s) n i m h ∙ part-of-drop s at i m
 
 -- ---- parts of two lists in a row
-pub part-append-left : (a b : List ℕ) (at n : ℕ) → at + n ≤ length a → part (a ++ b) at n ≡ part a at n
-unfolding part
-part-append-left a b at n h = rw (drop-append-le at a b (omega arith), take-append-le n (drop at a) b (simp length-drop (omega arith)))
-
 pub part-append-right : (a b : List ℕ) (at n : ℕ) → part (a ++ b) (length a + at) n ≡ part b at n
 unfolding part
 part-append-right a b at n = rw (drop-append-add a b at)
@@ -77,11 +73,6 @@ part-append-first a b n l = take-at a b n l
 pub part-sets : (s : List ℕ) (at : ℕ) (bs : List ℕ) (n : ℕ) → length bs ≡ n → at + n ≤ length s → part (sets s at bs) at n ≡ bs
 unfolding part
 part-sets s at bs n l h = rw (sets-eq bs s at (rw l h), append-assoc, drop-at (take at s) _ at (length-take-le at s (omega arith)), take-at bs _ n l)
-
--- and so is each part of it
-pub part-sets-in : (s : List ℕ) (at : ℕ) (bs : List ℕ) (i n : ℕ) → at + length bs ≤ length s → i + n ≤ length bs → part (sets s at bs) (at + i) n ≡ part bs i n
-part-sets-in s at bs i n h k =
-    sym (part-of-part (sets s at bs) at (length bs) i n k) ∙ rw (part-sets s at bs (length bs) refl h)
 
 part-set-other : (s : List ℕ) (i v at n : ℕ) → (i < at) ⊎ (at + n ≤ i) → part (set s i v) at n ≡ part s at n
 unfolding part

@@ -13,7 +13,7 @@ pub fn put_u16(out: &mut [u8], at: usize, v: u16)
     out[at + 1] = (v / 256 % 256) as u8;
 }
 
-pub fn put_u32(out: &mut [u8], at: usize, v: u32)
+fn put_u32(out: &mut [u8], at: usize, v: u32)
     requires { ⌜ at + 4 ≤ length (now out) ⌝ }
     ensures { λ _. ⌜ now (out .exit) ≡ sets (now (out .entry)) at (bytesOf 4 v) ⌝ }
 {

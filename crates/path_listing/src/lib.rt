@@ -9,7 +9,7 @@ ghost use Rattle.paths.specs.Reading.{Spans};
 ghost use Rattle.paths.specs.Path.{rights, path, edgeParts, pathListing, fitting, pathOut, written, after};
 ghost use Rattle.paths.specs.Table.{byTable, Rights, Steps, hopOf, sizeOf};
 use path_check::check;
-use path_check::is_inside;
+use path_refusals::is_inside;
 use path_score::score_at;
 use paths::Checked;
 use paths::Hop;

@@ -17,8 +17,8 @@ fn word(text: &[u8], n: usize) {
 }
 
 fn show_refusal(r: Refusal) {
-    word(b"refused ", path_check::number_of(r) as usize);
-    word(b" ", path_check::place_of(r));
+    word(b"refused ", path_refusals::number_of(r) as usize);
+    word(b" ", path_refusals::place_of(r));
     io::write_all(1, b"\n");
 }
 

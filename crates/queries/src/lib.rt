@@ -13,7 +13,7 @@ fn ask(line: &[u8], listing: &[u8], q: Query, skip: bool) -> Answer
     match path_check::check(line, listing) {
         Checked::Refused(r) => Answer::Refused(r),
         Checked::Readable(chars, count) => {
-            if !path_check::is_inside(chars, q) {
+            if !path_refusals::is_inside(chars, q) {
                 return Answer::Refused(Refusal::BadPlace);
             }
             Answer::Best(path_score::best_of(listing, 2, count, q, skip))

@@ -151,9 +151,6 @@ module _ (out : List ℕ) (at n p : ℕ) (inside : at ≤ length out) {a z : ℕ
   refused-no-room h = let l = length-refused in no-room out at (refusedBytes n p) (omega arith)
 
   module _ (room : a + z + 8 ≤ length out - at) {t : List ℕ} {k : ℕ} (first : Put out t at k (ended refused 32)) where
-    pub number-room : k + length (decimal n) + 1 ≤ length out
-    number-room = let e = first .next in omega arith
-
     module _ {u : List ℕ} {h : ℕ} (second : Put t u k h (ended (decimal n) 32)) where
       pub place-room : h + length (decimal p) + 1 ≤ length out
       place-room = let e = first .next in let f = second .next in let l = length-append (decimal n) (32 ∷ []) in omega arith

@@ -28,7 +28,7 @@ fn mark(s: &[u8], at: usize, marks: &mut [bool; 257])
     let from = txt.at;
     let to = from + txt.len;
     let place = end.0;
-    if digits::ends_with_digit(&s[from..to]) {
+    if digit_ends::ends_with_digit(&s[from..to]) {
         marks[place] = true;
     }
 }
@@ -61,7 +61,7 @@ fn is_apart(s: &[u8], at: usize, marks: &[bool; 257]) -> bool
     if !(edge::bit(e.map, 1) & marks[place]) {
         return false;
     }
-    digits::begins_with_digit(&s[from..to])
+    digit_ends::begins_with_digit(&s[from..to])
 }
 
 // The copy of an edge that stands in the listing is added, with its separator: a space if it has a fraction, else "·".

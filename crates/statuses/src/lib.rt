@@ -22,7 +22,7 @@ pub fn answer_status(a: Answer) -> u32
 {
     match a {
         Answer::Best(_) => 0,
-        Answer::Refused(r) => path_check::number_of(r),
+        Answer::Refused(r) => path_refusals::number_of(r),
     }
 }
 
@@ -32,7 +32,7 @@ pub fn answer_at(a: Answer) -> u64
 {
     match a {
         Answer::Best(f) => found_at(f),
-        Answer::Refused(r) => path_check::place_of(r) as u64,
+        Answer::Refused(r) => path_refusals::place_of(r) as u64,
     }
 }
 
@@ -42,7 +42,7 @@ pub fn written_status(a: Written) -> u32
 {
     match a {
         Written::Bytes(_) => 0,
-        Written::Refused(r) => path_check::number_of(r),
+        Written::Refused(r) => path_refusals::number_of(r),
     }
 }
 
@@ -52,7 +52,7 @@ pub fn written_at(a: Written) -> u64
 {
     match a {
         Written::Bytes(n) => n as u64,
-        Written::Refused(r) => path_check::place_of(r) as u64,
+        Written::Refused(r) => path_refusals::place_of(r) as u64,
     }
 }
 
@@ -63,7 +63,7 @@ pub fn shown_status(a: Shown) -> u32
     match a {
         Shown::Listing(_) => 0,
         Shown::Line(_) => 0,
-        Shown::Refused(r) => path_check::number_of(r),
+        Shown::Refused(r) => path_refusals::number_of(r),
     }
 }
 
@@ -74,7 +74,7 @@ pub fn shown_at(a: Shown) -> u64
     match a {
         Shown::Listing(p) => p.at as u64,
         Shown::Line(p) => p.at as u64,
-        Shown::Refused(r) => path_check::place_of(r) as u64,
+        Shown::Refused(r) => path_refusals::place_of(r) as u64,
     }
 }
 

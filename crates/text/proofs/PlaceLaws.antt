@@ -7,13 +7,13 @@ use Prim.Native.Nat.{ℕ, _+_, _-_, _≤_, _<_}
 use native.Mathlib.Numerals.{add-one}
 use native.Mathlib.Omega.{arith}
 use lib.ListN.{length, take, drop, getD, length-append, length-drop, take-append-drop}
-use lib.Seq.{drop-drop, take-add, take-nil, take-all, take-at, drop-append-seam, take-append-seam, length-take-le, drop-cons, getD-drop}
+use lib.Seq.{drop-drop, take-add, take-nil, take-all, take-at, drop-append-seam, length-take-le, drop-cons, getD-drop}
 use Rattle.text.specs.declared.Seq.the-variants.{Char}
 use Rattle.text.specs.Sequence.{seq, encode}
 use Rattle.text.specs.Text.{chars, left, wellFormed, encodes, offsetOf, partOf}
 use Rattle.text.specs.Line.{walked}
 use Rattle.text.proofs.EncodeLaws.{seq-char, seq-encode, encode-pos}
-use Rattle.text.proofs.TextLaws.{chars-char, text-split, chars-left, chars-scalars, chars-encodes, encodes-append, encodes-chars, well-formed-split, scalars-take, scalars-drop, scalars-at}
+use Rattle.text.proofs.TextLaws.{chars-char, text-split, chars-left, chars-scalars, chars-encodes, encodes-append, well-formed-split, scalars-drop, scalars-at}
 
 module _ (s : List ℕ) where
   -- ---- the offset of a place
@@ -22,9 +22,6 @@ module _ (s : List ℕ) where
       text-split s
       ∙ ap (λ (cs : List ℕ). encodes cs ++ left s) (sym (take-append-drop p (chars s)))
       ∙ rw (encodes-append, append-assoc)
-
-  pub offset-take : (p : ℕ) → take (offsetOf s p) s ≡ encodes (take p (chars s))
-  offset-take p = ap (take (offsetOf s p)) (split-at-place p) ∙ take-append-seam (encodes (take p (chars s))) _
 
   pub offset-drop : (p : ℕ) → drop (offsetOf s p) s ≡ encodes (drop p (chars s)) ++ left s
   offset-drop p = ap (drop (offsetOf s p)) (split-at-place p) ∙ drop-append-seam (encodes (take p (chars s))) _
@@ -54,9 +51,6 @@ module _ (s : List ℕ) where
     part-bytes =
         let e : length (partOf s a b) ≡ offsetOf s b - offsetOf s a = omega (arith, offset-part) in
         ap (take (offsetOf s b - offsetOf s a)) drop-part ∙ take-at (partOf s a b) _ (offsetOf s b - offsetOf s a) e
-
-    pub part-chars : chars (partOf s a b) ≡ take (b - a) (drop a (chars s))
-    part-chars = encodes-chars _ (scalars-take (b - a) _ (scalars-drop a _ (chars-scalars s)))
 
   -- ---- the character at a place
   module _ (p : ℕ) (h : p < length (chars s)) where

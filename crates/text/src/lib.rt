@@ -1,10 +1,5 @@
-// Text as bytes: one UTF-8 sequence (Unicode Standard, table 3-7), equality of bytes, and the types that a line's functions answer (`text_line`).
+// Text as bytes: equality of bytes, and the types of one UTF-8 sequence (`text_seq`) and of what a line's functions answer (`text_line`, `line_check`).
 ghost use mathlib.Core.Path.{_≡_};
-ghost use mathlib.Core.Bool.{cond};
-ghost use Prim.Native.Nat.{_+_, _<_};
-ghost use lib.ListN.{length, drop};
-ghost use Rattle.text.specs.Table.{rowOf, within, six};
-ghost use Rattle.text.specs.Sequence.{seq, trailing};
 ghost use Rattle.text.specs.Bytes.{same};
 
 // A count of characters of the line.
@@ -21,114 +16,6 @@ pub enum Seq {
     Char(u32, usize),
     Ill,
     End,
-}
-
-// The row for a lead byte; of length 0 where no sequence begins with it.
-fn row_of(b: u8) -> Row
-    ensures { λ r. ⌜ r ≡ rowOf b ⌝ }
-{
-    match b {
-        0x00..=0x7F => Row(1, 0, 0),
-        0xC2..=0xDF => Row(2, 0x80, 0xBF),
-        0xE0 => Row(3, 0xA0, 0xBF),
-        0xE1..=0xEC => Row(3, 0x80, 0xBF),
-        0xED => Row(3, 0x80, 0x9F),
-        0xEE..=0xEF => Row(3, 0x80, 0xBF),
-        0xF0 => Row(4, 0x90, 0xBF),
-        0xF1..=0xF3 => Row(4, 0x80, 0xBF),
-        0xF4 => Row(4, 0x80, 0x8F),
-        _ => Row(0, 0, 0),
-    }
-}
-
-fn between(lo: u8, hi: u8, x: u8) -> bool
-    ensures { λ r. ⌜ r ≡ within lo hi x ⌝ }
-{
-    (lo <= x) & (x <= hi)
-}
-
-// The code point so far with the six bits of a trailing byte behind it.
-fn six_more(c: u32, x: u8) -> u32
-    requires { ⌜ c < 32768 ⌝ }
-    ensures { λ r. ⌜ r ≡ six c x ⌝ }
-{
-    c * 64 + (x % 64) as u32
-}
-
-fn wide(x: u8) -> u32
-    ensures { λ r. ⌜ r ≡ x ⌝ }
-{
-    x as u32
-}
-
-// A character, if its bytes are good.
-fn char_if(good: bool, c: u32, len: usize) -> Seq
-    ensures { λ r. ⌜ r ≡ cond good (Seq.Char c len) Seq.Ill ⌝ }
-{
-    if good {
-        return Seq::Char(c, len);
-    }
-    Seq::Ill
-}
-
-// The sequences of two, three and four bytes at an offset: lead has the bits of the first byte, the second is from lo to hi.
-fn two(s: &[u8], at: usize, lead: u32, lo: u8, hi: u8) -> Seq
-    requires { ⌜ (at < length (now s)) × (lead < 32) ⌝ }
-    ensures { λ r. ⌜ r ≡ trailing 1 lo hi lead 1 (drop (at + 1) (now (s .entry))) ⌝ }
-{
-    if s.len() - at < 2 {
-        return Seq::Ill;
-    }
-    let c = s[at + 1];
-    char_if(between(lo, hi, c), six_more(lead, c), 2)
-}
-
-fn three(s: &[u8], at: usize, lead: u32, lo: u8, hi: u8) -> Seq
-    requires { ⌜ (at < length (now s)) × (lead < 16) ⌝ }
-    ensures { λ r. ⌜ r ≡ trailing 2 lo hi lead 1 (drop (at + 1) (now (s .entry))) ⌝ }
-{
-    if s.len() - at < 3 {
-        return Seq::Ill;
-    }
-    let c = s[at + 1];
-    let d = s[at + 2];
-    let good = between(lo, hi, c) & between(0x80, 0xBF, d);
-    char_if(good, six_more(six_more(lead, c), d), 3)
-}
-
-fn four(s: &[u8], at: usize, lead: u32, lo: u8, hi: u8) -> Seq
-    requires { ⌜ (at < length (now s)) × (lead < 8) ⌝ }
-    ensures { λ r. ⌜ r ≡ trailing 3 lo hi lead 1 (drop (at + 1) (now (s .entry))) ⌝ }
-{
-    if s.len() - at < 4 {
-        return Seq::Ill;
-    }
-    let c = s[at + 1];
-    let d = s[at + 2];
-    let e = s[at + 3];
-    let good = between(lo, hi, c) & between(0x80, 0xBF, d) & between(0x80, 0xBF, e);
-    char_if(good, six_more(six_more(six_more(lead, c), d), e), 4)
-}
-
-// What stands at an offset.
-pub fn seq_at(s: &[u8], at: Offset) -> Seq
-    ensures { λ r. ⌜ r ≡ seq (drop (at .0) (now (s .entry))) ⌝ }
-{
-    let at = at.0;
-    if s.len() <= at {
-        return Seq::End;
-    }
-    let b = s[at];
-    let row = row_of(b);
-    let len = row.0;
-    let lead = wide(b);
-    match len {
-        1 => Seq::Char(lead, 1),
-        2 => two(s, at, lead % 32, row.1, row.2),
-        3 => three(s, at, lead % 16, row.1, row.2),
-        4 => four(s, at, lead % 8, row.1, row.2),
-        _ => Seq::Ill,
-    }
 }
 
 // How far a walk over characters came: how many, and their length in bytes.

@@ -1,4 +1,4 @@
-// A character of a text that is known to be well-formed: its lead byte tells its length, and no byte is tested again (`text::seq_at` tests them all).
+// A character of a text that is known to be well-formed: its lead byte tells its length, and no byte is tested again (`text_seq::seq_at` tests them all).
 use text::Offset;
 ghost use mathlib.Core.Path.{_≡_};
 ghost use Prim.Native.Nat.{_+_, _<_};

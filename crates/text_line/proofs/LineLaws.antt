@@ -1,4 +1,4 @@
--- Laws of a whole line (`specs/Line.antt`): a walk with the line's length as the most characters, and the answers of `check_line` by its tests.
+-- Laws of a whole line (`specs/Line.antt`): a walk with the line's length as the most characters, and the answers of `line_check::check_line` by its tests.
 use mathlib.Core.Path.{_≡_, sym, ap, _∙_}
 use mathlib.Core.Bool.{true}
 use mathlib.Core.List.{List, [], _∷_}

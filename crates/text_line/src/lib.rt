@@ -1,16 +1,12 @@
-// A text as characters: how far a walk over them comes, whether all of it is well-formed, the offset of a place, and refusals 2 and 3 of a line.
+// A text as characters: how far a walk over them comes, whether all of it is well-formed, and the offset of a place.
 // The words of the contracts are those of `text`, in its specs/Text.antt and specs/Line.antt.
-use text::LineCheck;
 use text::Offset;
 use text::Place;
 use text::Seq;
 use text::Walked;
 ghost use mathlib.Core.Path.{_≡_};
 ghost use Rattle.text.specs.Text.{wellFormed, offsetOf};
-ghost use Rattle.text.specs.Line.{walked, lineCheck};
-
-// The most characters that a line may have.
-pub const MAX_CHARS: usize = 256;
+ghost use Rattle.text.specs.Line.{walked};
 
 // Over the characters from the start, at most so many, up to the end or an ill-formed sequence.
 pub fn walk(s: &[u8], most: usize) -> Walked
@@ -19,7 +15,7 @@ pub fn walk(s: &[u8], most: usize) -> Walked
     let mut count = 0;
     let mut at = 0;
     while count < most {
-        match text::seq_at(s, Offset(at)) {
+        match text_seq::seq_at(s, Offset(at)) {
             Seq::Char(_, len) => {
                 count += 1;
                 at += len;
@@ -49,18 +45,4 @@ pub fn offset_of(line: &[u8], place: Place) -> Offset
 {
     let w = walk(line, place.0);
     Offset(w.at)
-}
-
-// Refusals 2 and 3. The whole line is looked at for 2 before 3 is asked; an accepted line is walked once.
-pub fn check_line(line: &[u8]) -> LineCheck
-    ensures { λ r. ⌜ r ≡ lineCheck (now (line .entry)) ⌝ }
-{
-    let w = walk(line, line.len());
-    if w.at < line.len() {
-        return LineCheck::IllFormed(Offset(w.at));
-    }
-    if w.count <= MAX_CHARS {
-        return LineCheck::Chars(w.count);
-    }
-    LineCheck::TooLong(offset_of(line, Place(MAX_CHARS)))
 }

@@ -47,7 +47,7 @@ fn show_first(bytes: &[u8], n: usize)
 }
 
 fn show(line: &[u8]) {
-    match text_line::check_line(line) {
+    match line_check::check_line(line) {
         LineCheck::Chars(n) => {
             io::write_all(1, b"chars ");
             io::print_decimal(1, n as u64);
@@ -77,7 +77,7 @@ fn each(line: &[u8], n: usize) {
         io::write_all(1, b" ");
         io::print_decimal(1, at.0 as u64);
         io::write_all(1, b":");
-        if let Seq::Char(c, _) = text::seq_at(line, at) {
+        if let Seq::Char(c, _) = text_seq::seq_at(line, at) {
             io::print_hex(1, c as u64, 1);
         }
         p += 1;

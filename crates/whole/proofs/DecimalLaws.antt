@@ -1,23 +1,19 @@
--- Laws of `decimal`, `digitsFrom` and `readFrom` (`specs/Decimal.antt`, `specs/Answers.antt`), for this crate's proofs and its callers'. No contract cites this file.
--- In order: the text of one digit and of more; its length; rows of digits; the text and its number; a given number of digits; a loop that stores a text; bytes that are digits; rows of bytes.
+-- Laws of `decimal` and `digitsFrom` (`specs/Decimal.antt`), for this crate's proofs and its callers'. No contract cites this file.
+-- In order: the text of one digit and of more; its length; rows of digits; the text and its number; a given number of digits; a loop that stores a text; bytes that are digits.
 -- Assumes nothing.
 use mathlib.Core.Path.{_≡_, refl, sym, ap, _∙_}
-use mathlib.Core.Bool.{true, false, cond}
+use mathlib.Core.Bool.{true}
 use mathlib.Core.List.{List, [], _∷_, _++_, map, map-append, append-assoc, append-nil}
 use Prim.Native.Nat.{ℕ, zero, suc, _+_, _*_, _-_, _/_, _%_, _^_, _≤_, _<_}
-use native.Mathlib.Nat.{le-refl, le-trans, add-zero, zero-add, add-suc, suc-add}
+use native.Mathlib.Nat.{le-refl, add-zero, zero-add, add-suc, suc-add}
 use native.Mathlib.Numerals.{add-one}
 use lib.Pow.{pow-add}
 use native.Mathlib.Omega.{arith}
 use native.Mathlib.Decide.{decLt}
-use lib.Dec.{ltb}
-use lib.ListN.{length, length-append, drop, drop-of-length-le, getD, set, List·getD-append}
-use lib.Seq.{sets, drop-cons, getD-append-seam}
-use borrow.Author.Tests.{lt-ltb, le-ltb, le-leb, lt-leb}
+use lib.ListN.{length, length-append, getD, set, List·getD-append}
+use lib.Seq.{sets, getD-append-seam}
+use borrow.Author.Tests.{lt-ltb, le-ltb, le-leb}
 use Rattle.whole.proofs.SetsLaws.{sets-set-before}
-use Rattle.whole.specs.declared.Row.{Row}
-use Rattle.whole.specs.declared.Row.the-variants as Row
-use Rattle.whole.specs.Answers.{row, readFrom, readDigits}
 use Rattle.whole.specs.Whole.{TOP}
 use Rattle.whole.specs.Decimal.{decimal, decimalWithin, padded, ascii, digitsFrom, digitsValue, isDigit, digitOf}
 
@@ -105,12 +101,6 @@ pub digitsFrom-snoc : (v : ℕ) (ds : List ℕ) (d : ℕ) → digitsFrom v (ds +
 unfolding digitsFrom
 digitsFrom-snoc v ds d = digitsFrom-append v ds (d ∷ [])
 
--- further digits never lower a value: once above TOP, always above
-pub digitsFrom-le : (v : ℕ) (ds : List ℕ) → v ≤ digitsFrom v ds
-unfolding digitsFrom
-digitsFrom-le v [] = le-refl v
-digitsFrom-le v (d ∷ ds) = le-trans (omega arith) (digitsFrom-le (v * 10 + d) ds)
-
 -- ---- the text and its number
 pub digitsValue-decimal : (n : ℕ) → digitsValue (map digitOf (decimal n)) ≡ n
 unfolding digitsFrom
@@ -189,17 +179,11 @@ stored-all {i = zero} h r = r .stored ∙ rw (add-zero, r .all)
 stored-all {i = suc i} h r = absurd (omega arith)
 
 -- ---- bytes that are digits
-pub isDigit-yes : {b : ℕ} → 48 ≤ b → b ≤ 57 → isDigit b ≡ true
+isDigit-yes : {b : ℕ} → 48 ≤ b → b ≤ 57 → isDigit b ≡ true
 isDigit-yes h k = rw (le-leb _ _ h, le-leb _ _ k)
 
-pub isDigit-ascii : (d : ℕ) → d ≤ 9 → isDigit (48 + d) ≡ true
+isDigit-ascii : (d : ℕ) → d ≤ 9 → isDigit (48 + d) ≡ true
 isDigit-ascii d h = isDigit-yes {b = 48 + d} (omega arith) (omega arith)
-
-pub isDigit-below : {b : ℕ} → b < 48 → isDigit b ≡ false
-isDigit-below h = rw (lt-leb _ _ h)
-
-pub isDigit-over : {b : ℕ} → 57 < b → isDigit b ≡ false
-isDigit-over {b} h = rw (lt-leb b 57 h, le-leb 48 b (omega arith))
 
 -- every byte is an ASCII digit
 abbrev pub AllDigits : List ℕ → Type 0
@@ -230,40 +214,3 @@ decimal-first = decimal-ind (λ n. 0 < n → 48 < getD (decimal n) 0 0) one more
 
     more : (n : ℕ) → 10 ≤ n → (0 < n / 10 → 48 < getD (decimal (n / 10)) 0 0) → 0 < n → 48 < getD (decimal n) 0 0
     more n h f k = rw (decimal-more n h, List·getD-append (decimal (n / 10)) ((48 + n % 10) ∷ []) 0 0 (length-decimal-pos (n / 10))) (f (omega arith))
-
--- ---- rows of bytes
-pub readFrom-digits : (v : ℕ) (bs : List ℕ) → AllDigits bs → readFrom v bs ≡ row (digitsFrom v (map digitOf bs))
-unfolding readFrom digitsFrom
-readFrom-digits v [] f = refl
-readFrom-digits v (b ∷ bs) f = rw (f 0 (omega arith)) (readFrom-digits (v * 10 + digitOf b) bs (λ i h. f (suc i) (omega arith)))
-
-pub readDigits-decimal : (n : ℕ) → n ≤ TOP → readDigits (decimal n) ≡ Row.Fits n
-readDigits-decimal n h = readFrom-digits 0 (decimal n) (decimal-digits n) ∙ rw (digitsValue-decimal n, le-ltb TOP n h)
-
--- above TOP the value no longer counts
-read-above : (v w : ℕ) (bs : List ℕ) → TOP < v → TOP < w → readFrom v bs ≡ readFrom w bs
-unfolding readFrom
-read-above v w [] h k = rw (lt-ltb TOP v h, lt-ltb TOP w k)
-read-above v w (b ∷ bs) h k =
-    ap (λ (r : Row). cond (isDigit b) r Row.NoDigits) (read-above (v * 10 + digitOf b) (w * 10 + digitOf b) bs (omega arith) (omega arith))
-
--- a turn of a loop: v is the value of the bytes before i, or both are above TOP
-module _ (s : List ℕ) (v i : ℕ) (so-far : readFrom v (drop i s) ≡ readDigits s) where
-  pub turn-ends : length s ≤ i → readDigits s ≡ row v
-  unfolding readFrom
-  turn-ends h = sym so-far ∙ rw (drop-of-length-le s {i = i} h)
-
-  pub turn-no-digit : i < length s → isDigit (getD s i 0) ≡ false → readDigits s ≡ Row.NoDigits
-  unfolding readFrom
-  turn-no-digit h e = sym so-far ∙ rw (drop-cons s i 0 h, e)
-
-  pub turn-digit : {w : ℕ} → i < length s → isDigit (getD s i 0) ≡ true → w ≡ cond (ltb TOP v) v (v * 10 + digitOf (getD s i 0)) → readFrom w (drop (i + 1) s) ≡ readDigits s
-  unfolding readFrom
-  turn-digit {w} h e q = rw (add-one i, q) (go (decLt TOP v)) ∙ step ∙ so-far
-    where
-      step : readFrom (v * 10 + digitOf (getD s i 0)) (drop (suc i) s) ≡ readFrom v (drop i s)
-      step = rw (drop-cons s i 0 h, e)
-
-      go : Dec (TOP < v) → readFrom (cond (ltb TOP v) v (v * 10 + digitOf (getD s i 0))) (drop (suc i) s) ≡ readFrom (v * 10 + digitOf (getD s i 0)) (drop (suc i) s)
-      go (yes l) = rw (lt-ltb TOP v l) (read-above v (v * 10 + digitOf (getD s i 0)) (drop (suc i) s) l (omega arith))
-      go (no l) = rw (le-ltb TOP v (omega arith))

@@ -2,18 +2,17 @@
 -- Assumes nothing.
 use mathlib.Core.Path.{_≡_, ap, _∙_}
 use mathlib.Core.Bool.{false}
+use mathlib.Core.List.{map}
 use Prim.Native.Nat.{ℕ, _+_, _*_, _≤_, _<_}
 use native.Mathlib.Omega.{arith}
 use lib.Dec.{ltb, lit≤}
 use lib.Ieee.{binary64, mul, add, lt, toUnsigned, toBits, ofBits}
 use lib.Ieee.Exact.{HasValue}
 use lib.ListN.{length, getD}
-use Rattle.whole.specs.declared.Row.the-variants.{Fits}
 use Rattle.whole.specs.Whole.{TOP, ofNat}
-use Rattle.whole.specs.Decimal.{decimal}
-use Rattle.whole.specs.Answers.{readDigits}
+use Rattle.whole.specs.Decimal.{decimal, digitsValue, digitOf}
 use Rattle.whole.proofs.WholeLaws.{ofNat-value, ofNat-mul, ofNat-add, ofNat-lt, ofNat-to-unsigned, ofNat-bits-back, ofNat-bits-injective}
-use Rattle.whole.proofs.DecimalLaws.{AllDigits, decimal-digits, decimal-first, decimal-injective, readDigits-decimal, length-decimal-top}
+use Rattle.whole.proofs.DecimalLaws.{AllDigits, decimal-digits, decimal-first, decimal-injective, digitsValue-decimal, length-decimal-top}
 
 module _ (m n : ℕ) (m-top : m ≤ TOP) (n-top : n ≤ TOP) where
   -- the f64 of a whole number is that number, and as a u64 it is that number again
@@ -38,6 +37,6 @@ module _ (m n : ℕ) (m-top : m ≤ TOP) (n-top : n ≤ TOP) where
   pub bits-exact : (ofBits binary64 (toBits binary64 (ofNat n)) ≡ ofNat n) × (toBits binary64 (ofNat m) ≡ toBits binary64 (ofNat n) → m ≡ n)
   bits-exact = (ofNat-bits-back n, ofNat-bits-injective m-top n-top)
 
-  -- the decimal text of a value: at most 16 ASCII digits, no leading zero but in "0", no other number's, and read as the number
-  pub decimal-faithful : (length (decimal n) ≤ 16) × AllDigits (decimal n) × (0 < n → 48 < getD (decimal n) 0 0) × (decimal m ≡ decimal n → m ≡ n) × (readDigits (decimal n) ≡ Fits n)
-  decimal-faithful = (length-decimal-top n n-top, decimal-digits n, decimal-first n, decimal-injective, readDigits-decimal n n-top)
+  -- the decimal text of a value: at most 16 ASCII digits, no leading zero but in "0", no other number's, and its digits say the number
+  pub decimal-faithful : (length (decimal n) ≤ 16) × AllDigits (decimal n) × (0 < n → 48 < getD (decimal n) 0 0) × (decimal m ≡ decimal n → m ≡ n) × (digitsValue (map digitOf (decimal n)) ≡ n)
+  decimal-faithful = (length-decimal-top n n-top, decimal-digits n, decimal-first n, decimal-injective, digitsValue-decimal n)

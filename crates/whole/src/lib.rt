@@ -1,7 +1,6 @@
 // f64 values that are whole numbers up to TOP: what the Rust has `f64` for. Whole numbers are `ofNat` of specs/Whole.antt.
 ghost use mathlib.Core.Path.{_≡_};
 ghost use Prim.Native.Nat.{ℕ, _+_, _*_, _≤_};
-ghost use lib.Dec.{ltb};
 ghost use Rattle.whole.specs.Whole.{TOP, ofNat};
 ghost use Rattle.whole.specs.Answers.{value};
 
@@ -11,24 +10,11 @@ pub enum Value {
     Above,
 }
 
-// What a row of bytes says in decimal: the number; that it is above TOP; or that a byte is no ASCII digit.
-pub enum Row {
-    Fits(u64),
-    Above,
-    NoDigits,
-}
-
-// Whether x is above TOP: exact also where x is a product or a sum that was rounded.
-pub fn above_top(x: f64) -> bool
-    ensures { λ r. ⌜ ((k : ℕ) → x ≡ ofNat k → r ≡ ltb TOP k) ⌝ }
-{
-    x > 9007199254740991.0
-}
-
+// x, or that it is above TOP: exact also where x is a product or a sum that was rounded.
 fn fit(x: f64) -> Value
     ensures { λ r. ⌜ ((k : ℕ) → x ≡ ofNat k → r ≡ value k) ⌝ }
 {
-    if above_top(x) {
+    if x > 9007199254740991.0 {
         Value::Above
     } else {
         Value::Fits(x)
@@ -47,13 +33,6 @@ pub fn sum(a: f64, b: f64) -> Value
     fit(a + b)
 }
 
-// The f64 of n: n itself up to TOP, rounded to the nearest above.
-pub fn of_u64(n: u64) -> f64
-    ensures { λ r. ⌜ r ≡ ofNat n ⌝ }
-{
-    std::num::nearest_u64_to_f64(n)
-}
-
 // The whole number that x is; of any other x its whole part, and 0 where a u64 has none.
 pub fn to_u64(x: f64) -> u64
     ensures { λ r. ⌜ ((n : ℕ) → n ≤ TOP → x ≡ ofNat n → r ≡ n) ⌝ }
@@ -65,7 +44,7 @@ pub fn to_u64(x: f64) -> u64
     }
 }
 
-// The same casts where the number is known to be up to TOP: one step of the processor each.
+// The casts where the number is known to be up to TOP: one step of the processor each.
 pub fn f64_of(n: u64) -> f64
     requires { ⌜ n ≤ TOP ⌝ }
     ensures { λ r. ⌜ r ≡ ofNat n ⌝ }

@@ -1,7 +1,7 @@
 -- `digits::is_digit` meets its contract. The loop's invariant: the n starts passed and those of the rest that are not above c are all that are
 -- not above c. The measure is what is left of the table. As the table rises by ten or more, the first start above c ends the count, and only
 -- the run of the last start not above c can hold c. Assumes nothing.
-use mathlib.Core.Path.{_≡_, refl}
+use mathlib.Core.Path.{_≡_}
 use mathlib.Core.Logic.{⊎-elim}
 use Prim.Native.Nat.{_-_, _≤_}
 use native.Mathlib.Omega.{arith}
@@ -9,7 +9,8 @@ use lib.Dec.{leb}
 use lib.ListN.{getD}
 use borrow.Author.Needs.{needs}
 use Rattle.digits.specs.Digits.{starts, isDigit}
-use Rattle.digits.proofs.DigitsLaws.{Passed, none-passed, one-more, first-above, no-more, digit-none, digit-last}
+use Rattle.digits.proofs.DigitsLaws.{Passed, none-passed, one-more, first-above, no-more, digit-last}
+use Rattle.digits.proofs.TextEndsLaws.{first-run-digit}
 use Rattle.digits.proofs.is_digit.Statement.{statement}
 use Rattle.digits.proofs.is_digit.Tie as tie
 
@@ -19,12 +20,12 @@ Inv-loop c table n₀ n = (2 ≤ n) × (n ≤ 68) × Passed c n
 abbrev μ-loop : tie.MeasureT-loop
 μ-loop c table n₀ n = 68 - n
 
-first-passed : (c : tie.Else1 Inv-loop μ-loop) → Passed (c .before .args .c) 1
+two-passed : (c : tie.Else1 Inv-loop μ-loop) → Passed (c .before .args .c) 2
 unfolding starts
-first-passed c = one-more _ 0 (none-passed _) (omega arith) (c .if1 .left)
+two-passed c = one-more _ 1 (one-more _ 0 (none-passed _) (omega arith) (omega (arith, c .if1 .left))) (omega arith) (c .if1 .left)
 
 -- the loop is left with the number of all starts that are not above c
-last : (c : tie.Left-loop Inv-loop μ-loop) → let x = c .before .before .before .before .args .c in let s = getD starts (c .before .loop .n - 1) 0 in
+last : (c : tie.Left-loop Inv-loop μ-loop) → let x = c .before .before .before .args .c in let s = getD starts (c .before .loop .n - 1) 0 in
     (c .before .loop .n ≤ 68) × (s ≤ x) × (leb (x - s) 9 ≡ isDigit x)
 unfolding starts
 last c =
@@ -32,35 +33,17 @@ last c =
     let so-far = c .before .loop .inv .2 in
     digit-last _ n (⊎-elim (λ w. no-more _ n so-far (w .left)) (λ w. first-above _ n so-far (w .0 .taken) (w .1 .taken)) (c .loop-test .came)) (omega arith)
 
-array-read-if1 : tie.Need-array-read-if1 Inv-loop μ-loop
-array-read-if1 c = search needs
-
 returns : tie.Need-returns Inv-loop μ-loop
-unfolding starts
-returns c = digit-none _ 0 (first-above _ 0 (none-passed _) (omega arith) (c .if1 .taken)) refl
+returns c = first-run-digit (c .before .args .c) (c .if1 .taken)
+
+loop-holds : tie.Need-loop-holds Inv-loop μ-loop
+loop-holds c = (omega arith, omega arith, two-passed c)
+
+mul-if2 : tie.Need-mul-if2 Inv-loop μ-loop
+mul-if2 c = search needs
 
 array-read-if2 : tie.Need-array-read-if2 Inv-loop μ-loop
 array-read-if2 c = search needs
-
-array-read-result : tie.Need-array-read-result Inv-loop μ-loop
-array-read-result c = search needs
-
-sub-result : tie.Need-sub-result Inv-loop μ-loop
-sub-result c = search needs
-
-returns-2 : tie.Need-returns-2 Inv-loop μ-loop
-unfolding starts
-returns-2 c = digit-last _ 1 (first-above _ 1 (first-passed (c .before)) (omega arith) (c .if2 .taken)) (omega arith) .2
-
-loop-holds : tie.Need-loop-holds Inv-loop μ-loop
-unfolding starts
-loop-holds c = (omega arith, omega arith, one-more _ 1 (first-passed (c .before)) (omega arith) (c .if2 .left))
-
-mul-if3 : tie.Need-mul-if3 Inv-loop μ-loop
-mul-if3 c = search needs
-
-array-read-if3 : tie.Need-array-read-if3 Inv-loop μ-loop
-array-read-if3 c = search needs
 
 add-n : tie.Need-add-n Inv-loop μ-loop
 add-n c = search needs
@@ -72,24 +55,24 @@ loop-again : tie.Need-loop-again Inv-loop μ-loop
 unfolding starts
 loop-again c =
     let at-loop = c .before .before in
-    (omega arith, omega arith, one-more _ (at-loop .loop .n) (at-loop .loop .inv .2) (c .before .loop-test .taken) (c .if3 .left))
+    (omega arith, omega arith, one-more _ (at-loop .loop .n) (at-loop .loop .inv .2) (c .before .loop-test .taken) (c .if2 .left))
 
-sub-result-2 : tie.Need-sub-result-2 Inv-loop μ-loop
-sub-result-2 c = search needs
+sub-result : tie.Need-sub-result Inv-loop μ-loop
+sub-result c = search needs
 
 mul-result : tie.Need-mul-result Inv-loop μ-loop
 mul-result c = search needs
 
-array-read-result-2 : tie.Need-array-read-result-2 Inv-loop μ-loop
-array-read-result-2 c = search needs
+array-read-result : tie.Need-array-read-result Inv-loop μ-loop
+array-read-result c = search needs
 
-sub-result-3 : tie.Need-sub-result-3 Inv-loop μ-loop
+sub-result-2 : tie.Need-sub-result-2 Inv-loop μ-loop
 unfolding starts
-sub-result-3 c = last c .1
+sub-result-2 c = last c .1
 
-returns-3 : tie.Need-returns-3 Inv-loop μ-loop
+returns-2 : tie.Need-returns-2 Inv-loop μ-loop
 unfolding starts
-returns-3 c = last c .2
+returns-2 c = last c .2
 
 pub is-digit-spec : {M : Type 1} → statement M
 is-digit-spec =
@@ -97,20 +80,15 @@ is-digit-spec =
     (tie.spec
     Inv-loop
     μ-loop
-    array-read-if1
     returns
-    array-read-if2
-    array-read-result
-    sub-result
-    returns-2
     loop-holds
-    mul-if3
-    array-read-if3
+    mul-if2
+    array-read-if2
     add-n
     loop-less
     loop-again
-    sub-result-2
+    sub-result
     mul-result
-    array-read-result-2
-    sub-result-3
-    returns-3)
+    array-read-result
+    sub-result-2
+    returns-2)

@@ -1,11 +1,20 @@
 -- `edge_head::edge_at` meets its contract: the head is within the slice, and each field is read where the definition reads it. Assumes nothing.
-use mathlib.Core.Path.{_≡_}
+use mathlib.Core.Path.{_≡_, refl}
+use mathlib.Core.List.{List}
+use Prim.Native.Nat.{ℕ, _+_}
 use native.Mathlib.Omega.{arith}
+use Rattle.fields.specs.Fields.{leAt}
 use Rattle.edge.specs.Layout.{stringEnd}
 use Rattle.edge.specs.View.{viewAt}
 use borrow.Author.Needs.{needs}
 use Rattle.edge_head.proofs.edge_at.Statement.{statement}
 use Rattle.edge_head.proofs.edge_at.Tie as tie
+
+-- what is read in turn is the head
+view-read : (s : List ℕ) (at : ℕ) {n k m a z : ℕ} → n ≡ leAt s (at + 6) 2 → k ≡ leAt s (at + 6 + 2 + n) 2 → m ≡ leAt s at 2 → a ≡ leAt s (at + 2) 2 → z ≡ leAt s (at + 4) 2
+    → record { map = m; start = record { 0 = a }; end = record { 0 = z }; ty = record { at = at + 6 + 2; len = n }; txt = record { at = at + 6 + 2 + n + 2; len = k }; fields = at + 6 + 2 + n + 2 + k } ≡ viewAt s at
+unfolding viewAt stringEnd
+view-read s at p q e f g = rw (q, p, e, f, g) refl
 
 add-type-at : tie.Need-add-type-at
 unfolding stringEnd
@@ -76,8 +85,10 @@ unfolding stringEnd
 add-t21 c = omega arith
 
 returns : tie.Need-returns
-unfolding viewAt stringEnd
-returns c = cc
+returns c =
+    let map = c .before .before in
+    let txt = map .before in
+    view-read _ _ (txt .before .u16-at .ensures) (txt .u16-at2 .ensures) (map .u16-at3 .ensures) (c .before .u16-at4 .ensures) (c .u16-at5 .ensures)
 
 pub edge-at-spec : {M : Type 1} → statement M
 edge-at-spec =

@@ -1,2 +1,0 @@
--- Laws of the f64 fields.
-pub mod FloatLaws

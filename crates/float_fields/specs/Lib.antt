@@ -1,2 +1,0 @@
--- The definitions that the contracts of `float_fields` cite.
-pub mod FloatFields

@@ -1,0 +1,31 @@
+-- `statuses::written_at` meets its contract: the length, or what `place_of` answers. Assumes nothing.
+use mathlib.Core.Path.{sym, ap, _∙_}
+use borrow.Author.Needs.{needs}
+use Rattle.statuses.specs.Statuses.{writtenAt}
+use Rattle.statuses.proofs.written_at.Statement.{statement}
+use Rattle.statuses.proofs.written_at.Tie as tie
+
+enum-known-a : tie.Need-enum-known-a
+enum-known-a c = c .match .keys1
+
+enum-known-a-2 : tie.Need-enum-known-a-2
+enum-known-a-2 c = c .match .keys2
+
+place-of-requires : tie.Need-place-of-requires
+place-of-requires c κs = search needs
+
+returns : tie.Need-returns
+returns c = ap writtenAt (sym (c .before .a .given .1))
+
+returns-2 : tie.Need-returns-2
+returns-2 c = c .place-of .ensures ∙ ap writtenAt (sym (c .before .before .a2 .given .1))
+
+pub written-at-spec : {M : Type 1} → statement M
+written-at-spec =
+    tie.close
+    (tie.spec
+    enum-known-a
+    enum-known-a-2
+    place-of-requires
+    returns
+    returns-2)
