@@ -1,4 +1,4 @@
--- `markers::stands_somewhere` meets its contract. The loop's invariant: the text stands at no place before p, so that those from p on decide.
+-- `marker_any::stands_somewhere` meets its contract. The loop's invariant: the text stands at no place before p, so that those from p on decide.
 -- The measure is how many places are left. Assumes nothing.
 use mathlib.Core.Path.{_≡_}
 use Prim.Native.Nat.{_-_, _≤_, _<_}
@@ -7,10 +7,10 @@ use lib.ListN.{length, getD}
 use Rattle.text.specs.Text.{chars, offsetOf}
 use Rattle.text.proofs.PlaceLaws.{offset-le}
 use Rattle.numbers.specs.Fractions.{standsAt}
 use Rattle.markers.proofs.MarkLaws.{stands-told}
 use Rattle.markers.proofs.AnyLaws.{NoneBefore, none-start, none-ends, found-here, none-more}
-use Rattle.markers.proofs.stands_somewhere.Statement.{statement}
-use Rattle.markers.proofs.stands_somewhere.Tie as tie
+use Rattle.marker_any.proofs.stands_somewhere.Statement.{statement}
+use Rattle.marker_any.proofs.stands_somewhere.Tie as tie
 
 abbrev Inv-loop : tie.InvT-loop
 Inv-loop line offs n m p₀ p = NoneBefore (chars line) n m p

@@ -1,10 +1,10 @@
--- `markers::longest_of` meets its contract. The loop's invariant: the longest of the texts passed and those that are left is the longest of all. The measure is how many are left. Assumes nothing.
+-- `marker_find::longest_of` meets its contract. The loop's invariant: the longest of the texts passed and those that are left is the longest of all. The measure is how many are left. Assumes nothing.
 use borrow.Author.Needs.{needs}
 use Rattle.dicts.specs.Answers.{textField}
 use Rattle.dicts.proofs.LayoutLaws.{told, within-told}
 use Rattle.markers.proofs.MarkLaws.{SoFar, longest-starts, longest-turn, longest-fault, longest-ends}
-use Rattle.markers.proofs.longest_of.Statement.{statement}
-use Rattle.markers.proofs.longest_of.Tie as tie
+use Rattle.marker_find.proofs.longest_of.Statement.{statement}
+use Rattle.marker_find.proofs.longest_of.Tie as tie
 
 abbrev Inv-loop : tie.InvT-loop
 Inv-loop line at table from n best₀ next₀ left₀ best next left = SoFar line at table from n best next left

@@ -1,4 +1,4 @@
--- `markers::text_somewhere` meets its contract. Assumes nothing.
+-- `marker_any::text_somewhere` meets its contract. Assumes nothing.
 use mathlib.Core.Path.{_≡_, ap, _∙_}
 use mathlib.Core.List.{List}
 use Prim.Native.Nat.{ℕ, _+_, _-_}
@@ -6,10 +6,10 @@ use borrow.Author.Needs.{needs}
 use lib.ListN.{take, drop}
 use Rattle.text.specs.Text.{chars, wellFormed}
 use Rattle.dicts.specs.Answers.{partOf}
 use Rattle.markers.specs.Marks.{standsFrom}
 use Rattle.markers.proofs.MarkLaws.{cut-is}
-use Rattle.markers.proofs.text_somewhere.Statement.{statement}
-use Rattle.markers.proofs.text_somewhere.Tie as tie
+use Rattle.marker_any.proofs.text_somewhere.Statement.{statement}
+use Rattle.marker_any.proofs.text_somewhere.Tie as tie
 
 -- the text as it is cut out of the table
 text-is : (a : tie.Start) → take (a .args .m .at + a .args .m .len - a .args .m .at) (drop (a .args .m .at) (a .args .table .now)) ≡ partOf (a .args .table .now) (a .args .m)

@@ -1,13 +1,13 @@
--- `markers::any_marker` meets its contract, by both lists. Assumes nothing.
+-- `marker_any::any_marker` meets its contract, by both lists. Assumes nothing.
 use Prim.Native.Nat.{_≤_}
 use native.Mathlib.Omega.{arith}
 use Rattle.dicts.specs.Layout.{listAt}
 use Rattle.dicts.specs.Answers.{tableOf}
 use Rattle.markers.specs.Marks.{Formed}
 use Rattle.markers.proofs.MarkLaws.{Marks, table-marks, all-formed}
 use Rattle.markers.proofs.AnyLaws.{marked-first, marked-second}
-use Rattle.markers.proofs.any_marker.Statement.{statement}
-use Rattle.markers.proofs.any_marker.Tie as tie
+use Rattle.marker_any.proofs.any_marker.Statement.{statement}
+use Rattle.marker_any.proofs.any_marker.Tie as tie
 
 marks : (a : tie.Start) → Marks (tableOf (a .args .table .now) (a .args .h))
 marks a = table-marks (a .args .table .now) (a .pre .0 .checked)

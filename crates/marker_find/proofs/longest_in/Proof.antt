@@ -1,9 +1,9 @@
--- `markers::longest_in` meets its contract: a list's texts stand behind its count. Assumes nothing.
+-- `marker_find::longest_in` meets its contract: a list's texts stand behind its count. Assumes nothing.
 use borrow.Author.Needs.{needs}
 use native.Mathlib.Omega.{arith}
 use Rattle.markers.proofs.MarkLaws.{longest-missing, longest-list}
-use Rattle.markers.proofs.longest_in.Statement.{statement}
-use Rattle.markers.proofs.longest_in.Tie as tie
+use Rattle.marker_find.proofs.longest_in.Statement.{statement}
+use Rattle.marker_find.proofs.longest_in.Tie as tie
 
 returns : tie.Need-returns
 returns c = longest-missing _ _ _ _ (c .if1 .taken)

@@ -1,4 +1,4 @@
--- `markers::any_of` meets its contract. The loop's invariant: none of the texts passed stands anywhere, so that those that are left decide, and they
+-- `marker_any::any_of` meets its contract. The loop's invariant: none of the texts passed stands anywhere, so that those that are left decide, and they
 -- are well-formed. The measure is how many are left. Assumes nothing.
 use mathlib.Core.Path.{_≡_}
 use mathlib.Core.List.{List}
@@ -9,10 +9,10 @@ use Rattle.text.specs.Text.{chars}
 use Rattle.dicts.specs.Layout.{Is, text, textsAt}
 use Rattle.dicts.specs.Answers.{partOf, textField}
 use Rattle.dicts.proofs.LayoutLaws.{told, within-told}
 use Rattle.markers.specs.Marks.{Formed}
 use Rattle.markers.proofs.AnyLaws.{NonePassed, no-list, texts-start, texts-fault, texts-end, text-found, text-next, formed-first, formed-rest, list-formed}
-use Rattle.markers.proofs.any_of.Statement.{statement}
-use Rattle.markers.proofs.any_of.Tie as tie
+use Rattle.marker_any.proofs.any_of.Statement.{statement}
+use Rattle.marker_any.proofs.any_of.Tie as tie
 
 abbrev Inv-loop : tie.InvT-loop
 Inv-loop line offs n table list next₀ left₀ next left = NonePassed (chars line) n table list next left × Formed (textsAt left table next)

@@ -1,8 +1,8 @@
--- `markers::size_at` meets its contract. Assumes nothing.
+-- `marker_find::size_at` meets its contract. Assumes nothing.
 use borrow.Author.Needs.{needs}
 use Rattle.markers.proofs.MarkLaws.{cut-is, size-stands, size-none}
-use Rattle.markers.proofs.size_at.Statement.{statement}
-use Rattle.markers.proofs.size_at.Tie as tie
+use Rattle.marker_find.proofs.size_at.Statement.{statement}
+use Rattle.marker_find.proofs.size_at.Tie as tie
 
 add-end : tie.Need-add-end
 add-end c = search needs

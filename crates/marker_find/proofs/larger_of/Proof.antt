@@ -1,8 +1,8 @@
--- `markers::larger_of` meets its contract. Assumes nothing.
+-- `marker_find::larger_of` meets its contract. Assumes nothing.
 use mathlib.Core.Path.{sym}
 use Rattle.markers.proofs.MarkLaws.{larger-le, larger-lt}
-use Rattle.markers.proofs.larger_of.Statement.{statement}
-use Rattle.markers.proofs.larger_of.Tie as tie
+use Rattle.marker_find.proofs.larger_of.Statement.{statement}
+use Rattle.marker_find.proofs.larger_of.Tie as tie
 
 returns : tie.Need-returns
 returns c = sym (larger-le _ _ (c .if1 .taken))

@@ -1,8 +1,8 @@
--- `markers::longer_of` meets its contract, by its tests. Assumes nothing.
+-- `marker_find::longer_of` meets its contract, by its tests. Assumes nothing.
 use borrow.Author.Needs.{needs}
 use Rattle.markers.proofs.MarkLaws.{longer-none, longer-percentage, longer-connector}
-use Rattle.markers.proofs.longer_of.Statement.{statement}
-use Rattle.markers.proofs.longer_of.Tie as tie
+use Rattle.marker_find.proofs.longer_of.Statement.{statement}
+use Rattle.marker_find.proofs.longer_of.Tie as tie
 
 larger-of-requires : tie.Need-larger-of-requires
 larger-of-requires c κs = search needs

@@ -1,4 +1,4 @@
--- `markers::marker_at` meets its contract: the texts of a checked table are well-formed, so their bytes stand where their characters do. Assumes nothing.
+-- `marker_find::marker_at` meets its contract: the texts of a checked table are well-formed, so their bytes stand where their characters do. Assumes nothing.
 use borrow.Author.Needs.{needs}
 use mathlib.Core.Path.{_≡_, _∙_}
 use Prim.Native.Nat.{_≤_}
@@ -6,9 +6,9 @@ use native.Mathlib.Omega.{arith}
 use lib.ListN.{length, getD}
 use Rattle.text.specs.Text.{offsetOf}
 use Rattle.text.proofs.PlaceLaws.{offset-le}
 use Rattle.markers.proofs.MarkLaws.{marker-is}
-use Rattle.markers.proofs.marker_at.Statement.{statement}
-use Rattle.markers.proofs.marker_at.Tie as tie
+use Rattle.marker_find.proofs.marker_at.Statement.{statement}
+use Rattle.marker_find.proofs.marker_at.Tie as tie
 
 -- the table of offsets has the place's
 is-offset : (a : tie.Start) → getD (a .args .offs .now) (a .args .p .0) 0 ≡ offsetOf (a .args .line .now) (a .args .p .0)
