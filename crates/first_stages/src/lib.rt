@@ -56,7 +56,7 @@ fn put_and_add(
 {
     let e = char_edge(table, p, record_at, place, c);
     put(w, 39424 + n * 56, e);
-    item_stage::add_char(w, l, line, offs, table, e)
+    item_char::add_char(w, l, line, offs, table, e)
 }
 
 // One character more: its edge behind those of the characters before it, if it has a record.

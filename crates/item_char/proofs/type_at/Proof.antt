@@ -1,4 +1,4 @@
--- `item_stage::type_at` meets its contract: the length of a checked record's type stands before it. Assumes nothing.
+-- `item_char::type_at` meets its contract: the length of a checked record's type stands before it. Assumes nothing.
 use mathlib.Core.Path.{sym, _∙_}
 use Prim.Native.Nat.{_+_, _≤_}
 use native.Mathlib.Nat.{le-add-right}
@@ -6,9 +6,9 @@ use native.Mathlib.Omega.{arith}
 use lib.ListN.{length, getD}
 use Rattle.items.proofs.RecordLaws.{typeEnd}
 use Rattle.items.proofs.TextLaws.{type-part, type-within}
-use Rattle.item_stage.proofs.TextsLaws.{cut}
-use Rattle.item_stage.proofs.type_at.Statement.{statement}
-use Rattle.item_stage.proofs.type_at.Tie as tie
+use Rattle.item_char.proofs.TextsLaws.{cut}
+use Rattle.item_char.proofs.type_at.Statement.{statement}
+use Rattle.item_char.proofs.type_at.Tie as tie
 
 within : (s : tie.Start) → typeEnd (s .args .table .now) (s .args .at) ≤ length (s .args .table .now)
 within s = type-within (s .args .table .now) (s .args .at) (s .pre)

@@ -1,4 +1,4 @@
--- `item_stage::fraction_at` meets its contract: the record is read where its map has a fraction, and there is one to read. Assumes nothing.
+-- `item_char::fraction_at` meets its contract: the record is read where its map has a fraction, and there is one to read. Assumes nothing.
 use borrow.Author.Needs.{needs}
 use mathlib.Core.Path.{_≡_, refl, _∙_}
 use Prim.Native.Nat.{ℕ, _≤_}
@@ -7,9 +7,9 @@ use lib.ListN.{length}
 use Rattle.items.proofs.RecordLaws.{typeEnd}
 use Rattle.items.proofs.TextLaws.{fault-told, type-within}
 use Rattle.item_fields.proofs.FieldLaws.{fraction-record, ratio-legal}
-use Rattle.item_stage.proofs.TextsLaws.{no-fraction}
-use Rattle.item_stage.proofs.fraction_at.Statement.{statement}
-use Rattle.item_stage.proofs.fraction_at.Tie as tie
+use Rattle.item_char.proofs.TextsLaws.{no-fraction}
+use Rattle.item_char.proofs.fraction_at.Statement.{statement}
+use Rattle.item_char.proofs.fraction_at.Tie as tie
 
 within : (s : tie.Start) → typeEnd (s .args .table .now) (s .args .at) ≤ length (s .args .table .now)
 within s = type-within (s .args .table .now) (s .args .at) (s .pre)

@@ -1,4 +1,4 @@
--- `item_stage::add_char` meets its contract: with rom or without. Assumes nothing.
+-- `item_char::add_char` meets its contract: with rom or without. Assumes nothing.
 use mathlib.Core.Path.{sym, _∙_}
 use native.Mathlib.Omega.{arith}
 use Rattle.text.specs.Text.{chars}
@@ -7,9 +7,9 @@ use Rattle.items.specs.Sound.{LegalAt, ItemIs}
 use Rattle.items.specs.Texts.{TextsAre}
 use Rattle.items.proofs.TextLaws.{places-of, type-within, own-part}
 use Rattle.item_fields.proofs.FieldLaws.{legal-there}
-use Rattle.item_stage.proofs.TextsLaws.{texts-there, texts-added, char-fraction, char-texts}
-use Rattle.item_stage.proofs.add_char.Statement.{statement}
-use Rattle.item_stage.proofs.add_char.Tie as tie
+use Rattle.item_char.proofs.TextsLaws.{texts-there, texts-added, char-fraction, char-texts}
+use Rattle.item_char.proofs.add_char.Statement.{statement}
+use Rattle.item_char.proofs.add_char.Tie as tie
 
 -- a character's record was checked
 legal : (s : tie.Start) → LegalAt (s .args .table .now) (s .args .x .«record_at» .0)

@@ -1,11 +1,11 @@
--- `item_stage::own_at` meets its contract: the offsets of the two places, and what stands between. Assumes nothing.
+-- `item_char::own_at` meets its contract: the offsets of the two places, and what stands between. Assumes nothing.
 use mathlib.Core.Path.{_∙_}
 use native.Mathlib.Omega.{arith}
 use lib.ListN.{getD}
 use Rattle.items.proofs.TextLaws.{part-places, spans, Spans}
-use Rattle.item_stage.proofs.TextsLaws.{cut-to}
-use Rattle.item_stage.proofs.own_at.Statement.{statement}
-use Rattle.item_stage.proofs.own_at.Tie as tie
+use Rattle.item_char.proofs.TextsLaws.{cut-to}
+use Rattle.item_char.proofs.own_at.Statement.{statement}
+use Rattle.item_char.proofs.own_at.Tie as tie
 
 own : (s : tie.Start) → Spans (s .args .line .now) (s .args .offs .now) (s .args .start) (s .args .end)
 own s = spans (s .args .line .now) (s .args .offs .now) (s .args .start) (s .args .end) (s .pre .0) (s .pre .1) (s .pre .2)

@@ -1,4 +1,4 @@
--- `item_stage::rom_at` meets its contract: a checked record with rom has it behind its type. Assumes nothing.
+-- `item_char::rom_at` meets its contract: a checked record with rom has it behind its type. Assumes nothing.
 use mathlib.Core.Path.{sym, _∙_}
 use mathlib.Core.List.{List, []}
 use Prim.Native.Nat.{ℕ, _+_, _≤_}
@@ -8,9 +8,9 @@ use lib.ListN.{length, getD}
 use Rattle.items.specs.Texts.{charTxt}
 use Rattle.items.proofs.RecordLaws.{typeEnd, Lies}
 use Rattle.items.proofs.TextLaws.{type-within, rom-part}
-use Rattle.item_stage.proofs.TextsLaws.{cut}
-use Rattle.item_stage.proofs.rom_at.Statement.{statement}
-use Rattle.item_stage.proofs.rom_at.Tie as tie
+use Rattle.item_char.proofs.TextsLaws.{cut}
+use Rattle.item_char.proofs.rom_at.Statement.{statement}
+use Rattle.item_char.proofs.rom_at.Tie as tie
 
 within : (s : tie.Start) → typeEnd (s .args .table .now) (s .args .at) ≤ length (s .args .table .now)
 within s = type-within (s .args .table .now) (s .args .at) (s .pre .0)
