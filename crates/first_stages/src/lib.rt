@@ -29,7 +29,7 @@ use dicts::layout::NumProp;
 use dicts::shape::Shape;
 use five::Passes;
 use lattice::Lattice;
-use pass_record::put;
+use pass_put::put;
 use text::Offset;
 
 // The lattice, and how many items the pass list has.

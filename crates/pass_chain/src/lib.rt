@@ -4,7 +4,7 @@ ghost use mathlib.Core.Path.{_≡_};
 ghost use Rattle.pass_list.specs.Item.{Item, EdgeIs};
 ghost use Rattle.pass_list.specs.ItemPass.{ItemChain, rule};
 ghost use Rattle.pass_list.specs.Answers.{passOf, ChainIs, answer};
-use pass_joined::counted;
+use pass_counted::counted;
 use pass_joined::joined_value;
 use pass_joined::over;
 use pass_list::chain::Chain;

@@ -3,8 +3,8 @@ use mathlib.Core.Path.{_≡_}
 use mathlib.Core.Bool.{true, false}
 use Rattle.pass_list.specs.ItemPass.{retaggable, retags}
 use borrow.Author.Needs.{needs}
-use Rattle.pass_joined.proofs.retags.Statement.{statement}
-use Rattle.pass_joined.proofs.retags.Tie as tie
+use Rattle.pass_counted.proofs.retags.Statement.{statement}
+use Rattle.pass_counted.proofs.retags.Tie as tie
 
 add-one-place : tie.Need-add-one-place
 add-one-place c = search needs

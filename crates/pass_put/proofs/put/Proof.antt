@@ -3,10 +3,10 @@ use mathlib.Core.Path.{ap}
 use native.Mathlib.Omega.{arith}
 use Rattle.pass_list.specs.declared.record.PassEdge.{PassEdge}
 use Rattle.pass_list.specs.Item.{NumIs}
-use Rattle.pass_record.proofs.FieldLaws.{put-head}
+use Rattle.pass_put.proofs.PutLaws.{put-head}
 use borrow.Author.Needs.{needs}
-use Rattle.pass_record.proofs.put.Statement.{statement}
-use Rattle.pass_record.proofs.put.Tie as tie
+use Rattle.pass_put.proofs.put.Statement.{statement}
+use Rattle.pass_put.proofs.put.Tie as tie
 
 cast-put-u16 : tie.Need-cast-put-u16
 cast-put-u16 c = let y = c .before .before .before .pre .1 in let s = y .1 .fits .start in omega (arith, ap (λ (e : PassEdge). e .start .0) (y .1 .is))

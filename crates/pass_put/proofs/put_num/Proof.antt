@@ -1,10 +1,10 @@
 -- `put_num` meets its contract: six numbers of eight bytes, one behind the other. Assumes nothing.
 use mathlib.Core.Path.{_≡_, ap}
 use Rattle.pass_list.specs.declared.record.NumData.{NumData}
-use Rattle.pass_record.proofs.FieldLaws.{put-numbers}
+use Rattle.pass_put.proofs.PutLaws.{put-numbers}
 use borrow.Author.Needs.{needs}
-use Rattle.pass_record.proofs.put_num.Statement.{statement}
-use Rattle.pass_record.proofs.put_num.Tie as tie
+use Rattle.pass_put.proofs.put_num.Statement.{statement}
+use Rattle.pass_put.proofs.put_num.Tie as tie
 
 u64-of-requires : tie.Need-u64-of-requires
 u64-of-requires c κs = let (x, y) = c .before .before .pre .1 in (x .value, y .fits .small .value, ap (λ (n : NumData). n .value) (y .is))

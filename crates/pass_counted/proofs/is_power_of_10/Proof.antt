@@ -1,8 +1,8 @@
 -- `is_power_of_10` meets its contract. The loop's invariant: what is left of n, divided further, decides. The measure is what is left of n. Assumes nothing.
 use native.Mathlib.Omega.{arith}
-use Rattle.pass_joined.proofs.PowerLaws.{Dividing, divides-first, divides-again, divides-ends, power-zero}
-use Rattle.pass_joined.proofs.is_power_of_10.Statement.{statement}
-use Rattle.pass_joined.proofs.is_power_of_10.Tie as tie
+use Rattle.pass_counted.proofs.PowerLaws.{Dividing, divides-first, divides-again, divides-ends, power-zero}
+use Rattle.pass_counted.proofs.is_power_of_10.Statement.{statement}
+use Rattle.pass_counted.proofs.is_power_of_10.Tie as tie
 
 abbrev Inv-loop : tie.InvT-loop
 Inv-loop n n₀ n' = Dividing n n'

@@ -5,8 +5,8 @@ use Rattle.pass_list.specs.declared.record.PassEdge.{PassEdge}
 use Rattle.pass_list.specs.Item.{Item, EdgeIs}
 use Rattle.pass_list.specs.ItemPass.{retags, withNumbers, counted}
 use borrow.Author.Needs.{needs}
-use Rattle.pass_joined.proofs.counted.Statement.{statement}
-use Rattle.pass_joined.proofs.counted.Tie as tie
+use Rattle.pass_counted.proofs.counted.Statement.{statement}
+use Rattle.pass_counted.proofs.counted.Tie as tie
 
 -- G4's test
 tested : (c : tie.After-retags) (x y : Item) → EdgeIs (c .before .before .before .before .args .last) x → EdgeIs (c .before .before .before .before .args .e) y → c .retags .result ≡ retags x y

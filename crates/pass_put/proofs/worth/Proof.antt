@@ -1,7 +1,7 @@
 -- `worth` meets its contract. Assumes nothing.
 use native.Mathlib.Omega.{arith}
-use Rattle.pass_record.proofs.worth.Statement.{statement}
-use Rattle.pass_record.proofs.worth.Tie as tie
+use Rattle.pass_put.proofs.worth.Statement.{statement}
+use Rattle.pass_put.proofs.worth.Tie as tie
 
 returns : tie.Need-returns
 returns c = (rw (c .if1 .taken) (omega arith), omega arith)
