@@ -79,7 +79,7 @@ fn add_signed(
     let mut txt = [0u8; 257];
     let n = sign_type(&mut ty, table, x, sign);
     let k = sign_txt(&mut txt, line, offs, table, x, sign);
-    lattice_write::add_regular(w, l, start, x.end, &ty[..n], &txt[..k])
+    lattice_regular::add_regular(w, l, start, x.end, &ty[..n], &txt[..k])
 }
 
 // The edge for one sign of the table, where it stands directly before the item.

@@ -1,12 +1,12 @@
--- `lattice_write::add_regular` meets its contract: the edge is written behind the listing, where there is always room, and added. Assumes nothing.
+-- `lattice_regular::add_regular` meets its contract: the edge is written behind the listing, where there is always room, and added. Assumes nothing.
 use mathlib.Core.Path.{_∙_}
 use native.Mathlib.Omega.{arith}
 use Rattle.edge.specs.Edge.{Edge}
 use Rattle.edge.specs.Write.{regular}
-use Rattle.lattice_write.proofs.ComposeLaws.{Composed, regular-composed}
+use Rattle.lattice_regular.proofs.ComposeLaws.{Composed, regular-composed}
 use borrow.Author.Needs.{needs}
-use Rattle.lattice_write.proofs.add_regular.Statement.{statement}
-use Rattle.lattice_write.proofs.add_regular.Tie as tie
+use Rattle.lattice_regular.proofs.add_regular.Statement.{statement}
+use Rattle.lattice_regular.proofs.add_regular.Tie as tie
 
 abbrev start : tie.After-write-regular → tie.Start
 start c = c .before .before .before .before .before
