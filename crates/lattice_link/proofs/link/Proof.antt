@@ -1,7 +1,8 @@
--- `lattice_add::link` meets its contract: it stores three cells and the count. Assumes nothing.
+-- `lattice_link::link` meets its contract: it stores three cells and the count. Assumes nothing.
 use borrow.Author.Needs.{needs}
-use Rattle.lattice_add.proofs.link.Statement.{statement}
-use Rattle.lattice_add.proofs.link.Tie as tie
+use Rattle.lattice_link.proofs.LinkLaws.{linked-by}
+use Rattle.lattice_link.proofs.link.Statement.{statement}
+use Rattle.lattice_link.proofs.link.Tie as tie
 
 mul-u16-at : tie.Need-mul-u16-at
 mul-u16-at c = search needs
@@ -44,7 +45,7 @@ returns c = let c4 = c .before .before in
     let c3 = c4 .before .before .before .before in
     let c2 = c3 .before .before .before .before in
     let c1 = c2 .before .before .before .before in
-    rw (c4 .put-u16 .ensures, c3 .put-cell3 .ensures, c2 .put-cell2 .ensures, c1 .put-cell .ensures, c1 .before .before .u16-at .ensures)
+    linked-by _ _ _ _ (c1 .before .before .u16-at .ensures) (c1 .put-cell .ensures) (c2 .put-cell2 .ensures) (c3 .put-cell3 .ensures) (c4 .put-u16 .ensures)
 
 pub link-spec : {M : Type 1} → statement M
 link-spec =

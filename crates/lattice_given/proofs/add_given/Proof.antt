@@ -1,4 +1,4 @@
--- `lattice_add::add_given` meets its contract: the bytes of the given edge are those of the edge that is read there, and a copy of them is added. Assumes nothing.
+-- `lattice_given::add_given` meets its contract: the bytes of the given edge are those of the edge that is read there, and a copy of them is added. Assumes nothing.
 use borrow.Author.Needs.{needs}
 use Prim.Native.Nat.{_+_, _-_, _≤_}
 use mathlib.Core.Path.{_≡_, refl, subst}
@@ -10,11 +10,11 @@ use Rattle.edge.specs.Edge.{Edge}
 use Rattle.edge.specs.Layout.{edgeAt}
 use Rattle.lattice.specs.declared.Adding.{Adding}
 use Rattle.lattice.specs.Kept.{Holds, Stands, AddingIs}
 use Rattle.lattice_add.proofs.GivenLaws.{given-stands, given-size}
 use Rattle.lattice_add.proofs.AddLaws.{copy-into, copy-frame, link-room, copy-room, add-too-much}
 use Rattle.lattice.proofs.HoldsLaws.{behind-same, add-nothing}
-use Rattle.lattice_add.proofs.add_given.Statement.{statement}
-use Rattle.lattice_add.proofs.add_given.Tie as tie
+use Rattle.lattice_given.proofs.add_given.Statement.{statement}
+use Rattle.lattice_given.proofs.add_given.Tie as tie
 
 abbrev start : tie.After-shared-slice-known → tie.Start
 start c = c .before .before
