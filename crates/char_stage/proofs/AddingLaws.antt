@@ -28,8 +28,8 @@ use Rattle.characters.proofs.InitialLaws.{so-far-none, so-far-skip, so-far-more
 use Rattle.five.specs.Five.{listedItems, behind}
 use Rattle.five.proofs.FrontLaws.{holds-front}
 use Rattle.five.proofs.FiveLaws.{add-all-append, listed-append}
-use Rattle.first_stages.specs.declared.First.{First}
-use Rattle.first_stages.specs.Stages.{Adding}
+use Rattle.char_stage.specs.declared.First.{First}
+use Rattle.char_stage.specs.CharStage.{Adding}
 
 -- ---- an item stored behind the lattice
 front-sets : (k : ℕ) (s : List ℕ) (i : ℕ) (bs : List ℕ) → k ≤ i → take k (sets s i bs) ≡ take k s

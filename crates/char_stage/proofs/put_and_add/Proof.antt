@@ -1,4 +1,4 @@
--- `first_stages::put_and_add` meets its contract: the item is stored behind the lattice, which stays, and then its edge is added. Assumes nothing.
+-- `char_stage::put_and_add` meets its contract: the item is stored behind the lattice, which stays, and then its edge is added. Assumes nothing.
 use borrow.Author.Needs.{needs}
 use mathlib.Core.Path.{_≡_, ap, _∙_}
 use Prim.Native.Nat.{_+_, _*_}
@@ -10,9 +10,9 @@ use Rattle.pass_list.specs.Stored.{recordBytes}
 use Rattle.items.specs.Sound.{ItemIs}
 use Rattle.characters.specs.CharItem.{charItem}
 use Rattle.characters.proofs.CharLaws.{char-kind}
-use Rattle.first_stages.proofs.AddingLaws.{stored-holds, stored-behind}
-use Rattle.first_stages.proofs.put_and_add.Statement.{statement}
-use Rattle.first_stages.proofs.put_and_add.Tie as tie
+use Rattle.char_stage.proofs.AddingLaws.{stored-holds, stored-behind}
+use Rattle.char_stage.proofs.put_and_add.Statement.{statement}
+use Rattle.char_stage.proofs.put_and_add.Tie as tie
 
 abbrev start : tie.After-char-edge → tie.Start
 start e = e .before .before .before .before

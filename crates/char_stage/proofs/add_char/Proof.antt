@@ -1,12 +1,12 @@
--- `first_stages::add_char` meets its contract: a character with a record is added behind the others, one without is passed over. Assumes nothing.
+-- `char_stage::add_char` meets its contract: a character with a record is added behind the others, one without is passed over. Assumes nothing.
 use borrow.Author.Needs.{needs}
 use native.Mathlib.Omega.{arith}
 use Rattle.text.proofs.TextLaws.{chars-scalars}
 use Rattle.char_index.proofs.IndexLaws.{found-told, nothing-told}
 use Rattle.characters.proofs.InitialLaws.{records-whole, found-sound}
-use Rattle.first_stages.proofs.AddingLaws.{adding-skip, adding-more}
-use Rattle.first_stages.proofs.add_char.Statement.{statement}
-use Rattle.first_stages.proofs.add_char.Tie as tie
+use Rattle.char_stage.proofs.AddingLaws.{adding-skip, adding-more}
+use Rattle.char_stage.proofs.add_char.Statement.{statement}
+use Rattle.char_stage.proofs.add_char.Tie as tie
 
 abbrev start : tie.After-find-char → tie.Start
 start f = f .before .before .before .before .before

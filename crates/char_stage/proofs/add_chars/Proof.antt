@@ -1,4 +1,4 @@
--- `first_stages::add_chars` meets its contract. The loop's invariant: the characters before place were added, at is the offset of that place, and the work space is as
+-- `char_stage::add_chars` meets its contract. The loop's invariant: the characters before place were added, at is the offset of that place, and the work space is as
 -- long as before. The measure is how many characters are left. Assumes nothing.
 use mathlib.Core.Path.{_≡_, refl, sym, _∙_}
 use Prim.Native.Nat.{_-_}
@@ -11,10 +11,10 @@ use Rattle.text_known.specs.Known.{charOf}
 use Rattle.text_known.proofs.KnownLaws.{reached-stands, reached-end}
 use Rattle.characters.specs.Initial.{recordsIn}
 use Rattle.characters.proofs.InitialLaws.{so-far-all}
-use Rattle.first_stages.specs.Stages.{Adding}
-use Rattle.first_stages.proofs.AddingLaws.{adding-none}
-use Rattle.first_stages.proofs.add_chars.Statement.{statement}
-use Rattle.first_stages.proofs.add_chars.Tie as tie
+use Rattle.char_stage.specs.CharStage.{Adding}
+use Rattle.char_stage.proofs.AddingLaws.{adding-none}
+use Rattle.char_stage.proofs.add_chars.Statement.{statement}
+use Rattle.char_stage.proofs.add_chars.Tie as tie
 
 abbrev Inv-loop : tie.InvT-loop
 Inv-loop w₀ line offs table all index entries done₀ place₀ at₀ w done place at = Adding line table (recordsIn table all) place w₀ (done₀ .lattice) w done × Reached line place at × (length w ≡ length w₀)

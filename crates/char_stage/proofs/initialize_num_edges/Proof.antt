@@ -1,12 +1,12 @@
--- `first_stages::initialize_num_edges` meets its contract: the table was checked, so that there are as many records as it says, and they rise; so they can be indexed.
+-- `char_stage::initialize_num_edges` meets its contract: the table was checked, so that there are as many records as it says, and they rise; so they can be indexed.
 -- The loop over the line does the rest. Assumes nothing.
 use borrow.Author.Needs.{needs}
 use native.Mathlib.Omega.{arith}
 use Rattle.characters.proofs.LegalLaws.{table-told}
 use Rattle.characters.proofs.InitialLaws.{said-records, records-whole}
-use Rattle.first_stages.proofs.StageLaws.{first-done}
-use Rattle.first_stages.proofs.initialize_num_edges.Statement.{statement}
-use Rattle.first_stages.proofs.initialize_num_edges.Tie as tie
+use Rattle.char_stage.proofs.FirstLaws.{first-done}
+use Rattle.char_stage.proofs.initialize_num_edges.Statement.{statement}
+use Rattle.char_stage.proofs.initialize_num_edges.Tie as tie
 
 abbrev start : tie.After-u16-at → tie.Start
 start u = u .before .before .before .before
