@@ -53,7 +53,7 @@ fn fraction_at(table: &[u8], at: usize) -> Fraction
 {
     if table[at + 4] / 4 % 2 == 1 {
         if let RecordAt::Record(p) = dicts::layout::record_at(table, at) {
-            return item_fields::fraction_of(p);
+            return item_fraction::fraction_of(p);
         }
     }
     Fraction {

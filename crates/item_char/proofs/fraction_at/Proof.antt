@@ -6,7 +6,7 @@ use native.Mathlib.Omega.{arith}
 use lib.ListN.{length}
 use Rattle.items.proofs.RecordLaws.{typeEnd}
 use Rattle.items.proofs.TextLaws.{fault-told, type-within}
-use Rattle.item_fields.proofs.FieldLaws.{fraction-record, ratio-legal}
+use Rattle.item_fraction.proofs.FractionLaws.{fraction-record, ratio-legal}
 use Rattle.item_char.proofs.TextsLaws.{no-fraction}
 use Rattle.item_char.proofs.fraction_at.Statement.{statement}
 use Rattle.item_char.proofs.fraction_at.Tie as tie

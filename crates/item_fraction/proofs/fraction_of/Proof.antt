@@ -1,9 +1,9 @@
--- `item_fields::fraction_of` meets its contract, by whether the record has a fraction. Assumes nothing.
+-- `item_fraction::fraction_of` meets its contract, by whether the record has a fraction. Assumes nothing.
 use mathlib.Core.Path.{_≡_, ap, _∙_}
 use mathlib.Core.Option.{some}
-use Rattle.item_fields.proofs.FieldLaws.{fraction-absent, fraction-there}
-use Rattle.item_fields.proofs.fraction_of.Statement.{statement}
-use Rattle.item_fields.proofs.fraction_of.Tie as tie
+use Rattle.item_fraction.proofs.FractionLaws.{fraction-absent, fraction-there}
+use Rattle.item_fraction.proofs.fraction_of.Statement.{statement}
+use Rattle.item_fraction.proofs.fraction_of.Tie as tie
 
 lowest-requires : tie.Need-lowest-requires
 lowest-requires c κs = c .before .before .pre (c .if1 .taken)

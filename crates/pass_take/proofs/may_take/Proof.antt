@@ -1,10 +1,10 @@
--- `may_take` meets its contract: what each pass's rule needs is in `proofs/FilterLaws.antt`. Assumes nothing.
+-- `may_take` meets its contract: what each pass's rule needs is in `pass_look`, proofs/FilterLaws.antt. Assumes nothing.
 use native.Mathlib.Omega.{arith}
 use Rattle.passes.specs.Passes.{D1, G1, G2, G3, G4}
 use Rattle.pass_look.proofs.FilterLaws.{take-may}
 use borrow.Author.Needs.{needs}
-use Rattle.pass_look.proofs.may_take.Statement.{statement}
-use Rattle.pass_look.proofs.may_take.Tie as tie
+use Rattle.pass_take.proofs.may_take.Statement.{statement}
+use Rattle.pass_take.proofs.may_take.Tie as tie
 
 u16-at-requires : tie.Need-u16-at-requires
 u16-at-requires c κs = omega (arith, c .before .pre)
