@@ -32,8 +32,8 @@ fn add_joined(
 {
     let mut ty = [0u8; 60];
     let mut txt = [0u8; 256];
-    let ty_len = items::type_of(&mut ty, table, x);
-    let len = items::txt_of(&mut txt, line, offs, table, x);
+    let ty_len = item_type::type_of(&mut ty, table, x);
+    let len = item_txt::txt_of(&mut txt, line, offs, table, x);
     item_fields::add_texts(
         w,
         l,

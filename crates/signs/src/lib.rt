@@ -38,7 +38,7 @@ fn sign_type(buf: &mut [u8], table: &[u8], x: PassEdge, sign: u8) -> usize
     requires { ⌜ (62 ≤ length (now buf)) × ((i : Item) × EdgeIs x i × (length (typeOf (now table) i) ≤ 60)) ⌝ }
     ensures { λ r. ⌜ ((i : Item) → EdgeIs x i → Begins (now (buf .exit)) r (typeOf (now (table .entry)) i ++ (32 ∷ sign ∷ []))) ⌝ }
 {
-    let n = items::type_of(buf, table, x);
+    let n = item_type::type_of(buf, table, x);
     buf[n] = b' ';
     buf[n + 1] = sign;
     n + 2
@@ -57,7 +57,7 @@ fn sign_txt(
     ensures { λ r. ⌜ ((i : Item) → EdgeIs x i → Begins (now (buf .exit)) r (sign ∷ txtOf (chars (now (line .entry))) (now (table .entry)) i)) ⌝ }
 {
     buf[0] = sign;
-    let n = items::txt_of(&mut buf[1..], line, offs, table, x);
+    let n = item_txt::txt_of(&mut buf[1..], line, offs, table, x);
     n + 1
 }
 

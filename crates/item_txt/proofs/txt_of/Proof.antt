@@ -1,13 +1,13 @@
--- `items::txt_of` meets its contract, kind by kind. Assumes nothing.
+-- `item_txt::txt_of` meets its contract, kind by kind. Assumes nothing.
 use borrow.Author.Needs.{needs}
 use mathlib.Core.Path.{_≡_, sym, ap, _∙_}
 use native.Mathlib.Omega.{arith}
 use native.Mathlib.Nat.{zero-add}
 use Rattle.text.specs.Text.{chars}
 use Rattle.whole.proofs.DecimalLaws.{length-padded, length-decimal-top}
 use Rattle.items.proofs.TextLaws.{front-is, txt-char, txt-digits, txt-value, places-of, char-fits, value-is}
-use Rattle.items.proofs.txt_of.Statement.{statement}
-use Rattle.items.proofs.txt_of.Tie as tie
+use Rattle.item_txt.proofs.txt_of.Statement.{statement}
+use Rattle.item_txt.proofs.txt_of.Tie as tie
 
 char-txt-requires : tie.Need-char-txt-requires
 char-txt-requires c κs =

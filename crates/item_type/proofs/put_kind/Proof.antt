@@ -1,8 +1,8 @@
--- `items::put_kind` meets its contract, kind by kind. Assumes nothing.
+-- `item_type::put_kind` meets its contract, kind by kind. Assumes nothing.
 use borrow.Author.Needs.{needs}
 use Rattle.items.proofs.TextLaws.{front-is, name-d1, name-g1, name-g2, name-g3, name-g4}
-use Rattle.items.proofs.put_kind.Statement.{statement}
-use Rattle.items.proofs.put_kind.Tie as tie
+use Rattle.item_type.proofs.put_kind.Statement.{statement}
+use Rattle.item_type.proofs.put_kind.Tie as tie
 
 put-name-requires : tie.Need-put-name-requires
 put-name-requires c κs = search needs

@@ -1,13 +1,13 @@
--- `items::char_txt` meets its contract: rom is a part of the table, the character the line's bytes between two places. Assumes nothing.
+-- `item_txt::char_txt` meets its contract: rom is a part of the table, the character the line's bytes between two places. Assumes nothing.
 use borrow.Author.Needs.{needs}
 use mathlib.Core.Path.{_≡_, sym, ap, _∙_}
 use native.Mathlib.Omega.{arith}
 use lib.ListN.{length}
 use Rattle.fields.proofs.PartLaws.{length-part}
 use Rattle.text.specs.Text.{chars}
 use Rattle.items.proofs.TextLaws.{inside-told, txt-rom, txt-own, txt-fault, front-is, front-none, part-to, part-places, spans}
-use Rattle.items.proofs.char_txt.Statement.{statement}
-use Rattle.items.proofs.char_txt.Tie as tie
+use Rattle.item_txt.proofs.char_txt.Statement.{statement}
+use Rattle.item_txt.proofs.char_txt.Tie as tie
 
 record-at-requires : tie.Need-record-at-requires
 record-at-requires c κs = search needs

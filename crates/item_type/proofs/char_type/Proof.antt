@@ -1,10 +1,10 @@
--- `items::char_type` meets its contract: the type is a part of the table. Assumes nothing.
+-- `item_type::char_type` meets its contract: the type is a part of the table. Assumes nothing.
 use borrow.Author.Needs.{needs}
 use mathlib.Core.Path.{_≡_, sym, _∙_}
 use native.Mathlib.Omega.{arith}
 use Rattle.items.proofs.TextLaws.{inside-told, type-record, type-length, type-fault, front-is, front-none, part-to}
-use Rattle.items.proofs.char_type.Statement.{statement}
-use Rattle.items.proofs.char_type.Tie as tie
+use Rattle.item_type.proofs.char_type.Statement.{statement}
+use Rattle.item_type.proofs.char_type.Tie as tie
 
 record-at-requires : tie.Need-record-at-requires
 record-at-requires c κs = search needs

@@ -1,9 +1,9 @@
--- `items::type_of` meets its contract: a character's type is its record's, another's is the pass's name. Assumes nothing.
+-- `item_type::type_of` meets its contract: a character's type is its record's, another's is the pass's name. Assumes nothing.
 use borrow.Author.Needs.{needs}
 use mathlib.Core.List.{[]}
 use Rattle.items.proofs.TextLaws.{front-is, type-char, type-kind}
-use Rattle.items.proofs.type_of.Statement.{statement}
-use Rattle.items.proofs.type_of.Tie as tie
+use Rattle.item_type.proofs.type_of.Statement.{statement}
+use Rattle.item_type.proofs.type_of.Tie as tie
 
 char-type-requires : tie.Need-char-type-requires
 char-type-requires c κs = search needs
