@@ -31,7 +31,7 @@ fn choice_at(
     requires { ⌜ ((n : ℕ) × Ready (now line) (now table) h n) × Offsets (now line) (now offs) × ((es : List Edge) × Around (now w) l (now before) (now behind) es) × (p < length (chars (now line))) ⌝ }
     ensures { λ r. ⌜ ((es : List Edge) → Around (now (w .entry)) l (now (before .entry)) (now (behind .entry)) es → (madeOf es p r ≡ madeAt (tableOf (now (table .entry)) h) (chars (now (line .entry))) es p) × Valid es r) ⌝ }
 {
-    let marker = markers::marker_at(line, offs, table, h, Place(p));
+    let marker = marker_find::marker_at(line, offs, table, h, Place(p));
     made::made_at(w, l, before, behind, marker, Place(p))
 }
 

@@ -53,7 +53,7 @@ fn add_digit(w: &mut [u8], l: Lattice, b: u8, place: usize, marked: bool) -> Lat
         return l;
     }
     let txt = [b];
-    lattice_write::add_regular(w, l, Place(place), Place(place + 1), b"num", &txt)
+    lattice_regular::add_regular(w, l, Place(place), Place(place + 1), b"num", &txt)
 }
 
 // The edges of all digits whose places have no mark. One walk over the n characters of the line: ASCII digits, and no others, begin with the byte of one.

@@ -1,3 +1,2 @@
 -- The proofs of `first_stages`.
-pub mod AddingLaws
 pub mod StageLaws

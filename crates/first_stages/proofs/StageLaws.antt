@@ -1,16 +1,13 @@
--- Laws of the stages up to the five passes (`specs/Stages.antt`). No contract cites this file.
--- In order: the first items and their edges; after the passes. Assumes nothing.
+-- After the five passes (`specs/Stages.antt`). No contract cites this file. Assumes nothing.
 use mathlib.Core.Path.{_≡_, sym, ap, _∙_, subst}
 use mathlib.Core.Bool.{true}
 use mathlib.Core.List.{List, [], _++_, map, map-append}
-use Prim.Native.Nat.{ℕ, _+_, _≤_, _<_}
+use Prim.Native.Nat.{ℕ, _≤_, _<_}
 use native.Mathlib.Omega.{arith}
 use lib.ListN.{length, drop, getD}
 use Rattle.text.specs.declared.Place.{Place}
 use Rattle.text.specs.Text.{chars}
 use Rattle.text.proofs.TextLaws.{chars-scalars}
-use Rattle.fields.specs.Fields.{leAt}
-use Rattle.dicts.specs.Layout.{recordsAt}
 use Rattle.dicts.specs.Answers.{tableOf}
 use Rattle.dicts.specs.Table.{Table}
 use Rattle.dicts.specs.declared.shape.Shape.{Shape}
@@ -20,7 +17,6 @@ use Rattle.passes.specs.Passes.{five, joinedEdges}
 use Rattle.pass_list.specs.Item.{Item, nil}
 use Rattle.pass_list.specs.Edges.{edgeOf}
 use Rattle.pass_edges.specs.InTurn.{addedBy}
-use Rattle.pass_edges.proofs.EveryLaws.{every-map}
 use Rattle.edge.specs.Edge.{Edge}
 use Rattle.edge.specs.Layout.{listed}
 use Rattle.edge.specs.Check.{checkListing}
@@ -34,37 +30,17 @@ use Rattle.stages.proofs.CallLaws.{add-all-call}
 use Rattle.items.specs.Sound.{Sounds}
 use Rattle.items_theorems.proofs.Theorems.{items-call}
 use Rattle.characters.specs.Initial.{Initial}
-use Rattle.characters.proofs.InitialLaws.{said-initial}
 use Rattle.characters.proofs.Theorems.{initial-five}
 use Rattle.given.proofs.GivenLaws.{given-call}
 use Rattle.five.specs.declared.Passes.{Passes}
 use Rattle.five.specs.declared.Passes.the-variants.{Added, Above}
-use Rattle.five.specs.Five.{listedItems, behind, PassList, FiveIs}
+use Rattle.five.specs.Five.{listedItems, behind, FiveIs}
 use Rattle.five.proofs.FiveLaws.{add-all-append}
-use Rattle.five.proofs.RootLaws.{sounds-of}
 use Rattle.numbers.specs.Listed.{listedEdge}
 use Rattle.numbers.specs.Call.{afterPasses}
-use Rattle.first_stages.specs.declared.First.{First}
-use Rattle.first_stages.specs.Stages.{Adding, FirstDone, CallPassed}
+use Rattle.char_stage.specs.declared.First.{First}
+use Rattle.first_stages.specs.Stages.{CallPassed}
 
--- ---- the first items and their edges
-first-list : (line t : List ℕ) (h : Shape) (v : List ℕ) (n : ℕ) → length (chars line) ≤ 256 → Initial line t h (drop 39424 v) n → PassList (chars line) t 1 v n
-first-list line t h v n few i =
-    let f = i .few in
-    record {
-      sounds = sounds-of (i .items .made) (i .small) (i .rooted);
-      kinds = every-map (λ (x : Item). x .kind ≡ 0) (λ (x : Item). x .kind < 1) (λ x e. omega arith) (behind v n) (i .items .kinds);
-      few = omega arith;
-    }
-
--- all characters were added, by the count that the table begins with
-pub first-done : (line t : List ℕ) (h : Shape) {n left : ℕ} → Ready line t h n → left ≡ leAt t 0 2 → (s : List ℕ) (l : Lattice) (u : List ℕ) (r : First)
-    → Adding line t (recordsAt left t (h .records)) (length (chars line)) s l u r → FirstDone line t h s l u r
-first-done line t h ready count s l u r a =
-    let i : Initial line t h (drop 39424 u) (r .count) = said-initial t h (ready .checked) count line (a .so-far) in
-    record { initial = i; list = first-list line t h u (r .count) (omega (arith, ready .few, ready .count)) i; holds = a .holds }
-
--- ---- after the passes
 module _ (line t : List ℕ) (h : Shape) (given : List ℕ) {n count : ℕ} (ready : Ready line t h n) (legal : checkListing true n given ≡ Edges count) (bytes : (j : ℕ) → getD given j 0 < 256) (s : List ℕ) (r : First) (i : Initial line t h (drop 39424 s) (r .count)) where
   abbrev w : List ℕ
   w = chars line

@@ -1,153 +1,15 @@
 // The stages of the call up to the five passes: the given edges, those of the characters, and those that the passes join.
 ghost use mathlib.Core.Path.{_≡_};
 ghost use mathlib.Core.Bool.{true};
-ghost use mathlib.Core.List.{List, [], _∷_, _++_};
-ghost use Prim.Native.Nat.{ℕ, _+_, _<_, _≤_};
-ghost use lib.ListN.{length, getD};
-ghost use Rattle.text.specs.Text.{chars, wellFormed};
-ghost use Rattle.dicts.specs.Answers.{Inside};
-ghost use Rattle.char_index.specs.Index.{Indexed};
-ghost use Rattle.edge.specs.Edge.{Edge};
+ghost use Prim.Native.Nat.{ℕ, _≤_};
+ghost use lib.ListN.{length};
 ghost use Rattle.edge.specs.Check.{checkListing};
 ghost use Rattle.edge.specs.declared.ListingCheck.the-variants.{Edges};
-ghost use Rattle.lattice.specs.Lattice.{add};
-ghost use Rattle.lattice.specs.Kept.{Holds};
-ghost use Rattle.pass_list.specs.Edges.{edgeOf};
 ghost use Rattle.table_check.specs.Indexed.{RecordIndex};
-ghost use Rattle.numbers.specs.Listed.{listedEdge};
 ghost use Rattle.stages.specs.Ready.{Ready, Offsets};
-ghost use Rattle.items.specs.Sound.{Sound};
-ghost use Rattle.characters.specs.CharItem.{charItem};
-ghost use Rattle.characters.specs.Initial.{recordsIn, Records};
-ghost use Rattle.five.specs.Five.{behind};
-ghost use Rattle.first_stages.specs.Stages.{Room, Adding, FirstDone, CallPassed};
-use char_index::CharRecord;
-use char_index::Rest;
-use char_index::find_char;
-use characters::char_edge;
-use dicts::layout::NumProp;
+ghost use Rattle.first_stages.specs.Stages.{CallPassed};
 use dicts::shape::Shape;
 use five::Passes;
-use lattice::Lattice;
-use pass_record::put;
-use text::Offset;
-
-// The lattice, and how many items the pass list has.
-pub struct First {
-    pub lattice: Lattice,
-    pub count: usize,
-}
-
-// The edge of the code point c, whose record p stands at record_at: it is stored as the n-th item behind the lattice, and added to the lattice while it is at hand.
-fn put_and_add(
-    w: &mut [u8],
-    l: Lattice,
-    n: usize,
-    line: &[u8],
-    offs: &[usize; 257],
-    table: &[u8],
-    p: NumProp,
-    record_at: usize,
-    place: usize,
-    c: u32,
-) -> Lattice
-    requires { ⌜ Room (now w) l (now line) (now offs) × (n < 256) × (place < 256) × Inside (now table) p × Sound (chars (now line)) (now table) (charItem (now table) p «record_at» place c) ⌝ }
-    ensures { λ r. ⌜ (behind (now (w .exit)) (n + 1) ≡ behind (now (w .entry)) n ++ (charItem (now (table .entry)) p «record_at» place c ∷ [])) × ((es : List Edge) → Holds (now (w .entry)) l es → Holds (now (w .exit)) r (add es (listedEdge (edgeOf (chars (now (line .entry))) (now (table .entry)) (charItem (now (table .entry)) p «record_at» place c))))) ⌝ }
-{
-    let e = char_edge(table, p, record_at, place, c);
-    put(w, 39424 + n * 56, e);
-    item_stage::add_char(w, l, line, offs, table, e)
-}
-
-// One character more: its edge behind those of the characters before it, if it has a record.
-fn add_char(
-    w: &mut [u8],
-    done: First,
-    line: &[u8],
-    offs: &[usize; 257],
-    table: &[u8],
-    all: Rest,
-    index: &[u32; 256],
-    entries: usize,
-    place: usize,
-    c: u32,
-) -> First
-    requires { ⌜ Room (now w) (done .lattice) (now line) (now offs) × Records (now table) all × Indexed (now table) (recordsIn (now table) all) (now index) (all .left) entries × (done .count ≤ place) × (place < length (chars (now line))) × (getD (chars (now line)) place 0 ≡ c) ⌝ }
-    ensures { λ r. ⌜ ((s : List ℕ) (l : Lattice) → Adding (now (line .entry)) (now (table .entry)) (recordsIn (now (table .entry)) all) place s l (now (w .entry)) done → Adding (now (line .entry)) (now (table .entry)) (recordsIn (now (table .entry)) all) (place + 1) s l (now (w .exit)) r) ⌝ }
-{
-    let l = done.lattice;
-    let n = done.count;
-    match find_char(table, all, index, entries, c) {
-        CharRecord::At(p, at) => First {
-            lattice: put_and_add(w, l, n, line, offs, table, p, at, place, c),
-            count: n + 1,
-        },
-        CharRecord::Nothing => done,
-    }
-}
-
-// The characters of a well-formed line one after the other.
-fn add_chars(
-    w: &mut [u8],
-    l: Lattice,
-    line: &[u8],
-    offs: &[usize; 257],
-    table: &[u8],
-    all: Rest,
-    index: &[u32; 256],
-    entries: usize,
-) -> First
-    requires { ⌜ Room (now w) l (now line) (now offs) × (wellFormed (now line) ≡ true) × Records (now table) all × Indexed (now table) (recordsIn (now table) all) (now index) (all .left) entries ⌝ }
-    ensures { λ r. ⌜ Adding (now (line .entry)) (now (table .entry)) (recordsIn (now (table .entry)) all) (length (chars (now (line .entry)))) (now (w .entry)) l (now (w .exit)) r ⌝ }
-{
-    let mut done = First {
-        lattice: l,
-        count: 0,
-    };
-    let mut place: usize = 0;
-    let mut at: usize = 0;
-    while at < line.len() {
-        let c = text_known::char_at(line, Offset(at));
-        done = add_char(
-            w,
-            done,
-            line,
-            offs,
-            table,
-            all,
-            index,
-            entries,
-            place,
-            c.code,
-        );
-        place += 1;
-        at += c.len;
-    }
-    done
-}
-
-// The edges of the line's characters are added to the lattice, and their items stand behind it. index is that over the table's records.
-pub fn initialize_num_edges(
-    w: &mut [u8],
-    l: Lattice,
-    line: &[u8],
-    offs: &[usize; 257],
-    table: &[u8],
-    h: Shape,
-    index: &[u32; 256],
-    entries: usize,
-) -> First
-    requires { ⌜ ((es : List Edge) × Holds (now w) l es) × Offsets (now line) (now offs) × (65536 ≤ length (now w)) × ((n : ℕ) × Ready (now line) (now table) h n) × RecordIndex (now table) h (now index) entries ⌝ }
-    ensures { λ r. ⌜ FirstDone (now (line .entry)) (now (table .entry)) h (now (w .entry)) l (now (w .exit)) r ⌝ }
-{
-    // the table begins with the count of its records
-    let count = fields::u16_at(table, 0) as usize;
-    let all = Rest {
-        at: h.records,
-        left: count,
-    };
-    add_chars(w, l, line, offs, table, all, index, entries)
-}
 
 // The given edges, those of the characters, and those that the five passes join.
 pub fn passed(
@@ -166,7 +28,7 @@ pub fn passed(
 {
     let none = lattice_ends::empty(w);
     let given = given::add_all_given(w, none, edges, count);
-    let first = initialize_num_edges(w, given, line, offs, table, h, index, entries);
+    let first = char_stage::initialize_num_edges(w, given, line, offs, table, h, index, entries);
     let l = first.lattice;
     five::five_passes(w, l, line, offs, table, first.count)
 }

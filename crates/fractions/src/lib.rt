@@ -103,7 +103,7 @@ pub fn fractions(
     if l.len == 0 {
         return l;
     }
-    if !markers::any_marker(line, offs, table, h, n) {
+    if !marker_any::any_marker(line, offs, table, h, n) {
         return l;
     }
     let mut forms = [0usize; 256];

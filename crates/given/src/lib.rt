@@ -22,7 +22,7 @@ pub fn add_all_given(w: &mut [u8], l: Lattice, given: &[u8], count: usize) -> La
     let mut left = count;
     while 0 < left {
         let next = edge_next::next_at(given, at);
-        grown = lattice_add::add_given(w, grown, given, at, next);
+        grown = lattice_given::add_given(w, grown, given, at, next);
         at = next;
         left -= 1;
     }

@@ -1,34 +1,27 @@
 -- Laws of an item's fields. In order: the fraction; a numeric edge by its map and its fields; the item's map; its fields; what can be written.
 use mathlib.Core.Path.{_≡_, refl, sym, ap, _∙_, subst}
-use mathlib.Core.Bool.{Bool, true, false, cond, _&&_, true≢false}
-use mathlib.Core.List.{List, []}
+use mathlib.Core.Bool.{Bool, true, false, cond}
+use mathlib.Core.List.{List}
 use mathlib.Core.Option.{Option, none, some, Option·map, Option·some-injective, Option·some-ne-none}
-use Prim.Native.Nat.{ℕ, suc, _+_, _*_, _-_, _/_, _%_, _≤_, _<_}
+use Prim.Native.Nat.{ℕ, _+_, _-_, _≤_, _<_}
 use native.Mathlib.Omega.{arith}
 use lib.ListN.{length, getD}
-use lib.Dec.{eqb, ltb}
-use lib.Ieee.{binary64, toBits, isNan}
-use borrow.Author.Tests.{ltb-true, eq-eqb, ne-eqb, eqb-true}
-use Rattle.whole.specs.Whole.{TOP, ofNat}
-use Rattle.whole.specs.Decimal.{decimal, padded}
+use lib.Dec.{eqb}
+use borrow.Author.Tests.{eq-eqb, ne-eqb, eqb-true}
+use Rattle.whole.specs.Decimal.{padded}
 use Rattle.whole.proofs.WholeLaws.{ofNat-not-nan}
 use Rattle.fields.specs.Part.{part}
-use Rattle.fields.proofs.PartLaws.{length-part, part-all}
+use Rattle.fields.proofs.PartLaws.{part-all}
 use Rattle.text.specs.Text.{chars}
-use Rattle.text.proofs.RowLaws.{and-true}
-use Rattle.dicts.specs.Table.{Record}
-use Rattle.dicts.specs.Layout.{Is, Fault, readRecord, numbersIn}
-use Rattle.dicts.specs.Check.{allOf, small, positive, legalRatio, legalNumbers}
-use Rattle.dicts.specs.Answers.{optionally, recordOf}
-use Rattle.dicts.specs.declared.layout.NumProp.{NumProp}
-use Rattle.passes.specs.Characters.{lowest}
+use Rattle.dicts.specs.Check.{small}
+use Rattle.dicts.specs.Answers.{optionally}
 use Rattle.pass_list.specs.declared.record.PassEdge.{PassEdge}
-use Rattle.pass_list.specs.Item.{Item, passEdge, EdgeIs}
+use Rattle.pass_list.specs.Item.{Item, passEdge}
 use Rattle.pass_list.specs.Edges.{between, edgeOf, txtOf}
 use Rattle.stages.specs.Ready.{Offsets}
 use Rattle.edge.specs.declared.NumFields.{NumFields}
-use Rattle.edge.specs.Edge.{Text, Numeric, Edge, f64Bits, there, flag, numericMap}
-use Rattle.edge.specs.Layout.{bit, stands, only}
+use Rattle.edge.specs.Edge.{Text, Numeric, f64Bits, there, flag, numericMap}
+use Rattle.edge.specs.Layout.{bit, only}
 use Rattle.edge.specs.View.{textOf, numericOf}
 use Rattle.edge.specs.Write.{numeric, fieldsOf, Writable}
 use Rattle.edge_theorems.proofs.ReadBackLaws.{Bits, map-bits}
@@ -36,38 +29,13 @@ use Rattle.numbers.specs.Listed.{listedEdge}
 use Rattle.items.specs.declared.Fraction.{Fraction}
 use Rattle.items.specs.Sound.{LegalAt, Sound, ItemIs}
 use Rattle.items.specs.Texts.{charType, typeOf, TextsAre}
-use Rattle.items.specs.Fields.{itemFraction, recordFraction, FractionIs, itemMap, partOr, itemFields, Listable}
+use Rattle.items.specs.Fields.{itemFraction, FractionIs, itemMap, partOr, itemFields, Listable}
 use Rattle.items.proofs.TextLaws.{part-places, spans, Spans, between-short, txt-short, type-short, places-of}
 
 -- ---- the fraction
 pub fraction-joined : (t : List ℕ) (k at : ℕ) → (k ≡ 0 → ⊥) → none ≡ itemFraction t k at
 unfolding itemFraction
 fraction-joined t k at h = rw (ne-eqb k 0 h)
-
-module _ (p : NumProp) where
-  pub fraction-there : p .map / 4 % 2 ≡ 1 → some (lowest (p .numbers .numerator, p .numbers .denominator)) ≡ recordFraction p
-  fraction-there h = rw (eq-eqb (p .map / 4 % 2) 1 h)
-
-  pub fraction-absent : (p .map / 4 % 2 ≡ 1 → ⊥) → none ≡ recordFraction p
-  fraction-absent h = rw (ne-eqb (p .map / 4 % 2) 1 h)
-
-  module _ (s : List ℕ) (at : ℕ) (is : Is (recordOf s p) (p .next) ≡ readRecord s at) where
-    pub fraction-record : (k : ℕ) → k ≡ 0 → recordFraction p ≡ itemFraction s k at
-    unfolding itemFraction recordOf
-    fraction-record k z = rw (eq-eqb k 0 z, ← is)
-
-    -- a record that passed the check has no 0 below
-    pub ratio-legal : LegalAt s at → p .map / 4 % 2 ≡ 1 → 0 < p .numbers .denominator
-    unfolding legalNumbers recordOf allOf
-    ratio-legal l h =
-        let same : l .prop ≡ recordOf s p = cc (l .reads, is) in
-        let all : legalNumbers (numbersIn (recordOf s p)) ≡ true = rw same at (l .numbers) in
-        let n = numbersIn (recordOf s p) in
-        let three = and-true ((allOf small (n .value) && allOf legalRatio (n .fraction)) && allOf positive (n .base)) (allOf small (n .mult)) all .0 in
-        let two = and-true (allOf small (n .value) && allOf legalRatio (n .fraction)) (allOf positive (n .base)) three .0 in
-        let ratio : allOf legalRatio (optionally (eqb (p .map / 4 % 2) 1) (p .numbers .numerator, p .numbers .denominator)) ≡ true = and-true (allOf small (n .value)) (allOf legalRatio (n .fraction)) two .1 in
-        let there : legalRatio (p .numbers .numerator, p .numbers .denominator) ≡ true = rw (eq-eqb (p .map / 4 % 2) 1 h) at ratio in
-        ltb-true 0 _ (and-true (ltb 0 (p .numbers .denominator)) (small (p .numbers .denominator)) (and-true (small (p .numbers .numerator)) (positive (p .numbers .denominator)) there .1) .0)
 
 -- ---- a numeric edge by its map and its fields
 only-there : {A : Type 0} (o : Option A) (v : A) (k : ℕ) → k ≡ there o → ((a : A) → o ≡ some a → v ≡ a) → only (eqb k 1) v ≡ o

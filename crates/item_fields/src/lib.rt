@@ -1,6 +1,6 @@
 // An item of the pass list with its texts as an edge of the lattice (01, "From characters to edges"): the fields that it is listed with.
 ghost use mathlib.Core.Path.{_≡_};
-ghost use Prim.Native.Nat.{_*_, _/_, _%_, _≤_, _<_};
+ghost use Prim.Native.Nat.{_*_, _≤_};
 ghost use mathlib.Core.List.{List};
 ghost use lib.ListN.{length, drop};
 ghost use Rattle.text.specs.Text.{chars};
@@ -12,34 +12,13 @@ ghost use Rattle.lattice.specs.Lattice.{add};
 ghost use Rattle.lattice.specs.Kept.{Holds};
 ghost use Rattle.numbers.specs.Listed.{listedEdge};
 ghost use Rattle.items.specs.Texts.{TextsAre};
-ghost use Rattle.items.specs.Fields.{itemFraction, recordFraction, FractionIs, itemMap, partOr, itemFields, Listable};
-use dicts::layout::NumProp;
+ghost use Rattle.items.specs.Fields.{itemFraction, FractionIs, itemMap, partOr, itemFields, Listable};
 use edge::NumData;
 use edge::NumFields;
 use edge::Part;
 use items::Fraction;
 use lattice::Lattice;
 use pass_list::record::PassEdge;
-
-// The fraction of a record, in lowest terms.
-pub fn fraction_of(p: NumProp) -> Fraction
-    requires { ⌜ (p .map / 4 % 2 ≡ 1 → 0 < p .numbers .denominator) ⌝ }
-    ensures { λ r. ⌜ FractionIs r (recordFraction p) ⌝ }
-{
-    if p.map / 4 % 2 == 1 {
-        let r = ratio::lowest(p.numbers.numerator, p.numbers.denominator);
-        return Fraction {
-            there: true,
-            numerator: r.numerator,
-            denominator: r.denominator,
-        };
-    }
-    Fraction {
-        there: false,
-        numerator: 0,
-        denominator: 0,
-    }
-}
 
 // What a field adds to the map.
 fn worth(b: bool, of: u16) -> u16

@@ -1,3 +1,2 @@
--- Laws of an item's texts, and of adding items in turn.
+-- Laws of adding items in turn.
 pub mod AddingLaws
-pub mod TextsLaws

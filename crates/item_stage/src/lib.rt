@@ -1,10 +1,10 @@
 // The stage that adds the items of one kind to the lattice (01, "From characters to edges", "Five passes").
 ghost use mathlib.Core.Path.{_≡_};
-ghost use Prim.Native.Nat.{ℕ, _+_, _*_, _/_, _%_, _≤_};
+ghost use Prim.Native.Nat.{_+_, _*_, _≤_};
 ghost use mathlib.Core.List.{List, map};
-ghost use lib.ListN.{length, drop, getD};
+ghost use lib.ListN.{length, drop};
 ghost use Rattle.text.specs.Text.{chars};
-ghost use Rattle.pass_list.specs.Edges.{between, edgeOf};
+ghost use Rattle.pass_list.specs.Edges.{edgeOf};
 ghost use Rattle.pass_list.specs.Stored.{itemAt, itemsAt};
 ghost use Rattle.pass_edges.specs.InTurn.{ofKind};
 ghost use Rattle.stages.specs.Ready.{Offsets};
@@ -12,52 +12,11 @@ ghost use Rattle.edge.specs.Edge.{Edge};
 ghost use Rattle.lattice.specs.Lattice.{addAll};
 ghost use Rattle.lattice.specs.Kept.{Holds};
 ghost use Rattle.numbers.specs.Listed.{listedEdge};
-ghost use Rattle.items.specs.Sound.{LegalAt, Sound, Sounds};
-ghost use Rattle.items.specs.Texts.{charTxt, charType};
-ghost use Rattle.items.specs.Fields.{itemFraction, FractionIs};
+ghost use Rattle.items.specs.Sound.{Sound, Sounds};
 ghost use Rattle.items.specs.Adding.{Asks, Adds, addIf};
 use items::Fraction;
-use known_record::known::record_here;
 use lattice::Lattice;
 use pass_list::record::PassEdge;
-
-// Its fraction. Only a record that has one is read whole.
-fn fraction_at(table: &[u8], at: usize) -> Fraction
-    requires { ⌜ LegalAt (now table) at ⌝ }
-    ensures { λ r. ⌜ FractionIs r (itemFraction (now (table .entry)) 0 at) ⌝ }
-{
-    if table[at + 4] / 4 % 2 == 1 {
-        return item_fields::fraction_of(record_here(table, at));
-    }
-    Fraction {
-        there: false,
-        numerator: 0,
-        denominator: 0,
-    }
-}
-
-// A character is added: its type is a part of the table, its txt the rom there or else the character in the line.
-pub fn add_char(
-    w: &mut [u8],
-    l: Lattice,
-    line: &[u8],
-    offs: &[usize; 257],
-    table: &[u8],
-    x: PassEdge,
-) -> Lattice
-    requires { ⌜ Asks (now w) l (now line) (now offs) (now table) x × (x .kind ≡ 0) ⌝ }
-    ensures { λ r. ⌜ Adds (now (line .entry)) (now (table .entry)) x (now (w .entry)) l (now (w .exit)) r ⌝ }
-{
-    let at = x.record_at.0;
-    let f = fraction_at(table, at);
-    let ty = items::type_at(table, at);
-    if table[at + 4] / 1 % 2 == 1 {
-        let rom = items::rom_at(table, at);
-        return item_fields::add_texts(w, l, line, offs, table, x, f, ty, rom);
-    }
-    let own = items::own_at(line, offs, x.start.0, x.end.0);
-    item_fields::add_texts(w, l, line, offs, table, x, f, ty, own)
-}
 
 // A joined item is added: its type is the pass, its txt its digits or its value.
 fn add_joined(
@@ -73,8 +32,8 @@ fn add_joined(
 {
     let mut ty = [0u8; 60];
     let mut txt = [0u8; 256];
-    let ty_len = items::type_of(&mut ty, table, x);
-    let len = items::txt_of(&mut txt, line, offs, table, x);
+    let ty_len = item_type::type_of(&mut ty, table, x);
+    let len = item_txt::txt_of(&mut txt, line, offs, table, x);
     item_fields::add_texts(
         w,
         l,
@@ -105,7 +64,7 @@ fn add_item(
     ensures { λ r. ⌜ Adds (now (line .entry)) (now (table .entry)) x (now (w .entry)) l (now (w .exit)) r ⌝ }
 {
     if x.kind == 0 {
-        return add_char(w, l, line, offs, table, x);
+        return item_char::add_char(w, l, line, offs, table, x);
     }
     add_joined(w, l, line, offs, table, x)
 }

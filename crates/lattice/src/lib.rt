@@ -1,7 +1,7 @@
 // The lattice, kept in lent work space: edges are added once (01: "edges equal in start, end, txt and type are one, the first"),
 // turned inactive, and written to the output in the order of their first addition. The layout of the work space is in specs/Kept.antt.
 // Here are the types, and what reads an edge's offset or turns an edge inactive. `lattice_ends` makes an empty lattice and writes the listing,
-// `lattice_find` looks for an edge, `lattice_add` and `lattice_write` add one.
+// `lattice_find` looks for an edge, `lattice_add`, `lattice_regular` and `lattice_write` add one.
 ghost use mathlib.Core.Path.{_≡_};
 ghost use mathlib.Core.Bool.{false};
 ghost use mathlib.Core.List.{List};

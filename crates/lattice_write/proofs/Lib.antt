@@ -1,2 +1,1 @@
--- Laws of an edge that is written behind the listing, for the proofs of `lattice_write`.
-pub mod ComposeLaws
+-- No laws of its own: those of an edge that is written and added are in `lattice_regular`, proofs/ComposeLaws.antt.

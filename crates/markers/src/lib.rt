@@ -1,18 +1,13 @@
-// Markers and signs of the table in the line (01, "The rest of the call"): the marker that counts at a place, and the sign before a place.
-use dicts::layout::Part;
-use dicts::layout::TextAt;
-use dicts::shape::Shape;
+// Texts of the table in the line (01, "The rest of the call"): whether one stands at an offset, and the sign before a place. What a marker at a place is, for
+// `marker_find`; `marker_any` asks whether there is any.
 use text::Place;
 ghost use mathlib.Core.Path.{_≡_};
 ghost use mathlib.Core.Bool.{true};
-ghost use Prim.Native.Nat.{ℕ, _≤_, _<_};
+ghost use Prim.Native.Nat.{_≤_};
 ghost use lib.ListN.{length};
 ghost use Rattle.text.specs.Text.{chars, wellFormed};
-ghost use Rattle.dicts.specs.Layout.{textsAt, listAt};
-ghost use Rattle.dicts.specs.Answers.{partOf, Within, tableOf};
-ghost use Rattle.numbers.specs.Fractions.{larger, longer, markerAt};
-ghost use Rattle.stages.specs.Ready.{Ready, Offsets};
-ghost use Rattle.markers.specs.Marks.{bytesAt, NotBefore, sizeAt, longestAt, markerOf, signOf, Formed, standsFrom, anyStands, marked};
+ghost use Rattle.stages.specs.Ready.{Offsets};
+ghost use Rattle.markers.specs.Marks.{bytesAt, NotBefore, signOf};
 
 // The marker that counts at a place, with its length in characters.
 pub enum Marker {
@@ -40,7 +35,7 @@ fn last_differs(line: &[u8], end: usize, m: &[u8]) -> bool
 }
 
 // Whether the bytes m stand in the line at an offset.
-fn stands(line: &[u8], at: usize, m: &[u8]) -> bool
+pub fn stands(line: &[u8], at: usize, m: &[u8]) -> bool
     requires { ⌜ at ≤ length (now line) ⌝ }
     ensures { λ r. ⌜ r ≡ bytesAt (now (line .entry)) at (now (m .entry)) ⌝ }
 {
@@ -52,154 +47,6 @@ fn stands(line: &[u8], at: usize, m: &[u8]) -> bool
         return false;
     }
     text::same_bytes(&line[at..end], m)
-}
-
-// How many characters a text of the table has, if it stands at an offset of the line; 0 where it does not.
-fn size_at(line: &[u8], at: usize, table: &[u8], m: Part) -> usize
-    requires { ⌜ (at ≤ length (now line)) × Within (now table) m ⌝ }
-    ensures { λ r. ⌜ r ≡ sizeAt (now (line .entry)) at (partOf (now (table .entry)) m) ⌝ }
-{
-    let from = m.at;
-    let end = m.at + m.len;
-    let bytes = &table[from..end];
-    if stands(line, at, bytes) {
-        let w = text_line::walk(bytes, bytes.len());
-        return w.count;
-    }
-    0
-}
-
-fn larger_of(a: usize, b: usize) -> usize
-    ensures { λ r. ⌜ r ≡ larger a b ⌝ }
-{
-    if a <= b { b } else { a }
-}
-
-// The longest of n texts of the table that stands at an offset of the line, in characters.
-fn longest_of(line: &[u8], at: usize, table: &[u8], from: usize, n: usize) -> usize
-    requires { ⌜ at ≤ length (now line) ⌝ }
-    ensures { λ r. ⌜ r ≡ longestAt (now (line .entry)) at (textsAt n (now (table .entry)) from) ⌝ }
-{
-    let mut best = 0;
-    let mut next = from;
-    let mut left = n;
-    while 0 < left {
-        match dicts::layout::text_at(table, next) {
-            TextAt::Text(m, behind) => {
-                best = larger_of(best, size_at(line, at, table, m));
-                next = behind;
-                left -= 1;
-            }
-            TextAt::Fault => {
-                return best;
-            }
-        }
-    }
-    best
-}
-
-// The same of a list of the table.
-fn longest_in(line: &[u8], at: usize, table: &[u8], list: usize) -> usize
-    requires { ⌜ at ≤ length (now line) ⌝ }
-    ensures { λ r. ⌜ r ≡ longestAt (now (line .entry)) at (listAt (now (table .entry)) list) ⌝ }
-{
-    if table.len() <= list {
-        return 0;
-    }
-    let n = table[list] as usize;
-    longest_of(line, at, table, list + 1, n)
-}
-
-// The longer of a percentage marker and a connector, by their lengths: the percentage first at equal length.
-fn longer_of(percentage: usize, connector: usize) -> Marker
-    ensures { λ r. ⌜ markerOf r ≡ longer percentage connector ⌝ }
-{
-    if larger_of(percentage, connector) == 0 {
-        return Marker::NoMarker;
-    }
-    if connector <= percentage {
-        Marker::Percentage(percentage)
-    } else {
-        Marker::Connector(connector)
-    }
-}
-
-// The marker that counts at a place.
-pub fn marker_at(line: &[u8], offs: &[usize; 257], table: &[u8], h: Shape, p: Place) -> Marker
-    requires { ⌜ ((n : ℕ) × Ready (now line) (now table) h n) × Offsets (now line) (now offs) × (p .0 < length (chars (now line))) ⌝ }
-    ensures { λ r. ⌜ markerOf r ≡ markerAt (tableOf (now (table .entry)) h) (chars (now (line .entry))) (p .0) ⌝ }
-{
-    let place = p.0;
-    let at = offs[place];
-    let percentage = longest_in(line, at, table, h.percentages);
-    let connector = longest_in(line, at, table, h.connectors);
-    longer_of(percentage, connector)
-}
-
-// ---- whether a line has a marker at all: each text is looked for at all places, so that it is read from the table only once
-
-// Whether the bytes m stand at one of the n places of the line.
-fn stands_somewhere(line: &[u8], offs: &[usize; 257], n: usize, m: &[u8]) -> bool
-    requires { ⌜ Offsets (now line) (now offs) × (length (chars (now line)) ≡ n) × (n ≤ 256) × (wellFormed (now m) ≡ true) ⌝ }
-    ensures { λ r. ⌜ r ≡ standsFrom (chars (now (line .entry))) 0 n (now (m .entry)) ⌝ }
-{
-    let mut p = 0;
-    while p < n {
-        let at = offs[p];
-        if stands(line, at, m) {
-            return true;
-        }
-        p += 1;
-    }
-    false
-}
-
-// The same of a text of the table.
-fn text_somewhere(line: &[u8], offs: &[usize; 257], n: usize, table: &[u8], m: Part) -> bool
-    requires { ⌜ Offsets (now line) (now offs) × (length (chars (now line)) ≡ n) × (n ≤ 256) × Within (now table) m × (wellFormed (partOf (now table) m) ≡ true) ⌝ }
-    ensures { λ r. ⌜ r ≡ standsFrom (chars (now (line .entry))) 0 n (partOf (now (table .entry)) m) ⌝ }
-{
-    let from = m.at;
-    let end = m.at + m.len;
-    stands_somewhere(line, offs, n, &table[from..end])
-}
-
-// Whether a text of a list of the table stands at one of the n places.
-fn any_of(line: &[u8], offs: &[usize; 257], n: usize, table: &[u8], list: usize) -> bool
-    requires { ⌜ Offsets (now line) (now offs) × (length (chars (now line)) ≡ n) × (n ≤ 256) × Formed (listAt (now table) list) ⌝ }
-    ensures { λ r. ⌜ r ≡ anyStands (chars (now (line .entry))) 0 n (listAt (now (table .entry)) list) ⌝ }
-{
-    if table.len() <= list {
-        return false;
-    }
-    let mut next = list + 1;
-    let mut left = table[list] as usize;
-    while 0 < left {
-        match dicts::layout::text_at(table, next) {
-            TextAt::Text(m, behind) => {
-                if text_somewhere(line, offs, n, table, m) {
-                    return true;
-                }
-                next = behind;
-                left -= 1;
-            }
-            TextAt::Fault => {
-                return false;
-            }
-        }
-    }
-    false
-}
-
-// Whether a marker stands at one of the n places of the line.
-pub fn any_marker(line: &[u8], offs: &[usize; 257], table: &[u8], h: Shape, n: usize) -> bool
-    requires { ⌜ Ready (now line) (now table) h n × Offsets (now line) (now offs) ⌝ }
-    ensures { λ r. ⌜ r ≡ marked (tableOf (now (table .entry)) h) (chars (now (line .entry))) ⌝ }
-{
-    if any_of(line, offs, n, table, h.percentages) {
-        return true;
-    }
-    any_of(line, offs, n, table, h.connectors)
 }
 
 // ---- a sign directly before a place

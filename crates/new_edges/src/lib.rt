@@ -109,7 +109,7 @@ fn add_percent(w: &mut [u8], l: Lattice, left: usize, right: usize) -> Lattice
     let v = value_of(w, l, right);
     let mut buf = [0u8; 300];
     let n = put_percent(&mut buf, v);
-    lattice_write::add_regular(w, l, a.start, b.end, b"percentage", &buf[..n])
+    lattice_regular::add_regular(w, l, a.start, b.end, b"percentage", &buf[..n])
 }
 
 // The right edge's txt and "%", from a place on.
@@ -120,7 +120,7 @@ fn add_txt_percent(w: &mut [u8], l: Lattice, p: Place, right: usize) -> Lattice
     let b = head_of(w, l, right);
     let mut buf = [0u8; 300];
     let n = put_txt_percent(&mut buf, w, b.txt);
-    lattice_write::add_regular(w, l, p, b.end, b"percentage", &buf[..n])
+    lattice_regular::add_regular(w, l, p, b.end, b"percentage", &buf[..n])
 }
 
 // The fields of a fraction.

@@ -4,14 +4,18 @@ ghost use mathlib.Core.Path.{_≡_};
 ghost use Rattle.pass_list.specs.Item.{Item, EdgeIs};
 ghost use Rattle.pass_list.specs.ItemPass.{ItemChain, rule};
 ghost use Rattle.pass_list.specs.Answers.{passOf, ChainIs, answer};
-use pass_joined::counted;
+use pass_counted::counted;
 use pass_joined::joined_value;
 use pass_joined::over;
 use pass_list::chain::Chain;
 use pass_list::chain::Next;
 use pass_list::chain::Pass;
 use pass_list::record::PassEdge;
-use pass_rules::rule;
+use pass_rules::d1_rule;
+use pass_rules::g1_rule;
+use pass_rules::g2_rule;
+use pass_rules::g3_rule;
+use pass_rules::g4_rule;
 use whole::Value;
 
 // Whether the pass joins e, as it counts, to the chain, where they touch.
@@ -19,9 +23,30 @@ fn ruled(pass: Pass, c: Chain, e: PassEdge) -> bool
     requires { ⌜ ((x : ItemChain) × ChainIs c x) × ((y : Item) × EdgeIs e y) ⌝ }
     ensures { λ r. ⌜ ((x : ItemChain) (y : Item) → ChainIs c x → EdgeIs e y → r ≡ rule (passOf pass) x y) ⌝ }
 {
-    let left = whole::u64_of(c.edge.num.value);
-    let right = whole::u64_of(e.num.value);
-    rule(pass, c, left, e, right)
+    let value = whole::u64_of(e.num.value);
+    match pass {
+        Pass::D1 => d1_rule(c.more, c.edge.num.digit, e.num.digit),
+        Pass::G1 => {
+            let left = whole::u64_of(c.edge.num.value);
+            g1_rule(c.more, c.edge.num.base, left, e.num.base, e.num.large_power)
+        }
+        Pass::G2 => {
+            let plain = c.edge.num.has_value & !c.edge.num.large_power & !e.num.large_power;
+            let both = c.has_near & e.num.has_value & e.num.has_base;
+            g2_rule(plain, both, c.near, value, e.num.base, e.num.gap)
+        }
+        Pass::G3 => g3_rule(
+            c.more,
+            c.edge.num.has_value,
+            c.edge.num.large_power,
+            e.num.has_value,
+            e.num.large_power,
+        ),
+        Pass::G4 => {
+            let there = c.edge.num.has_value & e.num.has_value & e.num.has_base;
+            g4_rule(there, c.edge.num.base, value, e.num.base)
+        }
+    }
 }
 
 // What the next edge does to a chain.

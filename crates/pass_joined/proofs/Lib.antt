@@ -1,3 +1,2 @@
--- Laws of the source's constants and of powers of ten, for this crate's proofs.
+-- Laws of the source's constants, for this crate's proofs.
 mod ConstantLaws
-mod PowerLaws

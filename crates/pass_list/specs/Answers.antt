@@ -1,4 +1,4 @@
--- What the functions of `pass_chain` and `pass_run` answer, by the passes on items (specs/ItemPass.antt). Definitions only.
+-- What the functions of `pass_chain` and `pass_loop` answer, by the passes on items (specs/ItemPass.antt). Definitions only.
 --     passOf p          the pass that the code's name p stands for
 --     passChain x       the chain x as the code has it
 --     ChainIs c x       the code's chain c is x, and the edge over it fits

@@ -1,13 +1,12 @@
-// Whether a pass may join an edge of the list to the one before, or to a chain, by a few fields in the list's bytes: most edges join no neighbour, and this
-// says so before they are read. Where it says that the pass may, the pass's rule decides.
+// Whether a pass may join an edge of the list to the one before, by a few fields in the list's bytes: most edges join no neighbour, and this says so before
+// they are read. Where it says that the pass may, the pass's rule decides. `pass_take` asks the same of a chain.
 ghost use mathlib.Core.Path.{_≡_};
 ghost use mathlib.Core.Bool.{true};
 ghost use Prim.Native.Nat.{_+_, _≤_};
 ghost use lib.ListN.{length};
 ghost use Rattle.pass_list.specs.Stored.{itemAt};
-ghost use Rattle.pass_list.specs.ItemPass.{ItemChain, begin, joins};
-ghost use Rattle.pass_list.specs.Answers.{passOf, passChain};
-use pass_list::chain::Chain;
+ghost use Rattle.pass_list.specs.ItemPass.{begin, joins};
+ghost use Rattle.pass_list.specs.Answers.{passOf};
 use pass_list::chain::Pass;
 
 // Whether the pass may join the edges at two offsets: where it does, these few fields say so.
@@ -28,23 +27,5 @@ pub fn may_join(s: &[u8], a: usize, b: usize, pass: Pass) -> bool
         Pass::G2 => !(l / 64 % 2 == 1) & ((next < base) | (r / 512 % 2 == 1)),
         Pass::G3 => !(l / 64 % 2 == 1) & (r / 64 % 2 == 1),
         Pass::G4 => (1000 <= base) | (next < base),
-    }
-}
-
-// Whether the pass may join the edge at an offset to a chain.
-pub fn may_take(c: Chain, s: &[u8], at: usize, pass: Pass) -> bool
-    requires { ⌜ at + 56 ≤ length (now s) ⌝ }
-    ensures { λ r. ⌜ ((x : ItemChain) → c ≡ passChain x → joins (passOf pass) x (itemAt (now (s .entry)) at) ≡ true → r ≡ true) ⌝ }
-{
-    let start = fields::u16_at(s, at) as usize;
-    let r = fields::u16_at(s, at + 6);
-    let next = fields::u64_at(s, at + 16);
-    let touches = c.edge.end.0 == start;
-    match pass {
-        Pass::D1 => touches & (r / 256 % 2 == 1),
-        Pass::G1 => touches & !c.more,
-        Pass::G2 => touches & ((next < c.near) | (r / 512 % 2 == 1)),
-        Pass::G3 => touches & !c.more,
-        Pass::G4 => touches & ((1000 <= c.edge.num.base) | (next < c.edge.num.base)),
     }
 }

@@ -18,9 +18,9 @@ use pass_list::chain::Next;
 use pass_list::chain::Pass;
 use pass_list::run::Passed;
 use pass_look::may_join;
-use pass_look::may_take;
+use pass_put::put;
 use pass_record::get;
-use pass_record::put;
+use pass_take::may_take;
 use text::Place;
 
 // What the chain that an edge begins comes to: the index behind its last edge; or the start of the joined edge above TOP.

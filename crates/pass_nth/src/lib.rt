@@ -4,28 +4,24 @@ ghost use Prim.Native.Nat.{_+_, _*_, _≤_, _<_};
 ghost use lib.ListN.{length, take, drop};
 ghost use Rattle.pass_list.specs.Item.{AllSmall};
 ghost use Rattle.pass_list.specs.Stored.{itemsAt};
-ghost use Rattle.pass_list.specs.Answers.{PassedIs};
+ghost use Rattle.pass_list.specs.Answers.{passOf, PassedIs};
 ghost use Rattle.pass_nth.specs.Nth.{nth};
+use pass_list::chain::Pass;
 use pass_list::run::Passed;
+use pass_loop::run_pass;
 
-// The i-th pass over a list, counted from 0.
-fn apply(list: &mut [u8], n: usize, i: usize) -> Passed
-    requires { ⌜ (n * 56 ≤ length (now list)) × AllSmall (itemsAt (now list) 0 n) × (i < 5) ⌝ }
-    ensures { λ r. ⌜ PassedIs (nth i) (itemsAt (now (list .entry)) 0 n) (now (list .exit)) r ⌝ }
+// The i-th pass, counted from 0.
+fn pass_of(i: usize) -> Pass
+    requires { ⌜ i < 5 ⌝ }
+    ensures { λ r. ⌜ passOf r ≡ nth i ⌝ }
 {
-    if i == 0 {
-        return pass_run::apply_d1_digits(list, n);
+    match i {
+        0 => Pass::D1,
+        1 => Pass::G1,
+        2 => Pass::G2,
+        3 => Pass::G3,
+        _ => Pass::G4,
     }
-    if i == 1 {
-        return pass_run::apply_g1_multiplication(list, n);
-    }
-    if i == 2 {
-        return pass_run::apply_g2_addition(list, n);
-    }
-    if i == 3 {
-        return pass_run::apply_g3_large_power_multiplication(list, n);
-    }
-    pass_run::apply_g4_large_block_addition(list, n)
 }
 
 // The i-th pass over the list behind the lattice, which stays as it is.
@@ -34,5 +30,5 @@ pub fn pass_behind(w: &mut [u8], n: usize, i: usize) -> Passed
     ensures { λ r. ⌜ (take 39424 (now (w .exit)) ≡ take 39424 (now (w .entry))) × PassedIs (nth i) (itemsAt (drop 39424 (now (w .entry))) 0 n) (drop 39424 (now (w .exit))) r ⌝ }
 {
     let from = 39424;
-    apply(&mut w[from..], n, i)
+    run_pass(&mut w[from..], n, pass_of(i))
 }

@@ -1,10 +1,9 @@
-// The 56 bytes of an edge in the pass list, read and stored. The definitions are those of `pass_list`, specs/Item.antt and specs/Stored.antt.
+// The 56 bytes of an edge in the pass list, read. The definitions are those of `pass_list`, specs/Item.antt and specs/Stored.antt; `pass_put` stores them.
 ghost use mathlib.Core.Path.{_≡_};
-ghost use Prim.Native.Nat.{_+_, _*_, _≤_};
+ghost use Prim.Native.Nat.{_+_, _≤_};
 ghost use lib.ListN.{length};
-ghost use lib.Seq.{sets};
-ghost use Rattle.pass_list.specs.Item.{Item, numData, EdgeIs, NumIs, Small};
-ghost use Rattle.pass_list.specs.Stored.{digitOf, mapOf, numBytes, recordBytes, itemAt};
+ghost use Rattle.pass_list.specs.Item.{numData, EdgeIs, Small};
+ghost use Rattle.pass_list.specs.Stored.{itemAt};
 use pass_list::record::NumData;
 use pass_list::record::PassEdge;
 use text::Offset;
@@ -45,49 +44,4 @@ pub fn get(s: &[u8], at: usize) -> PassEdge
         record_at: Offset(fields::u64_at(s, at + 32) as usize),
         num: num_at(s, at),
     }
-}
-
-// What a mark adds to the map.
-fn worth(b: bool, of: u16) -> u16
-    ensures { λ r. ⌜ (r ≡ of * digitOf b) × (r ≤ of) ⌝ }
-{
-    if b { of } else { 0 }
-}
-
-fn map_of(n: NumData) -> u16
-    ensures { λ r. ⌜ r ≡ mapOf n ⌝ }
-{
-    worth(n.has_value, 2)
-        + worth(n.has_base, 8)
-        + worth(n.has_mult, 16)
-        + worth(n.has_script, 32)
-        + worth(n.large_power, 64)
-        + worth(n.digit, 256)
-        + worth(n.gap, 512)
-        + worth(n.cjk, 1024)
-}
-
-// The numbers from the value on.
-fn put_num(out: &mut [u8], at: usize, record_at: u64, n: NumData)
-    requires { ⌜ (at + 48 ≤ length (now out)) × ((x : Item) × NumIs n x) ⌝ }
-    ensures { λ _. ⌜ ((x : Item) → NumIs n x → «record_at» ≡ x .record-at → now (out .exit) ≡ sets (now (out .entry)) at (numBytes x)) ⌝ }
-{
-    fields_write::put_u64(out, at, whole::u64_of(n.value));
-    fields_write::put_u64(out, at + 8, n.base);
-    fields_write::put_u64(out, at + 16, whole::u64_of(n.base_multiplier));
-    fields_write::put_u64(out, at + 24, record_at);
-    fields_write::put_u64(out, at + 32, n.script.0 as u64);
-    fields_write::put_u64(out, at + 40, n.script_len as u64);
-}
-
-// Stores an edge at an offset.
-pub fn put(out: &mut [u8], at: usize, e: PassEdge)
-    requires { ⌜ (at + 56 ≤ length (now out)) × ((x : Item) × EdgeIs e x) ⌝ }
-    ensures { λ _. ⌜ ((x : Item) → EdgeIs e x → now (out .exit) ≡ sets (now (out .entry)) at (recordBytes x)) ⌝ }
-{
-    fields_write::put_u16(out, at, e.start.0 as u16);
-    fields_write::put_u16(out, at + 2, e.end.0 as u16);
-    fields_write::put_u16(out, at + 4, e.kind);
-    fields_write::put_u16(out, at + 6, map_of(e.num));
-    put_num(out, at + 8, e.record_at.0 as u64, e.num);
 }

@@ -1,61 +1,43 @@
-// Which edges a pass joins: each pass's rule. The definitions are those of `pass_list`, specs/ItemPass.antt, which mirror those of the passes on numbers
-// and marks.
+// Which edges a pass joins: each pass's rule, by the few fields that it asks for. The definitions are those of `pass_list`, specs/ItemPass.antt, which mirror
+// those of the passes on numbers and marks: x is the chain there, y the next edge as it counts. `pass_chain` reads the fields.
 ghost use mathlib.Core.Path.{_≡_};
-ghost use Rattle.pass_list.specs.Item.{Item, passEdge};
-ghost use Rattle.pass_list.specs.ItemPass.{ItemChain, d1Rule, g1Rule, g2Rule, g3Rule, g4Rule, rule};
-ghost use Rattle.pass_list.specs.Answers.{passOf, passChain};
-use pass_list::chain::Chain;
-use pass_list::chain::Pass;
-use pass_list::record::PassEdge;
+ghost use mathlib.Core.Bool.{_&&_, not};
+ghost use Rattle.pass_list.specs.Item.{Item};
+ghost use Rattle.pass_list.specs.ItemPass.{ItemChain, comparable, d1Rule, g1Rule, g2Rule, g3Rule, g4Rule};
 
-fn d1_rule(c: Chain, e: PassEdge) -> bool
-    ensures { λ r. ⌜ ((x : ItemChain) (y : Item) → c ≡ passChain x → e ≡ passEdge y → r ≡ d1Rule x y) ⌝ }
+// D1: whether the chain has more than one edge, and whether its edge and the next are digits.
+pub fn d1_rule(more: bool, left: bool, next: bool) -> bool
+    ensures { λ r. ⌜ ((x : ItemChain) (y : Item) → more ≡ x .more → left ≡ x .edge .digit → next ≡ y .digit → r ≡ d1Rule x y) ⌝ }
 {
-    (c.more | c.edge.num.digit) & e.num.digit
+    (more | left) & next
 }
 
-fn g1_rule(c: Chain, left: u64, e: PassEdge) -> bool
-    ensures { λ r. ⌜ ((x : ItemChain) (y : Item) → c ≡ passChain x → left ≡ x .edge .value → e ≡ passEdge y → r ≡ g1Rule x y) ⌝ }
+// G1: the base and the value of the chain's edge, and the base of the next, which may be a large power.
+pub fn g1_rule(more: bool, left: u64, value: u64, base: u64, large: bool) -> bool
+    ensures { λ r. ⌜ ((x : ItemChain) (y : Item) → more ≡ x .more → left ≡ x .edge .base → value ≡ x .edge .value → base ≡ y .base → large ≡ y .large-power → r ≡ g1Rule x y) ⌝ }
 {
-    !c.more & (c.edge.num.base == 1) & (1 <= left) & (1 < e.num.base) & !e.num.large_power
+    !more & (left == 1) & (1 <= value) & (1 < base) & !large
 }
 
-fn g2_rule(c: Chain, e: PassEdge, right: u64) -> bool
-    ensures { λ r. ⌜ ((x : ItemChain) (y : Item) → c ≡ passChain x → e ≡ passEdge y → right ≡ y .value → r ≡ g2Rule x y) ⌝ }
+// G2: whether the chain has a value and neither is a large power; whether both are there to be compared, the base before a gap with the next one's value
+// and base; and whether the next is a gap.
+pub fn g2_rule(plain: bool, both: bool, near: u64, value: u64, base: u64, gap: bool) -> bool
+    ensures { λ r. ⌜ ((x : ItemChain) (y : Item) → plain ≡ x .edge .has-value && not (x .edge .large-power) && not (y .large-power) → both ≡ comparable x y → near ≡ x .near → value ≡ y .value → base ≡ y .base → gap ≡ y .gap → r ≡ g2Rule x y) ⌝ }
 {
-    let both = c.has_near & e.num.has_value & e.num.has_base;
-    let exceeds = (right < c.near) & (e.num.base < c.near);
-    c.edge.num.has_value
-        & !c.edge.num.large_power
-        & !e.num.large_power
-        & ((both & exceeds) | (!both & e.num.gap))
+    let exceeds = (value < near) & (base < near);
+    plain & ((both & exceeds) | (!both & gap))
 }
 
-fn g3_rule(c: Chain, e: PassEdge) -> bool
-    ensures { λ r. ⌜ ((x : ItemChain) (y : Item) → c ≡ passChain x → e ≡ passEdge y → r ≡ g3Rule x y) ⌝ }
+// G3: whether the chain's edge and the next have a value, and which is a large power.
+pub fn g3_rule(more: bool, left: bool, left_large: bool, next: bool, large: bool) -> bool
+    ensures { λ r. ⌜ ((x : ItemChain) (y : Item) → more ≡ x .more → left ≡ x .edge .has-value → «left_large» ≡ x .edge .large-power → next ≡ y .has-value → large ≡ y .large-power → r ≡ g3Rule x y) ⌝ }
 {
-    !c.more & c.edge.num.has_value & !c.edge.num.large_power & e.num.has_value & e.num.large_power
+    !more & left & !left_large & next & large
 }
 
-fn g4_rule(c: Chain, e: PassEdge, right: u64) -> bool
-    ensures { λ r. ⌜ ((x : ItemChain) (y : Item) → c ≡ passChain x → e ≡ passEdge y → right ≡ y .value → r ≡ g4Rule x y) ⌝ }
+// G4: whether the chain has a value and the next a value and a base; the base before, and the next one's value and base.
+pub fn g4_rule(there: bool, left: u64, value: u64, base: u64) -> bool
+    ensures { λ r. ⌜ ((x : ItemChain) (y : Item) → there ≡ x .edge .has-value && y .has-value && y .has-base → left ≡ x .edge .base → value ≡ y .value → base ≡ y .base → r ≡ g4Rule x y) ⌝ }
 {
-    c.edge.num.has_value
-        & e.num.has_value
-        & e.num.has_base
-        & (right < c.edge.num.base)
-        & (e.num.base < c.edge.num.base)
-}
-
-// Whether the pass joins e to the chain, where they touch: left and right are their values.
-pub fn rule(pass: Pass, c: Chain, left: u64, e: PassEdge, right: u64) -> bool
-    ensures { λ r. ⌜ ((x : ItemChain) (y : Item) → c ≡ passChain x → left ≡ x .edge .value → e ≡ passEdge y → right ≡ y .value → r ≡ rule (passOf pass) x y) ⌝ }
-{
-    match pass {
-        Pass::D1 => d1_rule(c, e),
-        Pass::G1 => g1_rule(c, left, e),
-        Pass::G2 => g2_rule(c, e, right),
-        Pass::G3 => g3_rule(c, e),
-        Pass::G4 => g4_rule(c, e, right),
-    }
+    there & (value < left) & (base < left)
 }

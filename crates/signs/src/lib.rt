@@ -38,7 +38,7 @@ fn sign_type(buf: &mut [u8], table: &[u8], x: PassEdge, sign: u8) -> usize
     requires { ⌜ (62 ≤ length (now buf)) × ((i : Item) × EdgeIs x i × (length (typeOf (now table) i) ≤ 60) × Rooted (now table) i) ⌝ }
     ensures { λ r. ⌜ ((i : Item) → EdgeIs x i → Begins (now (buf .exit)) r (typeOf (now (table .entry)) i ++ (32 ∷ sign ∷ []))) ⌝ }
 {
-    let n = items::type_of(buf, table, x);
+    let n = item_type::type_of(buf, table, x);
     buf[n] = b' ';
     buf[n + 1] = sign;
     n + 2
@@ -57,7 +57,7 @@ fn sign_txt(
     ensures { λ r. ⌜ ((i : Item) → EdgeIs x i → Begins (now (buf .exit)) r (sign ∷ txtOf (chars (now (line .entry))) (now (table .entry)) i)) ⌝ }
 {
     buf[0] = sign;
-    let n = items::txt_of(&mut buf[1..], line, offs, table, x);
+    let n = item_txt::txt_of(&mut buf[1..], line, offs, table, x);
     n + 1
 }
 
@@ -79,7 +79,7 @@ fn add_signed(
     let mut txt = [0u8; 257];
     let n = sign_type(&mut ty, table, x, sign);
     let k = sign_txt(&mut txt, line, offs, table, x, sign);
-    lattice_write::add_regular(w, l, start, x.end, &ty[..n], &txt[..k])
+    lattice_regular::add_regular(w, l, start, x.end, &ty[..n], &txt[..k])
 }
 
 // The edge for one sign of the table, where it stands directly before the item.

@@ -20,7 +20,7 @@ empty-requires : tie.Need-empty-requires
 empty-requires c κs = search needs
 
 add-all-given-requires : tie.Need-add-all-given-requires
-add-all-given-requires c κs = search needs
+add-all-given-requires c κs = let e = c .before .before .before in let p = e .before .before .before .before .before .before .pre .2 in (([], e .empty .ensures .1), (p .0, p .2))
 
 initialize-num-edges-requires : tie.Need-initialize-num-edges-requires
 initialize-num-edges-requires c κs = let g = c .before .before .before in

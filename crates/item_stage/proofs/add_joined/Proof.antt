@@ -9,7 +9,7 @@ use Rattle.pass_list.specs.Item.{Item}
 use Rattle.items.specs.Sound.{ItemIs}
 use Rattle.items.specs.Texts.{TextsAre}
 use Rattle.item_fields.proofs.FieldLaws.{fraction-joined}
-use Rattle.item_stage.proofs.TextsLaws.{texts-there, texts-added, joined-fits, joined-texts}
+use Rattle.item_char.proofs.TextsLaws.{texts-there, texts-added, joined-fits, joined-texts}
 use Rattle.item_stage.proofs.add_joined.Statement.{statement}
 use Rattle.item_stage.proofs.add_joined.Tie as tie
 

@@ -3,7 +3,7 @@ use mathlib.Core.Path.{_∙_}
 use native.Mathlib.Omega.{arith}
 use Rattle.edge.specs.Edge.{Edge}
 use Rattle.edge.specs.Write.{numeric}
-use Rattle.lattice_write.proofs.ComposeLaws.{Composed, numeric-composed}
+use Rattle.lattice_regular.proofs.ComposeLaws.{Composed, numeric-composed}
 use borrow.Author.Needs.{needs}
 use Rattle.lattice_write.proofs.add_numeric.Statement.{statement}
 use Rattle.lattice_write.proofs.add_numeric.Tie as tie

@@ -5,7 +5,7 @@ use Rattle.pass_rules.proofs.g1_rule.Tie as tie
 
 returns : tie.Need-returns
 unfolding g1Rule
-returns c x y p l q = rw (p, l, q)
+returns c x y m l v b g = rw (m, l, v, b, g)
 
 pub g1-rule-spec : {M : Type 1} → statement M
 g1-rule-spec = tie.close (tie.spec returns)

@@ -5,7 +5,7 @@ use Rattle.pass_rules.proofs.g2_rule.Tie as tie
 
 returns : tie.Need-returns
 unfolding g2Rule
-returns c x y p q r = rw (p, q, r)
+returns c x y m l v b g a = rw (m, l, v, b, g, a)
 
 pub g2-rule-spec : {M : Type 1} → statement M
 g2-rule-spec = tie.close (tie.spec returns)

@@ -5,7 +5,7 @@ use Rattle.pass_rules.proofs.g3_rule.Tie as tie
 
 returns : tie.Need-returns
 unfolding g3Rule
-returns c x y p q = rw (p, q)
+returns c x y m l v b g = rw (m, l, v, b, g)
 
 pub g3-rule-spec : {M : Type 1} → statement M
 g3-rule-spec = tie.close (tie.spec returns)

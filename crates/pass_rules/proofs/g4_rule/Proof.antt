@@ -5,7 +5,7 @@ use Rattle.pass_rules.proofs.g4_rule.Tie as tie
 
 returns : tie.Need-returns
 unfolding g4Rule
-returns c x y p q r = rw (p, q, r)
+returns c x y m l v b = rw (m, l, v, b)
 
 pub g4-rule-spec : {M : Type 1} → statement M
 g4-rule-spec = tie.close (tie.spec returns)

@@ -1,0 +1,3 @@
+-- The proofs of `char_stage`.
+pub mod AddingLaws
+pub mod FirstLaws

@@ -1,0 +1,2 @@
+-- What the stage of the line's characters leaves.
+pub mod CharStage

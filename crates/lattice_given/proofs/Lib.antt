@@ -1,0 +1,1 @@
+-- No laws of its own: those of an edge of another listing are in `lattice_add`, proofs/GivenLaws.antt and proofs/AddLaws.antt.

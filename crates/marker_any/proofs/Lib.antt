@@ -1,0 +1,1 @@
+-- No laws of its own: those of texts that are looked for at all places are in `markers`, proofs/AnyLaws.antt.

@@ -1,0 +1,1 @@
+-- No laws of its own: those of markers are in `markers`, proofs/MarkLaws.antt.

@@ -1,0 +1,2 @@
+-- Laws of powers of ten, for this crate's proofs.
+mod PowerLaws
