@@ -1,14 +1,12 @@
-// The score of an edge in a listing, and the best of many (01, "The rest of the call").
+// The score of an edge in a listing (01, "The rest of the call").
 ghost use mathlib.Core.Path.{_≡_};
 ghost use Prim.Native.Nat.{_+_, _≤_};
 ghost use lib.ListN.{length};
 ghost use Rattle.edge.specs.Layout.{edgeAt, headEnd};
 ghost use Rattle.edge.specs.View.{textOf};
-ghost use Rattle.paths.specs.Best.{startsWith, regularClass, class, asked, score, best, withOffsets, Whole, found};
+ghost use Rattle.paths.specs.Best.{startsWith, regularClass, class, asked, score};
 use edge::Part;
-use paths::Found;
 use paths::Query;
-use text::Offset;
 
 // Whether a text of s begins with a prefix.
 fn starts_with(s: &[u8], t: Part, prefix: &[u8]) -> bool
@@ -84,28 +82,4 @@ pub fn score_at(s: &[u8], at: usize, q: Query, skip: bool) -> usize
         return class;
     }
     (end - start) * 8 + class
-}
-
-// The best of so many edges from an offset on. One walk over them.
-pub fn best_of(s: &[u8], first: usize, count: usize, q: Query, skip: bool) -> Found
-    requires { ⌜ Whole count (now s) first ⌝ }
-    ensures { λ r. ⌜ r ≡ found (best skip q (withOffsets count (now (s .entry)) first)) ⌝ }
-{
-    let mut at = first;
-    let mut left = count;
-    let mut top = 0;
-    let mut top_at = 0;
-    while 0 < left {
-        let score = score_at(s, at, q, skip);
-        if top < score {
-            top = score;
-            top_at = at;
-        }
-        at = edge_next::next_at(s, at);
-        left -= 1;
-    }
-    if top == 0 {
-        return Found::Nothing;
-    }
-    Found::At(Offset(top_at))
 }

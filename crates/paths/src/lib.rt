@@ -1,5 +1,5 @@
-// Reading a finished listing (01, "The rest of the call"): what is asked for and what is answered. The checks are in crate `path_check`, the score of an edge and the best of
-// many in `path_score`; the best edge and the neighbours in `queries`, the path in `path_listing`, the text shown in `shown`.
+// Reading a finished listing (01, "The rest of the call"): what is asked for and what is answered. The checks are in crates `path_check` and `path_refusals`, the score of
+// an edge in `path_score`, the best of many in `path_best`; the best edge and the neighbours in `queries`, the path in `path_listing`, the text shown in `shown`.
 use edge::Part;
 use text::Offset;
 use text::Place;

@@ -16,7 +16,7 @@ fn ask(line: &[u8], listing: &[u8], q: Query, skip: bool) -> Answer
             if !path_refusals::is_inside(chars, q) {
                 return Answer::Refused(Refusal::BadPlace);
             }
-            Answer::Best(path_score::best_of(listing, 2, count, q, skip))
+            Answer::Best(path_best::best_of(listing, 2, count, q, skip))
         }
     }
 }

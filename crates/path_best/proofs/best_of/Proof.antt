@@ -1,10 +1,10 @@
--- `path_score::best_of` meets its contract. The loop's invariant: what is kept and the edges that are left have the best of all (`Walk`). The measure is
+-- `path_best::best_of` meets its contract. The loop's invariant: what is kept and the edges that are left have the best of all (`Walk`). The measure is
 -- how many are left. Assumes nothing.
 use mathlib.Core.Logic.{⊎-elim}
 use native.Mathlib.Omega.{arith}
 use Rattle.paths.proofs.BestLaws.{Walk, walk-start, whole-head, whole-at, walk-better, walk-on, walk-nothing, walk-found}
-use Rattle.path_score.proofs.best_of.Statement.{statement}
-use Rattle.path_score.proofs.best_of.Tie as tie
+use Rattle.path_best.proofs.best_of.Statement.{statement}
+use Rattle.path_best.proofs.best_of.Tie as tie
 
 abbrev Inv-loop : tie.InvT-loop
 Inv-loop s first count q skip at₀ left₀ top₀ top-at₀ at left top top-at = Walk skip q s first count at left top top-at
