@@ -1,8 +1,9 @@
 -- Laws of a walk over a listing (`specs/Walk.antt`). No contract cites this file.
 use mathlib.Core.Path.{_≡_, refl, sym, ap, _∙_}
-use mathlib.Core.Bool.{Bool, true, false}
+use mathlib.Core.Bool.{Bool, true, false, cond}
 use mathlib.Core.List.{List}
-use Prim.Native.Nat.{ℕ, _+_, _≤_, _<_}
+use Prim.Native.Nat.{ℕ, zero, suc, _+_, _-_, _≤_, _<_}
+use native.Mathlib.Nat.{le-trans, le-of-eq}
 use native.Mathlib.Omega.{arith}
 use lib.ListN.{length}
 use lib.Dec.{leb}
@@ -14,7 +15,7 @@ use Rattle.edge.proofs.LayoutLaws.{if-on, if-off, string-end-ge}
 use Rattle.edge.proofs.CheckLaws.{head-within}
 use Rattle.walker.specs.declared.Here.{Here}
 use Rattle.walker.specs.declared.Here.the-variants.{Edge, End}
-use Rattle.walker.specs.Walk.{whole, hereAt, behind}
+use Rattle.walker.specs.Walk.{whole, hereAt, behind, onward}
 
 -- ---- an edge: it ends behind its offset
 pub next-past : (s : List ℕ) (at : ℕ) → at + 10 ≤ nextAt s at
@@ -49,3 +50,20 @@ module _ (s : List ℕ) (at : ℕ) {b : Bool} (is : b ≡ whole s at) where
 
   pub behind-end : b ≡ false → at ≡ behind s at
   behind-end off = if-off (whole s at) (nextAt s at) at (sym is ∙ off) refl
+
+-- ---- steps
+pub onward-none : (s : List ℕ) (at left : ℕ) {end : ℕ} → left ≤ 0 → onward left s at ≡ end → at ≡ end
+unfolding onward
+onward-none s at zero h e = e
+onward-none s at (suc left) h e = absurd (omega arith)
+
+pub onward-step : (s : List ℕ) (at left : ℕ) {next end : ℕ} → 0 < left → next ≡ behind s at → onward left s at ≡ end → onward (left - 1) s next ≡ end
+unfolding onward
+onward-step s at zero h n e = absurd (omega arith)
+onward-step s at (suc left) h n e = let m : suc left - 1 ≡ left = omega arith in rw (m, n) e
+
+-- where a step leads nowhere, no number of steps does
+pub onward-stuck : (s : List ℕ) (at left : ℕ) {next end : ℕ} → next ≡ behind s at → next ≡ at → onward left s at ≡ end → at ≡ end
+unfolding onward
+onward-stuck s at zero n m e = e
+onward-stuck s at (suc left) n m e = onward-stuck s at left n m (ap (onward left s) (sym m ∙ n) ∙ e)

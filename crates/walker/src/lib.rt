@@ -1,7 +1,7 @@
 // A walk over a listing, edge by edge from its front (01, "A form for each place"): a walker holds the listing and an offset.
 // Its functions are thin: the work is in functions of a slice and an offset. A walk ends where no whole edge stands, so nothing is required of the bytes.
 ghost use mathlib.Core.Path.{_≡_};
-ghost use Rattle.walker.specs.Walk.{whole, hereAt, behind};
+ghost use Rattle.walker.specs.Walk.{whole, hereAt, behind, onward};
 use edge::EdgeView;
 
 // Where the first edge of a listing stands.
@@ -51,6 +51,23 @@ fn behind(listing: &[u8], at: usize) -> usize
     }
 }
 
+// Where a walk from the front stands after i steps. It stops at its end, however many steps are left.
+fn onward(listing: &[u8], i: usize) -> usize
+    ensures { λ r. ⌜ r ≡ onward i (now (listing .entry)) 2 ⌝ }
+{
+    let mut at = FIRST;
+    let mut left = i;
+    while 0 < left {
+        let next = behind(listing, at);
+        if next == at {
+            return at;
+        }
+        at = next;
+        left -= 1;
+    }
+    at
+}
+
 // A walker at the first edge.
 pub fn start<'a>(listing: &'a [u8]) -> Walker<'a>
     ensures { λ r. ⌜ (r .listing ≡ listing .entry) × (r .at ≡ 2) ⌝ }
@@ -73,4 +90,21 @@ pub fn next<'a>(w: Walker<'a>) -> Walker<'a>
         listing: w.listing,
         at: behind(w.listing, w.at),
     }
+}
+
+// A walker at edge i, counted from 0.
+pub fn start_at<'a>(listing: &'a [u8], i: usize) -> Walker<'a>
+    ensures { λ r. ⌜ (r .listing ≡ listing .entry) × (r .at ≡ onward i (now (listing .entry)) 2) ⌝ }
+{
+    Walker {
+        listing,
+        at: onward(listing, i),
+    }
+}
+
+// Edge i of a listing, counted from 0.
+pub fn nth(listing: &[u8], i: usize) -> Here
+    ensures { λ r. ⌜ r ≡ hereAt (now (listing .entry)) (onward i (now (listing .entry)) 2) ⌝ }
+{
+    edge_here(start_at(listing, i))
 }
