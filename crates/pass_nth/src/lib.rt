@@ -10,7 +10,8 @@ use pass_list::chain::Pass;
 use pass_list::run::Passed;
 use pass_loop::run_pass;
 
-// The i-th pass, counted from 0.
+// The i-th pass, counted from 0: in the Rust apply_d1_digits, apply_g1_multiplication, apply_g2_addition, apply_g3_large_power_multiplication and
+// apply_g4_large_block_addition.
 fn pass_of(i: usize) -> Pass
     requires { ⌜ i < 5 ⌝ }
     ensures { λ r. ⌜ passOf r ≡ nth i ⌝ }
