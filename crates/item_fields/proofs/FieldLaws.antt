@@ -3,7 +3,7 @@ use mathlib.Core.Path.{_≡_, refl, sym, ap, _∙_, subst}
 use mathlib.Core.Bool.{Bool, true, false, cond}
 use mathlib.Core.List.{List}
 use mathlib.Core.Option.{Option, none, some, Option·map, Option·some-injective, Option·some-ne-none}
-use Prim.Native.Nat.{ℕ, _+_, _-_, _≤_, _<_}
+use Prim.Native.Nat.{ℕ, _+_, _*_, _-_, _≤_, _<_}
 use native.Mathlib.Omega.{arith}
 use lib.ListN.{length, getD}
 use lib.Dec.{eqb}
@@ -94,6 +94,11 @@ unfolding listedEdge edgeOf numericIn typeOf charType itemFraction
 listed-is w t x = refl
 
 -- ---- the item's map
+-- it is the sum of what the fields that are there are worth
+pub map-summed : (e : PassEdge) (f : Bool) {v r b m s l d : ℕ} → v ≡ 2 * flag (e .num .«has_value») → r ≡ 4 * flag f → b ≡ 8 * flag (e .num .«has_base») → m ≡ 16 * flag (e .num .«has_mult»)
+    → s ≡ 32 * flag (e .num .«has_script») → l ≡ 64 * flag (e .num .«large_power») → d ≡ 256 * flag (eqb (e .kind) 1) → 129 + v + r + b + m + s + l + d ≡ itemMap e f
+map-summed e f hv hr hb hm hs hl hd = rw (hv, hr, hb, hm, hs, hl, hd)
+
 there-only : {A : Type 0} (b : Bool) (a : A) → there (optionally b a) ≡ flag b
 there-only true a = refl
 there-only false a = refl
