@@ -1,6 +1,13 @@
 -- `path_check::check` meets its contract, by what the line's check and the listing's answer. Assumes nothing.
 use mathlib.Core.Path.{_≡_, sym, _∙_}
+use mathlib.Core.List.{List}
+use Prim.Native.Nat.{ℕ}
+use Rattle.text.specs.Line.{lineCheck}
+use Rattle.text.specs.declared.Offset.{Offset}
+use Rattle.text.specs.declared.LineCheck.the-variants.{IllFormed, TooLong}
 use Rattle.paths.specs.Reading.{readCheck}
+use Rattle.paths.specs.declared.Refusal.the-variants.{NotUtf8, OverLong}
+use Rattle.paths.specs.declared.Checked.the-variants.{Refused}
 use borrow.Author.Needs.{needs}
 use Rattle.path_check.proofs.check.Statement.{statement}
 use Rattle.path_check.proofs.check.Tie as tie
@@ -26,13 +33,20 @@ enum-known-at-3 c = search needs
 enum-known-count : tie.Need-enum-known-count
 enum-known-count c = search needs
 
-returns : tie.Need-returns
+-- a line that is no UTF-8, or too long
+ill-formed : (line s : List ℕ) {at : Offset} → lineCheck line ≡ IllFormed at → Refused (NotUtf8 at) ≡ readCheck line s
 unfolding readCheck
-returns c = rw (sym (c .before .before .before .check-line .ensures) ∙ c .before .at .given .1)
+ill-formed line s e = rw e
+
+over-long : (line s : List ℕ) {at : Offset} → lineCheck line ≡ TooLong at → Refused (OverLong at) ≡ readCheck line s
+unfolding readCheck
+over-long line s e = rw e
+
+returns : tie.Need-returns
+returns c = ill-formed _ _ (sym (c .before .before .before .check-line .ensures) ∙ c .before .at .given .1)
 
 returns-2 : tie.Need-returns-2
-unfolding readCheck
-returns-2 c = rw (sym (c .before .before .before .check-line .ensures) ∙ c .before .at2 .given .1)
+returns-2 c = over-long _ _ (sym (c .before .before .before .check-line .ensures) ∙ c .before .at2 .given .1)
 
 returns-3 : tie.Need-returns-3
 unfolding readCheck
