@@ -93,7 +93,7 @@ pub fn next<'a>(w: Walker<'a>) -> Walker<'a>
 }
 
 // A walker at edge i, counted from 0.
-pub fn start_at<'a>(listing: &'a [u8], i: usize) -> Walker<'a>
+fn start_at<'a>(listing: &'a [u8], i: usize) -> Walker<'a>
     ensures { λ r. ⌜ (r .listing ≡ listing .entry) × (r .at ≡ onward i (now (listing .entry)) 2) ⌝ }
 {
     Walker {
