@@ -24,12 +24,12 @@ use Rattle.dicts.specs.Table.{Text, Record}
 use Rattle.dicts.specs.Layout as Layout
 use Rattle.dicts.specs.Layout.{Field, Is, mapField, bit, text, optional, readNumbers, recordWith, readFields, readRecord}
 use Rattle.dicts.specs.Check.{digit, legalCodePoint, allOf, isDigitType, legalDigit, digitRule, legalTexts, legalNumbers, legalRecord}
-use Rattle.dicts.specs.Answers.{Ascii}
 use Rattle.dicts.proofs.LayoutLaws.{number-is, text-is, optional-there, fields-are, record-is}
 use Rattle.table_plain.specs.Plain.{LegalAt, Head, Digit, Numbers, Tail, TailIs, FieldsIs, PlainIs}
 use Rattle.table_plain.specs.declared.Behind.{Behind}
 use Rattle.table_plain.specs.declared.Behind.the-variants as Behind
-use Rattle.table_texts.proofs.MaskLaws.{ascii-part, ascii-formed}
+use Rattle.ascii_words.specs.Ascii.{Ascii}
+use Rattle.ascii_words.proofs.MaskLaws.{ascii-part, ascii-formed}
 
 -- ---- the map
 odd : (n : ℕ) → (2 * n + 1) % 2 ≡ 1
@@ -96,10 +96,10 @@ record Formed (s : List ℕ) (at : ℕ) (t : Text) (next : ℕ) : Type 0 where
   is : text s at ≡ Is t next
   formed : wellFormed t ≡ true
 
-formed-is : (s : List ℕ) (at next : ℕ) → getD s at 0 ≤ 60 → next ≡ at + 1 + getD s at 0 → next ≤ length s → Ascii s (at + 1) next next → Formed s at (part s (at + 1) (getD s at 0)) next
+formed-is : (s : List ℕ) (at next : ℕ) → getD s at 0 ≤ 60 → next ≡ at + 1 + getD s at 0 → next ≤ length s → Ascii s (at + 1) next → Formed s at (part s (at + 1) (getD s at 0)) next
 formed-is s at next k e l a = record {
   is = text-is s at (omega arith) k (omega arith) ∙ ap (Is (part s (at + 1) (getD s at 0))) (sym e);
-  formed = ascii-formed s (at + 1) (getD s at 0) (omega arith) (subst (λ (x : ℕ). Ascii s (at + 1) x x) e a);
+  formed = ascii-formed s (at + 1) (getD s at 0) (omega arith) (subst (Ascii s (at + 1)) e a);
 }
 
 -- ---- a record of such fields
@@ -161,21 +161,21 @@ numbers-is t x v b {w} {d} ev eb e h =
     record { small = rw (← ev) (ltb-false _ _ (one .0)); positive = rw (← eb) (omega arith); base-small = rw (← eb) (ltb-false _ _ (two .1)); digit = rw (← ev) h }
 
 pub tail-is : (s : List ℕ) (t rom at : ℕ) → 17 ≤ length s - at → getD s (at + 16) 0 ≤ 4 → getD s (at + 16) 0 ≤ length s - at - 17
-    → Ascii s (at + 17 + getD s (at + 16) 0 - 4) (at + 17 + getD s (at + 16) 0 - 4 + 4) (at + 17 + getD s (at + 16) 0 - 4 + 4) → Numbers t (leAt s rom 2) (leAt s at 8) (leAt s (at + 8) 8)
+    → Ascii s (at + 17 + getD s (at + 16) 0 - 4) (at + 17 + getD s (at + 16) 0 - 4 + 4) → Numbers t (leAt s rom 2) (leAt s at 8) (leAt s (at + 8) 8)
     → Tail s t rom at (at + 17 + getD s (at + 16) 0)
 tail-is s t rom at h k l a n =
     let next = at + 17 + getD s (at + 16) 0 in
-    record { numbers = n; room = omega arith; short = k; behind = refl; ends = omega arith; script = ascii-part s (next - 4) (next - 4 + 4) (at + 17) next (omega arith) (omega arith) (omega arith) a }
+    record { numbers = n; room = omega arith; short = k; behind = refl; ends = omega arith; script = ascii-part s (next - 4) (next - 4 + 4) (at + 17) next (omega arith) (omega arith) a }
 
 pub fields-is : (s : List ℕ) (at n q : ℕ) (r : Behind) → n ≡ getD s at 0 → q ≡ getD s (at + 1 + n) 0 → n + 2 + q ≤ 24 → ((i : ℕ) → getD s i 0 < 256) → at + (n + 2 + q) ≤ length s
-    → Ascii s at (at + (n + 2 + q)) (at + (n + 2 + q)) → TailIs s (getD s (at + 1) 0) (at + 1 + n) (at + (n + 2 + q)) r → FieldsIs s at r
+    → Ascii s at (at + (n + 2 + q)) → TailIs s (getD s (at + 1) 0) (at + 1 + n) (at + (n + 2 + q)) r → FieldsIs s at r
 fields-is s at n q Behind.Other en eq l f w a t = tt
 fields-is s at n q (Behind.At next) en eq l f w a t =
     let end = at + (n + 2 + q) in
     λ least c m h. fields-plain least c m s at h
-    (formed-is s at (at + 1 + n) (omega arith) (omega arith) (omega arith) (ascii-part s at end (at + 1) (at + 1 + n) (omega arith) (omega arith) (omega arith) a))
-    (formed-is s (at + 1 + n) end (omega arith) (omega arith) w (ascii-part s at end (at + 1 + n + 1) end (omega arith) (omega arith) (omega arith) a))
-    (formed-is s (end + 16) next (omega (arith, t .short)) (omega (arith, t .behind)) (t .ends) (let g : end + 17 ≡ end + 16 + 1 = omega arith in subst (λ (x : ℕ). Ascii s x next next) g (t .script)))
+    (formed-is s at (at + 1 + n) (omega arith) (omega arith) (omega arith) (ascii-part s at end (at + 1) (at + 1 + n) (omega arith) (omega arith) a))
+    (formed-is s (at + 1 + n) end (omega arith) (omega arith) w (ascii-part s at end (at + 1 + n + 1) end (omega arith) (omega arith) a))
+    (formed-is s (end + 16) next (omega (arith, t .short)) (omega (arith, t .behind)) (t .ends) (let g : end + 17 ≡ end + 16 + 1 = omega arith in subst (λ (x : ℕ). Ascii s x next) g (t .script)))
     (omega (arith, t .room)) (t .numbers) (λ e. one-digit s (getD s (at + 1) 0) (at + 1 + n) (leAt s end 8) (omega (arith, t .room)) f (t .numbers .digit) (digit-first s (at + 1) (getD s at 0) (omega arith) e))
 
 pub record-is-plain : (s : List ℕ) (at least : ℕ) {code next : ℕ} → at + 5 ≤ length s → Head least (leAt s at 4) (getD s (at + 4) 0) → FieldsIs s (at + 5) (Behind.At next) → code ≡ leAt s at 4

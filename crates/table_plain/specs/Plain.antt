@@ -18,7 +18,7 @@ use Rattle.whole.specs.Whole.{TOP}
 use Rattle.dicts.specs.Table.{Record}
 use Rattle.dicts.specs.Layout.{Field, Is, readFields, readRecord}
 use Rattle.dicts.specs.Check.{legalCodePoint, legalRecord}
-use Rattle.dicts.specs.Answers.{Ascii}
+use Rattle.ascii_words.specs.Ascii.{Ascii}
 use Rattle.table_plain.specs.declared.Plain.{Plain}
 use Rattle.table_plain.specs.declared.Plain.the-variants as Plain
 use Rattle.table_plain.specs.declared.Behind.{Behind}
@@ -50,7 +50,7 @@ pub record Tail (s : List ℕ) (t rom at next : ℕ) : Type 0 where
   pub short : getD s (at + 16) 0 ≤ 4
   pub behind : next ≡ at + 17 + getD s (at + 16) 0
   pub ends : next ≤ length s
-  pub script : Ascii s (at + 17) next next
+  pub script : Ascii s (at + 17) next
 
 abbrev pub TailIs : List ℕ → ℕ → ℕ → ℕ → Behind → Type 0
 TailIs s t rom at (Behind.At next) = Tail s t rom at next

@@ -8,8 +8,8 @@ ghost use lib.ListN.{length, getD};
 ghost use Rattle.table_plain.specs.Plain.{TailIs, FieldsIs, PlainIs};
 use crate::content::legal_head;
 use crate::content::legal_numbers;
-use table_texts::masks::ascii;
-use table_texts::masks::low_four;
+use ascii_words::ascii;
+use ascii_words::low_four;
 
 // A legal record: its code point, and the offset behind it; any other, or none.
 pub enum Plain {

@@ -1,18 +1,13 @@
 // What the strings of a table may hold (01, "Table", "Record"): UTF-8, a marker, the type of digits.
-pub mod masks; // masks.rt: ASCII bytes looked at 8 at once
-
 ghost use mathlib.Core.Path.{_≡_};
-ghost use mathlib.Core.Bool.{true};
-ghost use Prim.Native.Nat.{_+_, _≤_, _<_};
+ghost use Prim.Native.Nat.{_+_, _≤_};
 ghost use lib.ListN.{length, getD};
 ghost use Rattle.text.specs.Table.{within};
 ghost use Rattle.text.specs.Text.{wellFormed};
 ghost use Rattle.dicts.specs.Check.{isDigitType, legalMark};
 ghost use Rattle.dicts.specs.Answers.{Ascii, partOf, Within};
 ghost use Rattle.table_texts.specs.Threes.{plainThree, Threes};
-use crate::masks::ascii;
-use crate::masks::low_eight;
-use crate::masks::low_four;
+use ascii_words::short_ascii;
 use dicts::layout::Part;
 
 // The offset of the first byte of a part that is not ASCII, or of the part's end.
@@ -61,31 +56,6 @@ fn threes_end(s: &[u8], from: usize, end: usize) -> usize
         }
     }
     at
-}
-
-// Whether a string of up to 24 bytes is ASCII, looked at 4 or 8 bytes at a time: a short one by the bytes that end with it, some of them before it.
-// Of a longer one, or one behind bytes that are not ASCII, nothing is told.
-fn short_ascii(s: &[u8], at: usize, len: usize) -> bool
-    requires { ⌜ at + len ≤ length (now s) ⌝ }
-    ensures { λ r. ⌜ (r ≡ true → Ascii (now (s .entry)) at (at + len) (at + len)) ⌝ }
-{
-    let end = at + len;
-    if end < 8 {
-        return false;
-    }
-    if 0x80 <= s[end - 1] {
-        return false;
-    }
-    if len <= 4 {
-        return low_four(s, end - 4);
-    }
-    if len <= 8 {
-        return low_eight(s, end - 8);
-    }
-    if 24 < len {
-        return false;
-    }
-    ascii(s, at, len)
 }
 
 // Whether the bytes of a part are UTF-8: most that are not ASCII are sequences of three bytes behind some ASCII, and only the rest is taken apart into characters.

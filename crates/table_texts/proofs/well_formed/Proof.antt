@@ -1,6 +1,6 @@
 -- `table_texts::well_formed` meets its contract: a string that is told to be ASCII is well-formed.
 use mathlib.Core.Path.{sym}
-use Rattle.table_texts.proofs.MaskLaws.{ascii-formed}
+use Rattle.ascii_words.proofs.MaskLaws.{ascii-formed}
 use borrow.Author.Needs.{needs}
 use Rattle.table_texts.proofs.well_formed.Statement.{statement}
 use Rattle.table_texts.proofs.well_formed.Tie as tie

@@ -1,9 +1,9 @@
--- `table_texts::masks::low_four` meets its contract: the mask finds the highest bits.
+-- `ascii_words::low_four` meets its contract: the mask finds the highest bits.
 use borrow.Author.Tests.{eqb-true}
-use Rattle.table_texts.proofs.MaskLaws.{four-low}
+use Rattle.ascii_words.proofs.MaskLaws.{four-low}
 use borrow.Author.Needs.{needs}
-use Rattle.table_texts.proofs.masks.low_four.Statement.{statement}
-use Rattle.table_texts.proofs.masks.low_four.Tie as tie
+use Rattle.ascii_words.proofs.low_four.Statement.{statement}
+use Rattle.ascii_words.proofs.low_four.Tie as tie
 
 u32-at-requires : tie.Need-u32-at-requires
 u32-at-requires c κs = search needs

@@ -1,9 +1,9 @@
--- `table_texts::masks::low_eight` meets its contract: the mask finds the highest bits.
+-- `ascii_words::low_eight` meets its contract: the mask finds the highest bits.
 use borrow.Author.Tests.{eqb-true}
-use Rattle.table_texts.proofs.MaskLaws.{eight-low}
+use Rattle.ascii_words.proofs.MaskLaws.{eight-low}
 use borrow.Author.Needs.{needs}
-use Rattle.table_texts.proofs.masks.low_eight.Statement.{statement}
-use Rattle.table_texts.proofs.masks.low_eight.Tie as tie
+use Rattle.ascii_words.proofs.low_eight.Statement.{statement}
+use Rattle.ascii_words.proofs.low_eight.Tie as tie
 
 u64-at-requires : tie.Need-u64-at-requires
 u64-at-requires c κs = search needs

@@ -1,10 +1,10 @@
--- `table_texts::masks::ascii` meets its contract: the three parts meet.
+-- `ascii_words::ascii` meets its contract: the three parts meet.
 use mathlib.Core.Bool.{_&&_}
 use native.Mathlib.Omega.{arith}
 use Rattle.text.proofs.RowLaws.{and-true}
-use Rattle.table_texts.proofs.MaskLaws.{three-low}
-use Rattle.table_texts.proofs.masks.ascii.Statement.{statement}
-use Rattle.table_texts.proofs.masks.ascii.Tie as tie
+use Rattle.ascii_words.proofs.MaskLaws.{three-low}
+use Rattle.ascii_words.proofs.ascii.Statement.{statement}
+use Rattle.ascii_words.proofs.ascii.Tie as tie
 
 sub-more : tie.Need-sub-more
 sub-more c = omega arith

@@ -1,11 +1,11 @@
--- `table_texts::short_ascii` meets its contract: the bytes that are looked at end with the string's, or are the string's.
+-- `ascii_words::short_ascii` meets its contract: the bytes that are looked at end with the string's, or are the string's.
 use mathlib.Core.Path.{sym}
 use mathlib.Core.Bool.{true≢false}
 use native.Mathlib.Omega.{arith}
-use Rattle.table_texts.proofs.MaskLaws.{ascii-ending}
+use Rattle.ascii_words.proofs.MaskLaws.{ascii-part}
 use borrow.Author.Needs.{needs}
-use Rattle.table_texts.proofs.short_ascii.Statement.{statement}
-use Rattle.table_texts.proofs.short_ascii.Tie as tie
+use Rattle.ascii_words.proofs.short_ascii.Statement.{statement}
+use Rattle.ascii_words.proofs.short_ascii.Tie as tie
 
 add-end : tie.Need-add-end
 add-end c = search needs
@@ -29,13 +29,13 @@ low-four-requires : tie.Need-low-four-requires
 low-four-requires c κs = (omega arith, λ j. c .before .before .shared-slice-known2 .given j .fits)
 
 returns-3 : tie.Need-returns-3
-returns-3 c = λ e. ascii-ending _ _ _ 4 (c .before .if3 .taken) (omega arith) (c .low-four .ensures e)
+returns-3 c = λ e. ascii-part _ _ _ _ _ (omega arith) (omega arith) (c .low-four .ensures e)
 
 low-eight-requires : tie.Need-low-eight-requires
 low-eight-requires c κs = (omega arith, λ j. c .before .before .before .shared-slice-known2 .given j .fits)
 
 returns-4 : tie.Need-returns-4
-returns-4 c = λ e. ascii-ending _ _ _ 8 (c .before .if4 .taken) (omega arith) (c .low-eight .ensures e)
+returns-4 c = λ e. ascii-part _ _ _ _ _ (omega arith) (omega arith) (c .low-eight .ensures e)
 
 returns-5 : tie.Need-returns-5
 returns-5 c = λ e. absurd (true≢false (sym e))

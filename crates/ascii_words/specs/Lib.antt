@@ -1,0 +1,2 @@
+-- The definition that the contracts of `ascii_words` cite.
+pub mod Ascii
