@@ -5,11 +5,11 @@
 --     textField, optText   an answer as a field (`specs/Layout.antt`)
 --     endOf             checked items as an answer that keeps no values; tableAnswer: an answer as a checked table
 --     Within, Inside    a part, the parts of a NumProp lie within the bytes
-use Prim.Native.Nat.{ℕ, _+_, _≤_, _<_}
+use Prim.Native.Nat.{ℕ, _+_, _≤_}
 use mathlib.Core.Bool.{Bool, true, false, cond}
 use mathlib.Core.List.{List, [], _∷_}
 use mathlib.Core.Option.{Option, none, some}
-use lib.ListN.{length, getD}
+use lib.ListN.{length}
 use Rattle.fields.specs.Fields.{leAt}
 use Rattle.fields.specs.Part.{part}
 use Rattle.dicts.specs.Table.{Text, Record, Table}
@@ -74,12 +74,6 @@ pub record Inside (s : List ℕ) (p : NumProp) : Type 0 where
 abbrev pub TextWithin : List ℕ → TextAt → Type 0
 TextWithin s (TextAt.Text p next) = Within s p
 TextWithin s TextAt.Fault = Unit {0}
-
--- the bytes from an offset on up to r, within those up to end, are ASCII
-pub record Ascii (s : List ℕ) (from end r : ℕ) : Type 0 where
-  pub behind : from ≤ r
-  pub before : r ≤ end
-  pub ascii : (i : ℕ) → from ≤ i → i < r → getD s i 0 < 0x80
 
 -- ---- items
 abbrev pub endOf : {A : Type 0} → Checked A → Items

@@ -16,7 +16,7 @@ use Rattle.fields.proofs.PartLaws.{length-part}
 use Rattle.text.specs.Bytes.{same}
 use Rattle.text.proofs.BytesLaws.{same-lengths}
 use Rattle.dicts.specs.Check.{digit, isDigitType}
-use Rattle.table_texts.proofs.ThreeLaws.{part-cons}
+use Rattle.dicts.proofs.ContentLaws.{part-cons}
 
 -- ---- four bytes
 -- numbers in bytes are equal where their lowest bytes are and the rest
@@ -50,7 +50,7 @@ join true true true true true = refl
 
 module _ (s : List ℕ) (at : ℕ) (h : at + 5 ≤ length s) where
   more : (i n : ℕ) → i < 5 → part s (at + i) (suc n) ≡ getD s (at + i) 0 ∷ part s (at + (i + 1)) n
-  more i n k = let e : suc (at + i) ≡ at + (i + 1) = omega arith in part-cons s (at + i) n (omega arith) ∙ ap (λ (j : ℕ). getD s (at + i) 0 ∷ part s j n) e
+  more i n k = part-cons s (at + i) n (at + (i + 1)) (omega arith) (omega arith)
 
   digit-five : ((i : ℕ) → getD s i 0 < 256) → (eqb (leAt s at 4) 0x69676964 && eqb (getD s (at + 4) 0) 116) ≡ isDigitType (part s at 5)
   unfolding leAt le same part

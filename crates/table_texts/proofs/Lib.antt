@@ -1,3 +1,3 @@
 -- Laws for the proofs of this crate's functions, besides those of `dicts`.
-pub mod ThreeLaws
+pub mod RestLaws
 pub mod DigitLaws

@@ -1,2 +1,2 @@
 -- The definitions that the contracts of `table_texts` cite besides those of `dicts`.
-pub mod Threes
+pub mod Rest

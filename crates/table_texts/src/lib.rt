@@ -1,86 +1,86 @@
 // What the strings of a table may hold (01, "Table", "Record"): UTF-8, a marker, the type of digits.
 ghost use mathlib.Core.Path.{_≡_};
-ghost use Prim.Native.Nat.{_+_, _≤_};
-ghost use lib.ListN.{length, getD};
-ghost use Rattle.text.specs.Table.{within};
+ghost use mathlib.Core.Bool.{true};
+ghost use Prim.Native.Nat.{_+_, _-_, _≤_, _<_};
+ghost use lib.ListN.{length};
+ghost use Rattle.fields.specs.Part.{part};
 ghost use Rattle.text.specs.Text.{wellFormed};
 ghost use Rattle.dicts.specs.Check.{isDigitType, legalMark};
-ghost use Rattle.dicts.specs.Answers.{Ascii, partOf, Within};
-ghost use Rattle.table_texts.specs.Threes.{plainThree, Threes};
+ghost use Rattle.dicts.specs.Answers.{partOf, Within};
+ghost use Rattle.table_texts.specs.Rest.{Trail, Rest};
 use ascii_words::short_ascii;
 use dicts::layout::Part;
 
-// The offset of the first byte of a part that is not ASCII, or of the part's end.
-fn ascii_end(s: &[u8], from: usize, end: usize) -> usize
+// Whether a continuation byte stands at an offset before the end.
+fn trail_at(s: &[u8], at: usize, end: usize) -> bool
+    requires { ⌜ end ≤ length (now s) ⌝ }
+    ensures { λ r. ⌜ (r ≡ true → Trail (now (s .entry)) at end) ⌝ }
+{
+    if end <= at {
+        return false;
+    }
+    let b = s[at];
+    (0x80 <= b) & (b <= 0xBF)
+}
+
+// The length of the sequence at an offset, if it is ASCII or told by fixed limits: those with a lead byte of E1 to EC are, as Han and Kana, and those of two bytes.
+// 0 of any other, and where the part ends before it.
+fn sequence_len(s: &[u8], at: usize, end: usize) -> usize
+    requires { ⌜ (at < end) × (end ≤ length (now s)) ⌝ }
+    ensures { λ r. ⌜ Rest (now (s .entry)) at end (at + r) ⌝ }
+{
+    let b = s[at];
+    if b < 0x80 {
+        return 1;
+    }
+    if !trail_at(s, at + 1, end) {
+        return 0;
+    }
+    if (0xE1 <= b) & (b <= 0xEC) {
+        if trail_at(s, at + 2, end) {
+            return 3;
+        }
+        return 0;
+    }
+    if (0xC2 <= b) & (b <= 0xDF) {
+        return 2;
+    }
+    0
+}
+
+// Whether the bytes of a part are UTF-8: what begins with no such sequence is taken apart into characters.
+fn any_formed(s: &[u8], from: usize, end: usize) -> bool
     requires { ⌜ (from ≤ end) × (end ≤ length (now s)) ⌝ }
-    ensures { λ r. ⌜ Ascii (now (s .entry)) from end r ⌝ }
+    ensures { λ r. ⌜ r ≡ wellFormed (part (now (s .entry)) from (end - from)) ⌝ }
 {
     let mut at = from;
     while at < end {
-        if 0x80 <= s[at] {
-            return at;
+        let n = sequence_len(s, at, end);
+        if n == 0 {
+            return text_line::well_formed(&s[at..end]);
         }
-        at += 1;
+        at += n;
     }
-    at
+    true
 }
 
-fn between(lo: u8, hi: u8, x: u8) -> bool
-    ensures { λ r. ⌜ r ≡ within lo hi x ⌝ }
+// The same, most being short and ASCII. The offset and the length are handed over apart, since a structure is handed over in memory.
+fn formed(s: &[u8], at: usize, len: usize) -> bool
+    requires { ⌜ at + len ≤ length (now s) ⌝ }
+    ensures { λ r. ⌜ r ≡ wellFormed (part (now (s .entry)) at len) ⌝ }
 {
-    (lo <= x) & (x <= hi)
-}
-
-// Whether a sequence of three bytes stands at an offset whose lead byte is E1 to EC: those of Han and Kana are, and most of three bytes.
-fn three_at(s: &[u8], at: usize) -> bool
-    requires { ⌜ at + 3 ≤ length (now s) ⌝ }
-    ensures { λ r. ⌜ r ≡ plainThree (getD (now (s .entry)) at 0) (getD (now (s .entry)) (at + 1) 0) (getD (now (s .entry)) (at + 2) 0) ⌝ }
-{
-    let b = s[at];
-    let c = s[at + 1];
-    let d = s[at + 2];
-    between(0xE1, 0xEC, b) & between(0x80, 0xBF, c) & between(0x80, 0xBF, d)
-}
-
-// The offset of the first byte of a part that begins no such sequence, or of the part's end.
-fn threes_end(s: &[u8], from: usize, end: usize) -> usize
-    requires { ⌜ (from ≤ end) × (end ≤ length (now s)) ⌝ }
-    ensures { λ r. ⌜ Threes (now (s .entry)) from end r ⌝ }
-{
-    let mut at = from;
-    while 3 <= end - at {
-        if three_at(s, at) {
-            at += 3;
-        } else {
-            return at;
-        }
-    }
-    at
-}
-
-// Whether the bytes of a part are UTF-8: most that are not ASCII are sequences of three bytes behind some ASCII, and only the rest is taken apart into characters.
-fn any_formed(s: &[u8], p: Part) -> bool
-    requires { ⌜ Within (now s) p ⌝ }
-    ensures { λ r. ⌜ r ≡ wellFormed (partOf (now (s .entry)) p) ⌝ }
-{
-    let end = p.at + p.len;
-    let behind = ascii_end(s, p.at, end);
-    let rest = threes_end(s, behind, end);
-    if rest == end {
+    if short_ascii(s, at, len) {
         return true;
     }
-    text_line::well_formed(&s[rest..end])
+    any_formed(s, at, at + len)
 }
 
-// The same, most being short and ASCII.
+// Whether a string is UTF-8.
 pub fn well_formed(s: &[u8], p: Part) -> bool
     requires { ⌜ Within (now s) p ⌝ }
     ensures { λ r. ⌜ r ≡ wellFormed (partOf (now (s .entry)) p) ⌝ }
 {
-    if short_ascii(s, p.at, p.len) {
-        return true;
-    }
-    any_formed(s, p)
+    formed(s, p.at, p.len)
 }
 
 // A string of a list: not empty, and UTF-8.

@@ -1,55 +1,68 @@
--- `table_texts::any_formed` meets its contract: what stands before the rest is well-formed.
+-- `table_texts::any_formed` meets its contract. The loop's invariant: what is left decides. The measure is how much is left.
 use mathlib.Core.Path.{sym, _∙_}
-use Rattle.dicts.proofs.ContentLaws.{behind-ascii}
-use Rattle.table_texts.proofs.ThreeLaws.{threes-all}
+use Prim.Native.Nat.{_-_}
+use native.Mathlib.Omega.{arith}
 use Rattle.fields.specs.Part.{part}
+use Rattle.table_texts.specs.Rest.{Rest}
+use Rattle.table_texts.proofs.RestLaws.{rest-start, rest-more, rest-all}
 use borrow.Author.Needs.{needs}
 use Rattle.table_texts.proofs.any_formed.Statement.{statement}
 use Rattle.table_texts.proofs.any_formed.Tie as tie
 
-add-end : tie.Need-add-end
-add-end c = search needs
+abbrev Inv-loop : tie.InvT-loop
+Inv-loop s from end at₀ at = Rest s from end at
 
-ascii-end-requires : tie.Need-ascii-end-requires
-ascii-end-requires c κs = search needs
+abbrev μ-loop : tie.MeasureT-loop
+μ-loop s from end at₀ at = end - at
 
-threes-end-requires : tie.Need-threes-end-requires
-threes-end-requires c κs = (c .ascii-end .ensures .before, c .before .before .before .pre)
+loop-holds : tie.Need-loop-holds Inv-loop μ-loop
+loop-holds c = rest-start _ _ _ (c .before .pre .0)
 
-returns : tie.Need-returns
-returns c =
-    let a = c .before .before in
-    sym (behind-ascii _ _ _ _ (a .before .before .before .pre) (a .ascii-end .ensures) ∙ threes-all _ _ _ _ (c .before .threes-end .ensures) (c .if1 .taken))
+sequence-len-requires : tie.Need-sequence-len-requires Inv-loop μ-loop
+sequence-len-requires c κs = (c .loop-test .taken, c .before .before .before .pre .1)
 
-sub-well-formed : tie.Need-sub-well-formed
-sub-well-formed c = search needs
+sub-well-formed : tie.Need-sub-well-formed Inv-loop μ-loop
+sub-well-formed c = omega arith
 
-part-well-formed-start : tie.Need-part-well-formed-start
+part-well-formed-start : tie.Need-part-well-formed-start Inv-loop μ-loop
 part-well-formed-start c = search needs
 
-part-well-formed-end : tie.Need-part-well-formed-end
+part-well-formed-end : tie.Need-part-well-formed-end Inv-loop μ-loop
 part-well-formed-end c = search needs
 
-well-formed-requires : tie.Need-well-formed-requires
+well-formed-requires : tie.Need-well-formed-requires Inv-loop μ-loop
 well-formed-requires c κs = search needs
 
-returns-2 : tie.Need-returns-2
+returns : tie.Need-returns Inv-loop μ-loop
 unfolding part
-returns-2 c =
-    let k = c .before .before .before in
-    let a = k .before in
-    c .well-formed .ensures ∙ sym (behind-ascii _ _ _ _ (a .before .before .before .pre) (a .ascii-end .ensures) ∙ k .threes-end .ensures .same)
+returns c = let k = c .before .before .before .before .before in c .well-formed .ensures ∙ sym (k .loop .inv .same)
+
+add-at : tie.Need-add-at Inv-loop μ-loop
+add-at c = let k = c .before in omega (arith, k .sequence-len .ensures .before)
+
+loop-less : tie.Need-loop-less Inv-loop μ-loop
+loop-less c = let k = c .before in omega (arith, k .sequence-len .ensures .before)
+
+loop-again : tie.Need-loop-again Inv-loop μ-loop
+loop-again c = rest-more _ _ _ _ (c .before .before .before .loop .inv) (c .before .sequence-len .ensures)
+
+returns-2 : tie.Need-returns-2 Inv-loop μ-loop
+returns-2 c = sym (rest-all _ _ _ _ (c .before .loop .inv) (c .loop-test .left))
 
 pub any-formed-spec : {M : Type 1} → statement M
 any-formed-spec =
     tie.close
     (tie.spec
-    add-end
-    ascii-end-requires
-    threes-end-requires
-    returns
+    Inv-loop
+    μ-loop
+    loop-holds
+    sequence-len-requires
     sub-well-formed
     part-well-formed-start
     part-well-formed-end
     well-formed-requires
+    returns
+    add-at
+    loop-less
+    loop-again
     returns-2)
