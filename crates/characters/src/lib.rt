@@ -10,7 +10,7 @@ use dicts::layout::NumProp;
 use dicts::layout::Part;
 use pass_list::record::NumData;
 use pass_list::record::PassEdge;
-use table_texts::is_digit_type;
+use table_digit::is_digit_type;
 use text::Offset;
 use text::Place;
 

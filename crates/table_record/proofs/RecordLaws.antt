@@ -1,4 +1,4 @@
--- A record is legal by its parts (`specs/Content.antt`) and its numbers. No contract cites this file.
+-- A record is legal by its strings (`specs/Content.antt`), its numbers and the digit rule. No contract cites this file.
 use mathlib.Core.Path.{_≡_, sym, ap}
 use mathlib.Core.Bool.{Bool, true, cond, _&&_}
 use mathlib.Core.Option.{Option}
@@ -7,7 +7,8 @@ use Rattle.dicts.specs.Table.{Text}
 use Rattle.dicts.specs.Layout.{Numbers, bit, recordWith}
 use Rattle.dicts.specs.Check.{isDigitType, legalDigit, legalCodePoint, legalTexts, legalNumbers, digitRule, legalRecord}
 use Rattle.dicts.specs.Answers.{optionally}
-use Rattle.table_record.specs.Content.{textsFine, digitFine}
+use Rattle.table_digit.specs.Digit.{digitFine}
+use Rattle.table_record.specs.Content.{textsFine}
 
 -- b says that the numbers n are legal, v is their value
 pub legal-is : (least c m : ℕ) (type rom script : Text) (n : Numbers) (v : ℕ) {b : Bool} → n .value ≡ optionally (bit m 1) v → legalNumbers n ≡ b

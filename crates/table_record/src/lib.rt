@@ -9,11 +9,13 @@ ghost use Rattle.dicts.specs.Layout.{mapField, text, optional, readFields};
 ghost use Rattle.dicts.specs.Check.{allOf, legalCodePoint, legalRecord};
 ghost use Rattle.dicts.specs.Answers.{partOf, optionally, optText, numberIf, Within, TextWithin};
 ghost use Rattle.table_numbers.specs.Look.{lookField};
-ghost use Rattle.table_record.specs.Content.{textsFine, digitFine};
+ghost use Rattle.table_digit.specs.Digit.{digitFine};
+ghost use Rattle.table_record.specs.Content.{textsFine};
 ghost use Rattle.table_record.specs.Step.{StepIs};
 use dicts::layout::Part;
 use dicts::layout::TextAt;
 use dicts::layout::text_at;
+use table_digit::legal_digit;
 use table_numbers::Look;
 use table_numbers::numbers_look;
 
@@ -57,36 +59,6 @@ fn legal_texts(s: &[u8], map: u8, kind: Part, rom: Part, script: Part) -> bool
 {
     table_texts::well_formed(s, kind)
         & (well_formed_if(s, rom, map / 1 % 2 == 1) & well_formed_if(s, script, map / 32 % 2 == 1))
-}
-
-// Type "digit" with value 0 to 9: rom is that one ASCII digit.
-fn legal_digit(s: &[u8], map: u8, value: u64, kind: Part, rom: Part) -> bool
-    requires { ⌜ Within (now s) kind × Within (now s) rom ⌝ }
-    ensures { λ r. ⌜ r ≡ digitFine map value (partOf (now (s .entry)) kind) (partOf (now (s .entry)) rom) ⌝ }
-{
-    if map / 2 % 2 != 1 {
-        return true;
-    }
-    if 9 < value {
-        return true;
-    }
-    if !table_texts::is_digit_type(s, kind) {
-        return true;
-    }
-    if map / 1 % 2 != 1 {
-        return false;
-    }
-    if rom.len != 1 {
-        return false;
-    }
-    let at = rom.at;
-    wide(s[at]) == 48 + value
-}
-
-fn wide(x: u8) -> u64
-    ensures { λ r. ⌜ r ≡ x ⌝ }
-{
-    x as u64
 }
 
 // A string that is there or absent.

@@ -1,11 +1,11 @@
-// What the strings of a table may hold (01, "Table", "Record"): UTF-8, a marker, the type of digits.
+// What the strings of a table may hold (01, "Table", "Record"): UTF-8, and not nothing in a list.
 ghost use mathlib.Core.Path.{_≡_};
 ghost use mathlib.Core.Bool.{true};
 ghost use Prim.Native.Nat.{_+_, _-_, _≤_, _<_};
 ghost use lib.ListN.{length};
 ghost use Rattle.fields.specs.Part.{part};
 ghost use Rattle.text.specs.Text.{wellFormed};
-ghost use Rattle.dicts.specs.Check.{isDigitType, legalMark};
+ghost use Rattle.dicts.specs.Check.{legalMark};
 ghost use Rattle.dicts.specs.Answers.{partOf, Within};
 ghost use Rattle.table_texts.specs.Rest.{Trail, Rest};
 use ascii_words::short_ascii;
@@ -92,17 +92,4 @@ pub fn legal_mark(s: &[u8], p: Part) -> bool
         return false;
     }
     well_formed(s, p)
-}
-
-// Whether a part is "digit": its first four bytes are looked at as one number.
-pub fn is_digit_type(s: &[u8], p: Part) -> bool
-    requires { ⌜ Within (now s) p ⌝ }
-    ensures { λ r. ⌜ r ≡ isDigitType (partOf (now (s .entry)) p) ⌝ }
-{
-    if p.len != 5 {
-        return false;
-    }
-    let at = p.at;
-    let last = s[at + 4];
-    (fields::u32_at(s, at) == 0x69676964) & (last == b't')
 }

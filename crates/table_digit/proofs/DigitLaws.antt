@@ -1,4 +1,4 @@
--- Laws of the digit rule (`specs/Content.antt`, digitFine), by the way that its tests go. No contract cites this file.
+-- Laws of the digit rule (`specs/Digit.antt`), by the way that its tests go. No contract cites this file.
 use mathlib.Core.Path.{_≡_, refl, sym, ap, _∙_}
 use mathlib.Core.Bool.{Bool, true, false, cond, _&&_, _||_, and-true}
 use mathlib.Core.List.{List, [], _∷_}
@@ -18,7 +18,7 @@ use Rattle.dicts.specs.Layout.{bit}
 use Rattle.dicts.specs.Check.{isDigitType, legalDigit}
 use Rattle.dicts.specs.Answers.{optionally, partOf, Within}
 use Rattle.dicts.specs.declared.layout.Part.{Part}
-use Rattle.table_record.specs.Content.{digitFine}
+use Rattle.table_digit.specs.Digit.{digitFine}
 
 -- ---- a rom of one byte, or of another length
 same-one : (s : List ℕ) (at y : ℕ) → at < length s → eqb (getD s at 0) y ≡ same (part s at 1) (y ∷ [])

@@ -1,8 +1,8 @@
--- `table_texts::is_digit_type` meets its contract: a part of five bytes is held against a number and a byte.
-use Rattle.table_texts.proofs.DigitLaws.{digit-length, digit-is}
+-- `table_digit::is_digit_type` meets its contract: a part of five bytes is held against a number and a byte.
+use Rattle.table_digit.proofs.TypeLaws.{digit-length, digit-is}
 use borrow.Author.Needs.{needs}
-use Rattle.table_texts.proofs.is_digit_type.Statement.{statement}
-use Rattle.table_texts.proofs.is_digit_type.Tie as tie
+use Rattle.table_digit.proofs.is_digit_type.Statement.{statement}
+use Rattle.table_digit.proofs.is_digit_type.Tie as tie
 
 returns : tie.Need-returns
 returns c = digit-length _ _ _ (c .before .before .before .pre) (c .if1 .taken)

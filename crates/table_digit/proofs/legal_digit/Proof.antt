@@ -1,11 +1,11 @@
--- `table_record::legal_digit` meets its contract: each answer is one law of the digit rule.
+-- `table_digit::legal_digit` meets its contract: each answer is one law of the digit rule.
 use mathlib.Core.Path.{sym, ap, _∙_}
 use native.Mathlib.Omega.{arith}
 use borrow.Author.Tests.{not-true, not-false, ne-eqb, eq-eqb}
-use Rattle.table_record.proofs.DigitLaws.{digit-no-value, digit-large, digit-other, digit-no-rom, digit-long-rom, digit-rom}
+use Rattle.table_digit.proofs.DigitLaws.{digit-no-value, digit-large, digit-other, digit-no-rom, digit-long-rom, digit-rom}
 use borrow.Author.Needs.{needs}
-use Rattle.table_record.proofs.legal_digit.Statement.{statement}
-use Rattle.table_record.proofs.legal_digit.Tie as tie
+use Rattle.table_digit.proofs.legal_digit.Statement.{statement}
+use Rattle.table_digit.proofs.legal_digit.Tie as tie
 
 returns : tie.Need-returns
 returns c =
@@ -17,7 +17,7 @@ returns-2 : tie.Need-returns-2
 returns-2 c =
     let k = c .before .before .before in
     let a = k .args in
-    digit-large (a .s .now) (a .map) (a .value) (a .kind) (a .rom) (c .if2 .taken)
+    digit-large (a .s .now) (a .map) (a .value) (a .kind) (a .rom) (omega arith)
 
 is-digit-type-requires : tie.Need-is-digit-type-requires
 is-digit-type-requires c κs = search needs

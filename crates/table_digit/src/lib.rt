@@ -1,0 +1,49 @@
+// The type "digit" of a record, and what the record's rom must be then (01, "Record").
+ghost use mathlib.Core.Path.{_≡_};
+ghost use Rattle.dicts.specs.Check.{isDigitType};
+ghost use Rattle.dicts.specs.Answers.{partOf, Within};
+ghost use Rattle.table_digit.specs.Digit.{digitFine};
+use dicts::layout::Part;
+
+// Whether a part is "digit": its first four bytes are looked at as one number.
+pub fn is_digit_type(s: &[u8], p: Part) -> bool
+    requires { ⌜ Within (now s) p ⌝ }
+    ensures { λ r. ⌜ r ≡ isDigitType (partOf (now (s .entry)) p) ⌝ }
+{
+    if p.len != 5 {
+        return false;
+    }
+    let at = p.at;
+    let last = s[at + 4];
+    (fields::u32_at(s, at) == 0x69676964) & (last == b't')
+}
+
+// Type "digit" with value 0 to 9: rom is that one ASCII digit.
+pub fn legal_digit(s: &[u8], map: u8, value: u64, kind: Part, rom: Part) -> bool
+    requires { ⌜ Within (now s) kind × Within (now s) rom ⌝ }
+    ensures { λ r. ⌜ r ≡ digitFine map value (partOf (now (s .entry)) kind) (partOf (now (s .entry)) rom) ⌝ }
+{
+    if map / 2 % 2 != 1 {
+        return true;
+    }
+    if 9 < value {
+        return true;
+    }
+    if !is_digit_type(s, kind) {
+        return true;
+    }
+    if map / 1 % 2 != 1 {
+        return false;
+    }
+    if rom.len != 1 {
+        return false;
+    }
+    let at = rom.at;
+    wide(s[at]) == 48 + value
+}
+
+fn wide(x: u8) -> u64
+    ensures { λ r. ⌜ r ≡ x ⌝ }
+{
+    x as u64
+}
