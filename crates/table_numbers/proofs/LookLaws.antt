@@ -13,7 +13,7 @@ use borrow.Author.Tests.{le-leb}
 use Rattle.fields.specs.Fields.{leAt}
 use Rattle.dicts.specs.Layout.{Field, Is, Fault, mapField, bit, number, fraction, optional, Numbers, readNumbers}
 use Rattle.dicts.specs.Check.{allOf, small, positive, legalRatio, legalNumbers}
-use Rattle.dicts.specs.Answers.{optionally, numberIf}
+use Rattle.dicts.specs.Answers.{optionally}
 use Rattle.dicts.proofs.LayoutLaws.{no-fault, then-is, number-cut, number-is, optional-absent, optional-there}
 use Rattle.table_numbers.specs.Look.{fromLeast}
 
@@ -122,7 +122,7 @@ module _ (m : ℕ) (s : List ℕ) (at : ℕ) where
         numbers-are u = rw (v .is, r .is, t .is, u .is, ← all-small (v .it), v .says, r .says, ← all-positive (t .it), t .says, ← all-small (u .it), u .says)
 
 -- ---- the value by itself, for the rule of digits
-opt-number : (b : Bool) (s : List ℕ) (at : ℕ) {o : Option ℕ} {next : ℕ} → optional b (number 8) s at ≡ Is o next → (o ≡ optionally b (numberIf b s at)) × (b ≡ true → at + 8 ≤ length s)
+opt-number : (b : Bool) (s : List ℕ) (at : ℕ) {o : Option ℕ} {next : ℕ} → optional b (number 8) s at ≡ Is o next → (o ≡ optionally b (leAt s at 8)) × (b ≡ true → at + 8 ≤ length s)
 unfolding optional
 opt-number true s at {o} {next} e = go (decLe (at + 8) (length s))
   where
@@ -131,7 +131,7 @@ opt-number true s at {o} {next} e = go (decLe (at + 8) (length s))
     go (no k) = no-fault (rw (number-cut s at 8 (omega arith))) e
 opt-number false s at e = (cc, λ z. absurd (false≢true z))
 
-pub value-told : (m : ℕ) (s : List ℕ) (at : ℕ) {n : Numbers} {next : ℕ} → readNumbers m s at ≡ Is n next → (n .value ≡ optionally (bit m 1) (numberIf (bit m 1) s at)) × (bit m 1 ≡ true → at + 8 ≤ length s)
+pub value-told : (m : ℕ) (s : List ℕ) (at : ℕ) {n : Numbers} {next : ℕ} → readNumbers m s at ≡ Is n next → (n .value ≡ optionally (bit m 1) (leAt s at 8)) × (bit m 1 ≡ true → at + 8 ≤ length s)
 unfolding readNumbers
 value-told m s at {n} e =
     let v = then-is (optional (bit m 1) (number 8) s at) _ e in

@@ -1,6 +1,6 @@
--- A record is legal by its strings (`specs/Content.antt`), its numbers and the digit rule. No contract cites this file.
-use mathlib.Core.Path.{_≡_, sym, ap}
-use mathlib.Core.Bool.{Bool, true, cond, _&&_}
+-- A record is legal by its parts (`specs/Content.antt`), its code point and its numbers. No contract cites this file.
+use mathlib.Core.Path.{_≡_, refl, sym, ap, _∙_}
+use mathlib.Core.Bool.{Bool, true, false, cond, _&&_, and-false}
 use mathlib.Core.Option.{Option}
 use Prim.Native.Nat.{ℕ}
 use Rattle.dicts.specs.Table.{Text}
@@ -8,12 +8,23 @@ use Rattle.dicts.specs.Layout.{Numbers, bit, recordWith}
 use Rattle.dicts.specs.Check.{isDigitType, legalDigit, legalCodePoint, legalTexts, legalNumbers, digitRule, legalRecord}
 use Rattle.dicts.specs.Answers.{optionally}
 use Rattle.table_digit.specs.Digit.{digitFine}
-use Rattle.table_record.specs.Content.{textsFine}
+use Rattle.table_record.specs.Content.{textsFine, restFine}
+
+-- the tests in another order: of the code point p, the numbers n, the digit rule d and the strings t
+reorder : (p n d t : Bool) → ((n && p) && (d && t)) ≡ (p && (t && (n && d)))
+reorder false false d t = refl
+reorder false true d t = refl
+reorder true false d true = refl
+reorder true false d false = refl
+reorder true true true true = refl
+reorder true true true false = refl
+reorder true true false true = refl
+reorder true true false false = refl
 
 -- b says that the numbers n are legal, v is their value
 pub legal-is : (least c m : ℕ) (type rom script : Text) (n : Numbers) (v : ℕ) {b : Bool} → n .value ≡ optionally (bit m 1) v → legalNumbers n ≡ b
-    → (legalCodePoint least c && (textsFine m type rom script && (b && digitFine m v type rom))) ≡ legalRecord least (recordWith c m type (optionally (bit m 0) rom) n (optionally (bit m 5) script))
+    → restFine (b && legalCodePoint least c) m v type rom script ≡ legalRecord least (recordWith c m type (optionally (bit m 0) rom) n (optionally (bit m 5) script))
 unfolding legalRecord legalTexts digitRule
 legal-is least c m type rom script n v {b} e f =
     let d : digitFine m v type rom ≡ cond (isDigitType type) (legalDigit (n .value) (optionally (bit m 0) rom)) true = ap (λ (o : Option ℕ). cond (isDigitType type) (legalDigit o (optionally (bit m 0) rom)) true) (sym e) in
-    rw (← f, d)
+    reorder (legalCodePoint least c) b (digitFine m v type rom) (textsFine m type rom script) ∙ rw (← f, d)

@@ -1,44 +1,29 @@
 // A record of the table: its layout (01, cause 4) and what it may hold (cause 5), in one walk. Its strings are looked at in `table_texts`, its numbers in
-// `table_numbers`.
+// `table_numbers`, and the rule of the type "digit" in `table_digit`.
 ghost use mathlib.Core.Path.{_≡_};
 ghost use mathlib.Core.Bool.{true};
 ghost use Prim.Native.Nat.{_+_, _≤_};
 ghost use lib.ListN.{length};
 ghost use Rattle.text.specs.Text.{wellFormed};
-ghost use Rattle.dicts.specs.Layout.{mapField, text, optional, readFields};
-ghost use Rattle.dicts.specs.Check.{allOf, legalCodePoint, legalRecord};
-ghost use Rattle.dicts.specs.Answers.{partOf, optionally, optText, numberIf, Within, TextWithin};
+ghost use Rattle.fields.specs.Fields.{leAt};
+ghost use Rattle.dicts.specs.Layout.{bit, mapField, text, optional, readFields};
+ghost use Rattle.dicts.specs.Check.{allOf, legalRecord};
+ghost use Rattle.dicts.specs.Answers.{partOf, optionally, optText, Within, TextWithin};
 ghost use Rattle.table_numbers.specs.Look.{lookField};
-ghost use Rattle.table_digit.specs.Digit.{digitFine};
-ghost use Rattle.table_record.specs.Content.{textsFine};
+ghost use Rattle.table_record.specs.Content.{textsFine, restFine};
 ghost use Rattle.table_record.specs.Step.{StepIs};
 use dicts::layout::Part;
 use dicts::layout::TextAt;
 use dicts::layout::text_at;
 use table_digit::legal_digit;
 use table_numbers::Look;
+use table_numbers::legal_code_point;
 use table_numbers::numbers_look;
 
 // What checking a record gives: its code point and the offset behind it, or the refusal's number.
 pub enum Step {
     Next(u32, usize),
     Refused(u8),
-}
-
-// A scalar value, and at least `least`.
-fn legal_code_point(c: u32, least: u64) -> bool
-    ensures { λ r. ⌜ r ≡ legalCodePoint least c ⌝ }
-{
-    if (c as u64) < least {
-        return false;
-    }
-    if c <= 0xD7FF {
-        return true;
-    }
-    if c < 0xE000 {
-        return false;
-    }
-    c <= 0x10FFFF
 }
 
 // Whether a part that is there is UTF-8.
@@ -57,8 +42,13 @@ fn legal_texts(s: &[u8], map: u8, kind: Part, rom: Part, script: Part) -> bool
     requires { ⌜ Within (now s) kind × Within (now s) rom × Within (now s) script ⌝ }
     ensures { λ r. ⌜ r ≡ textsFine map (partOf (now (s .entry)) kind) (partOf (now (s .entry)) rom) (partOf (now (s .entry)) script) ⌝ }
 {
-    table_texts::well_formed(s, kind)
-        & (well_formed_if(s, rom, map / 1 % 2 == 1) & well_formed_if(s, script, map / 32 % 2 == 1))
+    if !table_texts::well_formed(s, kind) {
+        return false;
+    }
+    if !well_formed_if(s, rom, map / 1 % 2 == 1) {
+        return false;
+    }
+    well_formed_if(s, script, map / 32 % 2 == 1)
 }
 
 // A string that is there or absent.
@@ -73,12 +63,19 @@ fn opt_text_at(s: &[u8], at: usize, there: bool) -> TextAt
     }
 }
 
-// A number that is there, or 0.
-fn number_if(s: &[u8], at: usize, there: bool) -> u64
-    requires { ⌜ (there ≡ true → at + 8 ≤ length (now s)) ⌝ }
-    ensures { λ r. ⌜ r ≡ numberIf there (now (s .entry)) at ⌝ }
+// What the fields hold beside code point and numbers, where those are legal: the digit rule, whose value stands at an offset, and the strings.
+fn legal_rest(s: &[u8], head: bool, map: u8, at: usize, kind: Part, rom: Part, script: Part) -> bool
+    requires { ⌜ (bit map 1 ≡ true → at + 8 ≤ length (now s)) ⌝ }
+    requires within { ⌜ Within (now s) kind × Within (now s) rom × Within (now s) script ⌝ }
+    ensures { λ r. ⌜ r ≡ restFine head map (leAt (now (s .entry)) at 8) (partOf (now (s .entry)) kind) (partOf (now (s .entry)) rom) (partOf (now (s .entry)) script) ⌝ }
 {
-    if there { fields::u64_at(s, at) } else { 0 }
+    if !head {
+        return false;
+    }
+    if !legal_digit(s, map, at, kind, rom) {
+        return false;
+    }
+    legal_texts(s, map, kind, rom, script)
 }
 
 // The fields behind the code point and the map: whether they make a legal record, and the offset behind them.
@@ -97,11 +94,8 @@ fn fields_look(s: &[u8], code: u32, map: u8, at: usize, least: u64) -> Look
     let TextAt::Text(script, next) = opt_text_at(s, script_at, map / 32 % 2 == 1) else {
         return Look::Fault;
     };
-    let value = number_if(s, value_at, map / 2 % 2 == 1);
-    let legal = legal_code_point(code, least)
-        & (legal_texts(s, map, kind, rom, script)
-            & (numbers & legal_digit(s, map, value, kind, rom)));
-    Look::Field(legal, next)
+    let head = numbers & legal_code_point(code, least);
+    Look::Field(legal_rest(s, head, map, value_at, kind, rom, script), next)
 }
 
 // The record at an offset, whatever its form.

@@ -95,38 +95,28 @@ returns-4 c =
     let a = start (at-type r) .args in
     ap (mapField (legalRecord _)) (script-fault _ _ _ _ (type-read (at-type r)) (rom-read r) (numbers-read n .is) (told (optText (bit (a .map) 5) (a .s .now)) (k .opt-text-at2 .ensures .0) (c .enum-told4 .given .1)))
 
-number-if-requires : tie.Need-number-if-requires
-number-if-requires c κs = let n = at-numbers c in value-told _ _ _ (numbers-read n .is) .1
-
 legal-code-point-requires : tie.Need-legal-code-point-requires
 legal-code-point-requires c κs = search needs
 
-legal-texts-requires : tie.Need-legal-texts-requires
-legal-texts-requires c κs =
-    let k = c .before .before in
-    let r = at-rom (at-numbers k) in
+legal-rest-requires : tie.Need-legal-rest-requires
+legal-rest-requires c κs =
+    let k = c .before in
+    let n = at-numbers k in
+    let r = at-rom n in
     let t = at-type r in
-    (within-told _ (t .before .before .before .text-at .ensures .1) (t .before .kind .given .1), within-told _ (r .before .before .before .opt-text-at .ensures .1) (r .before .rom .given .1), within-told _ (k .before .before .before .opt-text-at2 .ensures .1) (k .before .script .given .1))
-
-legal-digit-requires : tie.Need-legal-digit-requires
-legal-digit-requires c κs =
-    let r = at-rom (at-numbers (c .before .before .before)) in
-    let t = at-type r in
-    (within-told _ (t .before .before .before .text-at .ensures .1) (t .before .kind .given .1), within-told _ (r .before .before .before .opt-text-at .ensures .1) (r .before .rom .given .1))
+    (value-told _ _ _ (numbers-read n .is) .1, (within-told _ (t .before .before .before .text-at .ensures .1) (t .before .kind .given .1), within-told _ (r .before .before .before .opt-text-at .ensures .1) (r .before .rom .given .1), within-told _ (k .before .before .before .opt-text-at2 .ensures .1) (k .before .script .given .1)))
 
 returns-5 : tie.Need-returns-5
 returns-5 c =
-    let texts = c .before in
-    let point = texts .before in
-    let value = point .before in
-    let k = value .before in
+    let point = c .before in
+    let k = point .before in
     let n = at-numbers k in
     let r = at-rom n in
     let t = at-type r in
     let a = start t .args in
     let s = a .s .now in
     let script = told (optText (bit (a .map) 5) s) (k .before .before .before .opt-text-at2 .ensures .0) (k .before .script .given .1) in
-    rw (point .legal-code-point .ensures, texts .legal-texts .ensures, c .legal-digit .ensures, value .number-if .ensures)
+    rw (c .legal-rest .ensures, point .legal-code-point .ensures)
     (ap (λ b. Is b (k .before .script .given .0 .1 .0)) (legal-is _ (a .code) (a .map) _ _ _ (numbers-read n .it) _ (value-told _ _ _ (numbers-read n .is) .0) (numbers-read n .says))
     ∙ ap (mapField (legalRecord _)) (fields-are _ _ _ _ (type-read t) (rom-read r) (numbers-read n .is) script))
 
@@ -150,8 +140,6 @@ fields-look-spec =
     enum-known-script
     enum-told-4
     returns-4
-    number-if-requires
     legal-code-point-requires
-    legal-texts-requires
-    legal-digit-requires
+    legal-rest-requires
     returns-5)
