@@ -1,6 +1,6 @@
 -- A record is legal by its parts (`specs/Content.antt`), its code point and its numbers. No contract cites this file.
 use mathlib.Core.Path.{_≡_, refl, sym, ap, _∙_}
-use mathlib.Core.Bool.{Bool, true, false, cond, _&&_, and-false}
+use mathlib.Core.Bool.{Bool, true, false, cond, _&&_}
 use mathlib.Core.Option.{Option}
 use Prim.Native.Nat.{ℕ}
 use Rattle.dicts.specs.Table.{Text}

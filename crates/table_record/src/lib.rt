@@ -51,18 +51,6 @@ fn legal_texts(s: &[u8], map: u8, kind: Part, rom: Part, script: Part) -> bool
     well_formed_if(s, script, map / 32 % 2 == 1)
 }
 
-// A string that is there or absent.
-fn opt_text_at(s: &[u8], at: usize, there: bool) -> TextAt
-    ensures { λ r. ⌜ optText there (now (s .entry)) r ≡ optional there text (now (s .entry)) at ⌝ }
-    ensures within { λ r. ⌜ TextWithin (now (s .entry)) r ⌝ }
-{
-    if there {
-        text_at(s, at)
-    } else {
-        TextAt::Text(Part { at: 0, len: 0 }, at)
-    }
-}
-
 // What the fields hold beside code point and numbers, where those are legal: the digit rule, whose value stands at an offset, and the strings.
 fn legal_rest(s: &[u8], head: bool, map: u8, at: usize, kind: Part, rom: Part, script: Part) -> bool
     requires { ⌜ (bit map 1 ≡ true → at + 8 ≤ length (now s)) ⌝ }
@@ -76,6 +64,18 @@ fn legal_rest(s: &[u8], head: bool, map: u8, at: usize, kind: Part, rom: Part, s
         return false;
     }
     legal_texts(s, map, kind, rom, script)
+}
+
+// A string that is there or absent.
+fn opt_text_at(s: &[u8], at: usize, there: bool) -> TextAt
+    ensures { λ r. ⌜ optText there (now (s .entry)) r ≡ optional there text (now (s .entry)) at ⌝ }
+    ensures within { λ r. ⌜ TextWithin (now (s .entry)) r ⌝ }
+{
+    if there {
+        text_at(s, at)
+    } else {
+        TextAt::Text(Part { at: 0, len: 0 }, at)
+    }
 }
 
 // The fields behind the code point and the map: whether they make a legal record, and the offset behind them.

@@ -10,7 +10,7 @@ shared-slice-read-b : tie.Need-shared-slice-read-b
 shared-slice-read-b c = search needs
 
 returns : tie.Need-returns
-returns c = let p = c .before .before .before .pre in rest-one _ _ _ (p .1) (p .0) (c .if1 .taken)
+returns c = let p = c .before .before .before .pre in rest-one _ _ _ (p .1) (p .0) (omega arith)
 
 add-trail-at : tie.Need-add-trail-at
 add-trail-at c = search needs
