@@ -1,9 +1,9 @@
 -- Laws of the fallback's edges (`specs/Marks.antt`). No contract cites this file.
--- In order: the edge of one character; edges in a row; a character's first byte; the walk over the line; marks and the definition; the walk over the bytes, and a line without a digit; the edges are legal.
+-- In order: the edge of one character; edges in a row; a character's first byte; the walk over the line; marks and the definition; a line without a digit; the edges are legal.
 -- Assumes nothing.
 use mathlib.Core.Path.{_≡_, refl, sym, ap, _∙_, subst}
 use mathlib.Core.Logic.{inl}
-use mathlib.Core.Bool.{Bool, true, false, cond, _&&_, _||_, not, and-false, or-false, or-assoc, true≢false}
+use mathlib.Core.Bool.{Bool, true, false, cond, _&&_, _||_, not, and-false, true≢false}
 use mathlib.Core.List.{List, [], _∷_, _++_, append-assoc}
 use Prim.Native.Nat.{ℕ, suc, _+_, _/_, _≤_, _<_}
 use native.Mathlib.Numerals.{add-one}
@@ -32,7 +32,8 @@ use Rattle.lattice.specs.Lattice.{add, addAll}
 use Rattle.lattice.specs.Kept.{Holds, AddingIs}
 use Rattle.lattice.proofs.HoldsLaws.{add-nothing}
 use Rattle.numbers.specs.Fallback.{covered, numType, asciiDigit, fallback}
-use Rattle.fallback.specs.Marks.{digitEdge, unmarked, anyDigit}
+use Rattle.digit_marks.specs.Marks.{anyDigit}
+use Rattle.fallback.specs.Marks.{digitEdge, unmarked}
 
 -- ---- the edge of one character
 above : (c : ℕ) → 57 < c → asciiDigit c ≡ false
@@ -167,16 +168,7 @@ pub marks-add : {w : List ℕ} {l : Lattice} (es : List Edge) (marks : List Bool
     → Holds w l (addAll es (unmarked marks 0 cs)) → Holds w l (addAll es (fallback es 0 cs))
 marks-add es marks cs m h q = rw (marks-say es marks m 0 cs (omega arith)) at q
 
--- ---- the walk over the bytes: what is found so far, or is among those from i on, is what the line has
-module _ (line : List ℕ) (found : Bool) (i : ℕ) (so-far : found || anyDigit (drop i line) ≡ anyDigit line) where
-  pub any-next : i < length line → (found || asciiDigit (getD line i 0)) || anyDigit (drop (i + 1) line) ≡ anyDigit line
-  unfolding anyDigit
-  any-next h = or-assoc found _ _ ∙ rw (drop-at line i h) at so-far
-
-  pub any-end : length line ≤ i → found ≡ anyDigit line
-  unfolding anyDigit
-  any-end h = sym (or-false found) ∙ rw (drop-of-length-le line {i = i} h) at so-far
-
+-- ---- a line without a digit
 -- no byte is a digit's: then none is in a part
 none-each : (b : ℕ) (s : List ℕ) → anyDigit (b ∷ s) ≡ false → (asciiDigit b ≡ false) × (anyDigit s ≡ false)
 unfolding anyDigit

@@ -1,3 +1,2 @@
 -- The proofs of `fallback`.
-pub mod MarkLaws
 pub mod DigitLaws

@@ -1,48 +1,18 @@
 // The fallback (01, "The rest of the call"): an ASCII digit without a numeric edge on its place adds a regular edge there. The last stage of the call.
 ghost use mathlib.Core.Path.{_≡_};
-ghost use mathlib.Core.Bool.{false, true, cond};
 ghost use mathlib.Core.List.{List};
 ghost use Prim.Native.Nat.{ℕ, _≤_, _<_};
-ghost use lib.ListN.{length, drop, getD, set, replicate};
+ghost use lib.ListN.{length, drop};
 ghost use Rattle.text.specs.Text.{chars};
 ghost use Rattle.edge.specs.Edge.{Edge};
-ghost use Rattle.edge.specs.Layout.{edgeAt};
 ghost use Rattle.lattice.specs.Lattice.{addAll};
 ghost use Rattle.lattice.specs.Kept.{Holds};
-ghost use Rattle.paths.specs.Reading.{Spanned};
 ghost use Rattle.stages.specs.Ready.{Offsets};
 ghost use Rattle.stages.specs.CallEdge.{Legals};
-ghost use Rattle.numbers.specs.Fallback.{covered, fallback};
-ghost use Rattle.fallback.specs.Marks.{onePlace, digitEdge, unmarked, anyDigit};
+ghost use Rattle.numbers.specs.Fallback.{fallback};
+ghost use Rattle.fallback.specs.Marks.{digitEdge, unmarked};
 use lattice::Lattice;
 use text::Place;
-
-// Sets the mark of an edge's place where the edge is numeric and one place long.
-fn mark(s: &[u8], at: usize, marks: &mut [bool; 257])
-    requires { ⌜ Spanned 256 (now s) at ⌝ }
-    ensures { λ _. ⌜ now (marks .exit) ≡ cond (onePlace (edgeAt (now (s .entry)) at)) (set (now (marks .entry)) (edgeAt (now (s .entry)) at .start) true) (now (marks .entry)) ⌝ }
-{
-    let map = fields::u16_at(s, at);
-    let start = fields::u16_at(s, at + 2) as usize;
-    let end = fields::u16_at(s, at + 4) as usize;
-    if edge::bit(map, 1) & (end == start + 1) {
-        marks[start] = true;
-    }
-}
-
-// The marks of all places that a numeric edge of one place covers. One walk over the lattice.
-fn mark_covered(w: &[u8], l: Lattice, marks: &mut [bool; 257])
-    requires { ⌜ (l .len ≡ 0 → ⊥) × ((n : ℕ) × (n ≤ 256) × ((es : List Edge) × Holds (now w) l es × Legals n es)) × (now marks ≡ replicate 257 false) ⌝ }
-    ensures { λ _. ⌜ ((n : ℕ) (es : List Edge) → n ≤ 256 → Holds (now (w .entry)) l es → Legals n es → (p : ℕ) → p < 256 → getD (now (marks .exit)) p false ≡ covered es p) ⌝ }
-{
-    let count = l.count;
-    let mut i = 0;
-    while i < count {
-        let at = lattice::offset_at(w, l, i);
-        mark(w, at, marks);
-        i += 1;
-    }
-}
 
 // The edge of a character at a place, by its first byte, if it is a digit whose place has no mark.
 fn add_digit(w: &mut [u8], l: Lattice, b: u8, place: usize, marked: bool) -> Lattice
@@ -78,20 +48,6 @@ fn add_unmarked(
     grown
 }
 
-// Whether a line has the byte of an ASCII digit: most have none. The walk has no way out before the line's end, so that it takes many bytes at a time.
-fn any_digit(line: &[u8]) -> bool
-    ensures { λ r. ⌜ r ≡ anyDigit (now (line .entry)) ⌝ }
-{
-    let mut found = false;
-    let mut i = 0;
-    while i < line.len() {
-        let b = line[i];
-        found = found | ((48 <= b) & (b <= 57));
-        i += 1;
-    }
-    found
-}
-
 // The fallback's edges are added, for a line of n characters. The marks are those of the lattice before the first of them.
 pub fn fallback(w: &mut [u8], l: Lattice, line: &[u8], offs: &[usize; 257], n: usize) -> Lattice
     requires { ⌜ Offsets (now line) (now offs) × (length (chars (now line)) ≡ n) × (n ≤ 256) × ((es : List Edge) × Holds (now w) l es × Legals n es) ⌝ }
@@ -100,10 +56,10 @@ pub fn fallback(w: &mut [u8], l: Lattice, line: &[u8], offs: &[usize; 257], n: u
     if l.len == 0 {
         return l;
     }
-    if !any_digit(line) {
+    if !digit_marks::any_digit(line) {
         return l;
     }
     let mut marks = [false; 257];
-    mark_covered(w, l, &mut marks);
+    digit_marks::mark_covered(w, l, &mut marks);
     add_unmarked(w, l, line, offs, n, &marks)
 }

@@ -1,14 +1,14 @@
--- `fallback::mark_covered` meets its contract. The loop's invariant: with the edges from the i-th on, the marks are those of all edges (`Marking`). The measure is
+-- `digit_marks::mark_covered` meets its contract. The loop's invariant: with the edges from the i-th on, the marks are those of all edges (`Marking`). The measure is
 -- how many are left. Assumes nothing.
 use Prim.Native.Nat.{_-_}
 use mathlib.Core.Path.{_∙_}
 use native.Mathlib.Omega.{arith}
 use Rattle.stages.proofs.SoundLaws.{spanned-at}
 use Rattle.stages.proofs.MarkLaws.{Marking, marking-start, marking-turn, marking-end}
-use Rattle.fallback.specs.Marks.{onePlace}
-use Rattle.fallback.proofs.MarkLaws.{covers-agree}
-use Rattle.fallback.proofs.mark_covered.Statement.{statement}
-use Rattle.fallback.proofs.mark_covered.Tie as tie
+use Rattle.digit_marks.specs.Marks.{onePlace}
+use Rattle.digit_marks.proofs.MarkLaws.{covers-agree}
+use Rattle.digit_marks.proofs.mark_covered.Statement.{statement}
+use Rattle.digit_marks.proofs.mark_covered.Tie as tie
 
 abbrev Inv-loop : tie.InvT-loop
 Inv-loop w l marks₀ count i₀ marks i = Marking onePlace (λ e. e .start) w l i marks

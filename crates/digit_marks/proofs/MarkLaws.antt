@@ -18,7 +18,7 @@ use Rattle.paths.specs.Reading.{Spanned}
 use Rattle.stages.specs.Marks.{anyAt}
 use Rattle.numbers.specs.Fractions.{isNumeric}
 use Rattle.numbers.specs.Fallback.{covered}
-use Rattle.fallback.specs.Marks.{onePlace}
+use Rattle.digit_marks.specs.Marks.{onePlace}
 
 -- ---- the edge that is read
 module _ (s : List ℕ) (at : ℕ) {m a z : ℕ} {b : Bool} (map : m ≡ mapAt s at) (start : a ≡ leAt s (at + 2) 2) (end : z ≡ leAt s (at + 4) 2) (bit-0 : b ≡ stands 0 m) where

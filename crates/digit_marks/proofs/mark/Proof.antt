@@ -1,12 +1,12 @@
--- `fallback::mark` meets its contract. Assumes nothing.
+-- `digit_marks::mark` meets its contract. Assumes nothing.
 use borrow.Author.Needs.{needs}
 use Prim.Native.Nat.{_+_, _≤_}
 use native.Mathlib.Omega.{arith}
 use lib.ListN.{length}
 use Rattle.paths.proofs.BestLaws.{head-bytes}
-use Rattle.fallback.proofs.MarkLaws.{place-read, mark-set, mark-kept}
-use Rattle.fallback.proofs.mark.Statement.{statement}
-use Rattle.fallback.proofs.mark.Tie as tie
+use Rattle.digit_marks.proofs.MarkLaws.{place-read, mark-set, mark-kept}
+use Rattle.digit_marks.proofs.mark.Statement.{statement}
+use Rattle.digit_marks.proofs.mark.Tie as tie
 
 inside : (s : tie.Start) → s .args .at + 10 ≤ length (s .args .s .now)
 inside s = head-bytes _ _ _ (s .pre .whole)

@@ -1,0 +1,3 @@
+-- The proofs of `digit_marks`.
+mod MarkLaws
+mod WalkLaws
