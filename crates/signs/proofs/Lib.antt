@@ -1,5 +1,3 @@
 -- What the proofs of `signs`, and its callers', share.
-pub mod TowardLaws
-pub mod SignLaws
-pub mod ItemLaws
+mod ItemLaws
 pub mod CallLaws

@@ -15,8 +15,9 @@ use Rattle.pass_list.specs.Edges.{edgeOf}
 use Rattle.items.specs.Sound.{Sound, Sounds}
 use Rattle.numbers.specs.Signs.{signs}
 use Rattle.signs.specs.SignEdges.{signsOf}
-use Rattle.signs.proofs.TowardLaws.{Toward, toward-start, toward-next, toward-end}
-use Rattle.signs.proofs.ItemLaws.{behind-length, rest, rest-start, rest-next, rest-end, sounds-start, sounds-next}
+use Rattle.sign_edges.proofs.BufferLaws.{behind-length}
+use Rattle.sign_edges.proofs.TowardLaws.{Toward, toward-start, toward-next, toward-end}
+use Rattle.signs.proofs.ItemLaws.{rest, rest-start, rest-next, rest-end, sounds-start, sounds-next}
 use Rattle.signs.proofs.add_signs.Statement.{statement}
 use Rattle.signs.proofs.add_signs.Tie as tie
 

@@ -1,4 +1,4 @@
--- `signs::add_signs_of` meets its contract. The loop's invariant: with the signs that are left, the lattice is what it shall be (`Toward`), and they are
+-- `sign_edges::add_signs_of` meets its contract. The loop's invariant: with the signs that are left, the lattice is what it shall be (`Toward`), and they are
 -- well-formed. The measure is how many are left. Assumes nothing.
 use mathlib.Core.Path.{_≡_, refl}
 use mathlib.Core.List.{List, [], _∷_}
@@ -14,10 +14,10 @@ use Rattle.pass_list.specs.Edges.{edgeOf}
 use Rattle.numbers.specs.Signs.{signed}
 use Rattle.markers.specs.Marks.{Formed}
 use Rattle.markers.proofs.AnyLaws.{formed-first, formed-rest, list-formed}
-use Rattle.signs.proofs.TowardLaws.{Toward, toward-start, toward-next, toward-end}
-use Rattle.signs.proofs.SignLaws.{signs-turn, signs-fault, signs-end, signs-missing, signs-list}
-use Rattle.signs.proofs.add_signs_of.Statement.{statement}
-use Rattle.signs.proofs.add_signs_of.Tie as tie
+use Rattle.sign_edges.proofs.TowardLaws.{Toward, toward-start, toward-next, toward-end}
+use Rattle.sign_edges.proofs.SignLaws.{signs-turn, signs-fault, signs-end, signs-missing, signs-list}
+use Rattle.sign_edges.proofs.add_signs_of.Statement.{statement}
+use Rattle.sign_edges.proofs.add_signs_of.Tie as tie
 
 abbrev Inv-loop : tie.InvT-loop
 Inv-loop w₀ line offs table list x sign grown₀ next₀ left₀ w grown next left =

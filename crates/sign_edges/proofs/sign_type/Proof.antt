@@ -1,11 +1,11 @@
--- `signs::sign_type` meets its contract. Assumes nothing.
+-- `sign_edges::sign_type` meets its contract. Assumes nothing.
 use borrow.Author.Needs.{needs}
 use Prim.Native.Nat.{_≤_}
 use native.Mathlib.Omega.{arith}
 use lib.ListN.{length, length-set}
-use Rattle.signs.proofs.ItemLaws.{front-length, begins-type}
-use Rattle.signs.proofs.sign_type.Statement.{statement}
-use Rattle.signs.proofs.sign_type.Tie as tie
+use Rattle.sign_edges.proofs.BufferLaws.{front-length, begins-type}
+use Rattle.sign_edges.proofs.sign_type.Statement.{statement}
+use Rattle.sign_edges.proofs.sign_type.Tie as tie
 
 -- how long the item's type is, and the buffer behind it
 small : (c : tie.After-slice-known2) → c .before .before .type-of .result ≤ 60

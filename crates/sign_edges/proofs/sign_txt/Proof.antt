@@ -1,4 +1,4 @@
--- `signs::sign_txt` meets its contract. Assumes nothing.
+-- `sign_edges::sign_txt` meets its contract. Assumes nothing.
 use borrow.Author.Needs.{needs}
 use mathlib.Core.Path.{_∙_}
 use Prim.Native.Nat.{ℕ, _-_, _≤_}
@@ -7,9 +7,9 @@ use lib.ListN.{length, set, length-set}
 use borrow.Rule.Slice.PartMut.{same-len-mid}
 use Rattle.text.specs.Text.{chars}
 use Rattle.items.proofs.TextLaws.{txt-short}
-use Rattle.signs.proofs.ItemLaws.{behind-length, begins-txt}
-use Rattle.signs.proofs.sign_txt.Statement.{statement}
-use Rattle.signs.proofs.sign_txt.Tie as tie
+use Rattle.sign_edges.proofs.BufferLaws.{behind-length, begins-txt}
+use Rattle.sign_edges.proofs.sign_txt.Statement.{statement}
+use Rattle.sign_edges.proofs.sign_txt.Tie as tie
 
 -- how long the item's txt is
 small : (c : tie.After-slice-known2) → c .before .before .txt-of .result ≤ 256

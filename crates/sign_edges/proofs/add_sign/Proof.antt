@@ -1,4 +1,4 @@
--- `signs::add_sign` meets its contract, by whether the sign stands before the item. Assumes nothing.
+-- `sign_edges::add_sign` meets its contract, by whether the sign stands before the item. Assumes nothing.
 use borrow.Author.Needs.{needs}
 use mathlib.Core.Path.{_≡_, refl, ap, _∙_}
 use Prim.Native.Nat.{_+_, _-_, _≤_}
@@ -12,10 +12,10 @@ use Rattle.items.proofs.TextLaws.{places-of}
 use Rattle.markers.specs.Marks.{signOf}
 use Rattle.markers.specs.declared.Sign.the-variants as Sign
 use Rattle.markers.proofs.MarkLaws.{cut-is}
-use Rattle.signs.proofs.SignLaws.{sign-told, sign-fits, sign-added, sign-absent}
-use Rattle.signs.proofs.ItemLaws.{start-is}
-use Rattle.signs.proofs.add_sign.Statement.{statement}
-use Rattle.signs.proofs.add_sign.Tie as tie
+use Rattle.sign_edges.proofs.SignLaws.{sign-told, sign-fits, sign-added, sign-absent}
+use Rattle.sign_edges.proofs.BufferLaws.{start-is}
+use Rattle.sign_edges.proofs.add_sign.Statement.{statement}
+use Rattle.sign_edges.proofs.add_sign.Tie as tie
 
 -- the item's place, the sign, and what is known of them
 abbrev start : tie.After-sign-before-arg → tie.Start

@@ -25,7 +25,7 @@ use Rattle.markers.specs.Marks.{signOf}
 use Rattle.markers.specs.declared.Sign.{Sign}
 use Rattle.markers.specs.declared.Sign.the-variants as Sign
 use Rattle.markers.proofs.MarkLaws.{Legal, legal-count}
-use Rattle.signs.specs.SignEdges.{signEdgeAt}
+use Rattle.sign_edges.specs.SignEdges.{signEdgeAt}
 
 -- ---- one sign
 -- what an answer for the sign x says of the sign m

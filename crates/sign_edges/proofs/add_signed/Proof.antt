@@ -1,4 +1,4 @@
--- `signs::add_signed` meets its contract: the buffers begin with the texts of the definition. Assumes nothing.
+-- `sign_edges::add_signed` meets its contract: the buffers begin with the texts of the definition. Assumes nothing.
 use borrow.Author.Needs.{needs}
 use mathlib.Core.Path.{_≡_, sym}
 use mathlib.Core.List.{[], _∷_, _++_}
@@ -9,10 +9,10 @@ use Rattle.pass_list.specs.Item.{Item, EdgeIs}
 use Rattle.pass_list.specs.Edges.{txtOf}
 use Rattle.items.specs.Texts.{typeOf}
 use Rattle.items.proofs.TextLaws.{type-short, places-of}
-use Rattle.signs.specs.SignEdges.{Begins}
-use Rattle.signs.proofs.ItemLaws.{edge-added, sign-short}
-use Rattle.signs.proofs.add_signed.Statement.{statement}
-use Rattle.signs.proofs.add_signed.Tie as tie
+use Rattle.sign_edges.specs.SignEdges.{Begins}
+use Rattle.sign_edges.proofs.BufferLaws.{edge-added, sign-short}
+use Rattle.sign_edges.proofs.add_signed.Statement.{statement}
+use Rattle.sign_edges.proofs.add_signed.Tie as tie
 
 -- the two texts, for an item that x is
 abbrev typed : tie.After-sign-type → tie.Start

@@ -1,0 +1,2 @@
+-- The definitions that the contracts of `sign_edges` cite.
+pub mod SignEdges
