@@ -1,7 +1,6 @@
 -- The three loops in a row are the stage. No contract cites this file.
 -- In order: a full lattice; what the last loop asks for; what it leaves. Assumes nothing.
-use mathlib.Core.Path.{_≡_, refl, sym, ap, _∙_, subst}
-use mathlib.Core.Bool.{true, false}
+use mathlib.Core.Path.{_≡_, sym, ap, _∙_, subst}
 use mathlib.Core.List.{List}
 use Prim.Native.Nat.{ℕ, _≤_}
 use lib.ListN.{length}
@@ -17,8 +16,9 @@ use Rattle.stages.proofs.CallLaws.{turn-off-call}
 use Rattle.numbers.specs.Fractions.{Made, madeFrom, newEdges, usedEdges, fractions}
 use Rattle.made.specs.Around.{Keeps}
 use Rattle.choices.specs.Choices.{Decided}
-use Rattle.fractions.specs.Mades.{madesOf, AllValid, Planned}
-use Rattle.fractions.proofs.KeepsLaws.{keeps-turn-off, valid-keeps}
+use Rattle.turned_off.specs.Mades.{madesOf, AllValid}
+use Rattle.fractions.specs.Planned.{Planned}
+use Rattle.turned_off.proofs.KeepsLaws.{keeps-turn-off, valid-keeps}
 use Rattle.fractions.proofs.MadesLaws.{mades-all, mades-keep}
 use Rattle.fractions.proofs.NewLaws.{new-call}
 

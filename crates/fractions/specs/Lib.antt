@@ -1,3 +1,3 @@
 -- The definitions that the contracts of `fractions` cite.
-pub mod Mades
+pub mod Planned
 pub mod AnyMarker

@@ -1,10 +1,10 @@
--- `fractions::turn_off_used` meets its contract, by the form: no edge, the right one, or both. Assumes nothing.
+-- `turned_off::turn_off_used` meets its contract, by the form: no edge, the right one, or both. Assumes nothing.
 use mathlib.Core.Path.{refl, _∙_}
 use Rattle.lattice.specs.Lattice.{turnOffAt}
 use Rattle.lattice.proofs.HoldsLaws.{behind-same, behind-twice}
-use Rattle.fractions.proofs.MadesLaws.{off-none, off-right, off-both, two-of, in-count}
-use Rattle.fractions.proofs.turn_off_used.Statement.{statement}
-use Rattle.fractions.proofs.turn_off_used.Tie as tie
+use Rattle.turned_off.proofs.TurnedLaws.{off-none, off-right, off-both, two-of, in-count}
+use Rattle.turned_off.proofs.turn_off_used.Statement.{statement}
+use Rattle.turned_off.proofs.turn_off_used.Tie as tie
 
 returns : tie.Need-returns
 returns c = (refl, λ es h. off-none es _ (c .if1 .taken) h)

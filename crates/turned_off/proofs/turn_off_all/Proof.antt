@@ -1,11 +1,11 @@
--- `fractions::turn_off_all` meets its contract. The loop's invariant: what the places before p use is inactive (`Turned`). The measure is what is left.
+-- `turned_off::turn_off_all` meets its contract. The loop's invariant: what the places before p use is inactive (`Turned`). The measure is what is left.
 -- Assumes nothing.
 use Prim.Native.Nat.{_-_}
 use native.Mathlib.Omega.{arith}
 use borrow.Author.Needs.{needs}
-use Rattle.fractions.proofs.MadesLaws.{Turned, turned-start, turned-next, turned-more, turned-ends}
-use Rattle.fractions.proofs.turn_off_all.Statement.{statement}
-use Rattle.fractions.proofs.turn_off_all.Tie as tie
+use Rattle.turned_off.proofs.TurnedLaws.{Turned, turned-start, turned-next, turned-more, turned-ends}
+use Rattle.turned_off.proofs.turn_off_all.Statement.{statement}
+use Rattle.turned_off.proofs.turn_off_all.Tie as tie
 
 abbrev Inv-loop : tie.InvT-loop
 Inv-loop w₀ l forms lefts rights n p₀ w p = Turned w₀ l forms lefts rights n w p

@@ -2,19 +2,15 @@
 --     madesOf es fs ls rs p k   what the choices of the k places from p on lead to over the lattice es
 --     usedBy c                  the indices of the edges that the choice c uses
 --     AllValid es fs ls rs n    each of the first n choices may stand over es
---     Planned n w l es ..       besides, w and l hold the edges es of a call over n characters, and so are those that are made
 --     Assumes nothing.
 use mathlib.Core.List.{List, [], _∷_}
 use mathlib.Core.Bool.{cond}
 use Prim.Native.Nat.{ℕ, zero, suc, _<_}
 use lib.Dec.{eqb}
 use Rattle.edge.specs.Edge.{Edge}
-use Rattle.lattice.specs.declared.Lattice.{Lattice}
-use Rattle.stages.specs.CallEdge.{CallEdges}
-use Rattle.numbers.specs.Fractions.{Made, newEdges}
+use Rattle.numbers.specs.Fractions.{Made}
 use Rattle.made.specs.declared.Choice.{Choice}
 use Rattle.made.specs.Choice.{madeOf, Valid}
-use Rattle.new_edges.specs.NewEdge.{Has}
 use Rattle.choices.specs.Choices.{choiceAt}
 
 unfoldable pub madesOf : List Edge → List ℕ → List ℕ → List ℕ → ℕ → ℕ → List Made
@@ -30,8 +26,3 @@ usedBy c = usedWith (c .form) (c .left) (c .right)
 
 abbrev pub AllValid : List Edge → List ℕ → List ℕ → List ℕ → ℕ → Type 0
 AllValid es fs ls rs n = (p : ℕ) → p < n → Valid es (choiceAt fs ls rs p)
-
-pub record Planned (n : ℕ) (w : List ℕ) (l : Lattice) (es : List Edge) (fs ls rs : List ℕ) : Type 0 where
-  pub has : Has n w l es
-  pub valid : AllValid es fs ls rs n
-  pub new : CallEdges n (newEdges (madesOf es fs ls rs 0 n))

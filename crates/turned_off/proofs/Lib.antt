@@ -1,0 +1,3 @@
+-- The laws of `turned_off`.
+pub mod KeepsLaws
+pub mod TurnedLaws
