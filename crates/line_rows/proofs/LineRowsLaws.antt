@@ -1,15 +1,14 @@
--- Laws of what the program prints (`specs/LineRows.antt`): the text of a refusal, the listing that the call left in the output, its text. No
--- contract cites this file. Assumes nothing.
-use mathlib.Core.Path.{_≡_, refl, sym, ap, _∙_}
-use mathlib.Core.Bool.{Bool, true, false, cond, _||_}
+-- Laws of what the program prints (`specs/LineRows.antt`): the listing that the call left in the output, its text, and the plain
+-- table's. No contract cites this file. Assumes nothing.
+use mathlib.Core.Path.{_≡_, sym, ap, _∙_}
+use mathlib.Core.Bool.{true, _||_}
 use mathlib.Core.List.{List}
 use mathlib.Core.Option.{Option, none, some}
 use Prim.Native.Nat.{ℕ, _+_, _≤_}
 use native.Mathlib.Omega.{arith}
 use lib.ListN.{length, take, drop, length-append}
-use lib.Dec.{leb, ltb}
-use lib.Seq.{sets, length-sets, take-append-seam, length-take-le}
-use borrow.Author.Tests.{leb-true, leb-false}
+use lib.Dec.{ltb}
+use lib.Seq.{length-sets, take-append-seam, length-take-le}
 use Rattle.text.proofs.RowLaws.{cond-cases}
 use Rattle.text.specs.Text.{chars}
 use Rattle.text.specs.Line.{lineCheck}
@@ -26,41 +25,17 @@ use Rattle.edge.specs.Check.{checkListing}
 use Rattle.edge.specs.declared.ListingCheck.{ListingCheck}
 use Rattle.edge.specs.declared.ListingCheck.the-variants as ListingCheck
 use Rattle.edge.specs.declared.Written.{Written}
-use Rattle.edge.specs.declared.Written.the-variants.{To, NoRoom}
-use Rattle.edge.specs.Write.{written, writtenTo}
 use Rattle.lattice.specs.Lattice.{overfull}
-use Rattle.rows.specs.Rows.{refusedBytes}
 use Rattle.listing_rows.specs.ListingRows.{rowsBytes, RowsAre}
-use Rattle.listing_rows.proofs.ListingRowsLaws.{to-no-room}
 use Rattle.numbers.specs.Call.{Answer, listing, refused, finished, latticeOf, unlessAbove, withAll, withGiven, withTable, withLine, addNumbers}
 use Rattle.answers.specs.declared.Answer.{Answer as Code}
 use Rattle.answers.specs.declared.Answer.the-variants as Code
 use Rattle.answers.specs.declared.Refusal.{Refusal}
 use Rattle.answers.specs.Answers.{number, place, answerOf}
 use Rattle.ending.specs.Answers.{AnswerIs}
-use Rattle.line_rows.specs.LineRows.{TextIs}
-
--- ---- the text of a refusal
-refusal-text : (text : List ℕ) {t : List ℕ} {r : Written} (n p : ℕ) → r ≡ written text 0 (refusedBytes n p) → t ≡ writtenTo text 0 (refusedBytes n p) → TextIs text t r (refused n p)
-refusal-text text {t} {r} n p e f = go (leb (0 + length bs) (length text)) refl e f
-  where
-    bs : List ℕ
-    bs = refusedBytes n p
-
-    go : (b : Bool) → leb (0 + length bs) (length text) ≡ b → r ≡ cond b (To (0 + length bs)) NoRoom → t ≡ cond b (sets text 0 bs) text → TextIs text t r (refused n p)
-    go true l e f = record {
-      wrote = λ k g. record { wrote = f; next = let m : k ≡ 0 + length bs = cc in m };
-      room = λ k g. let m : k ≡ 0 + length bs = cc in let h = leb-true (0 + length bs) (length text) l in omega (arith, ap length f ∙ length-sets text 0 bs);
-      fits = λ u h. let m : 0 + length bs ≡ length bs = omega arith in e ∙ ap To m;
-    }
-    go false l e f = record {
-      wrote = λ k g. to-no-room k (sym e ∙ g);
-      room = λ k g. to-no-room k (sym e ∙ g);
-      fits = λ u h. let k = leb-false (0 + length bs) (length text) l in absurd (omega arith);
-    }
-
-pub refusal-put : (text : List ℕ) {t : List ℕ} {r : Written} {n p n' p' : ℕ} → n' ≡ n → p' ≡ p → r ≡ written text 0 (refusedBytes n' p') → t ≡ writtenTo text 0 (refusedBytes n' p') → TextIs text t r (refused n p)
-refusal-put text {t} {r} {n} {p} {n'} {p'} e f g h = rw (sym e, sym f) (refusal-text text n' p' g h)
+use Rattle.refusal_row.specs.Printed.{TextIs}
+use Rattle.grammar.specs.PlainBytes.{plainBytes}
+use Rattle.line_rows.specs.LineRows.{noEdges, plainAnswer}
 
 -- ---- a listing has its count
 abbrev Counted : Answer → Type 0
@@ -127,3 +102,8 @@ listing-text s text {t} {r} a e h = rw e (record {
   room = λ n f. let k = h .room n f in omega (arith, ap length (h .wrote n f .wrote) ∙ length-sets text 0 (rowsBytes (listed s)));
   fits = h .fits;
 })
+
+-- ---- the plain table, and the program's own work space and output
+pub plain-text : {text t : List ℕ} {r : Written} (line : List ℕ) {table : List ℕ} {work out : ℕ} → TextIs text t r (addNumbers line table noEdges work out) → table ≡ plainBytes → work ≡ 65536 → out ≡ 32768
+    → TextIs text t r (plainAnswer line)
+plain-text line h p q s = rw (p, q, s) at h

@@ -1,42 +1,15 @@
 -- What the program prints for a line (01: "A program reads one line .., with the plain table and no given edges. It prints start, end, type, txt,
 -- and 1, 0 or - .., one edge a row; or "refused", number, place"). Definitions only.
 --     noEdges            the edge list given: none
---     printed a          the text of an answer of the call: a row for each edge of the listing, or the refusal's row
---     Listable a         no edge of the listing is cut off
---     TextIs text t r a  where r is an offset, text became t with the text of the answer a from its front up to there; and r is an offset
---                        where the text fits
 --     plainAnswer line   the call's answer with the plain table, no given edges and the program's work space and output
 --     Assumes nothing.
-use mathlib.Core.Path.{_≡_}
 use mathlib.Core.List.{List, [], _∷_}
-use Prim.Native.Nat.{ℕ, _≤_}
-use lib.ListN.{length}
-use Rattle.fields.specs.Fields.{leAt}
-use Rattle.edge.specs.declared.Written.{Written}
-use Rattle.edge.specs.declared.Written.the-variants.{To}
-use Rattle.edge.specs.Layout.{listed}
-use Rattle.edge.specs.Write.{Put}
-use Rattle.paths.specs.Best.{Whole}
-use Rattle.rows.specs.Rows.{refusedBytes}
-use Rattle.listing_rows.specs.ListingRows.{rowsBytes}
+use Prim.Native.Nat.{ℕ}
 use Rattle.grammar.specs.PlainBytes.{plainBytes}
-use Rattle.numbers.specs.Call.{Answer, listing, refused, addNumbers}
+use Rattle.numbers.specs.Call.{Answer, addNumbers}
 
 abbrev pub noEdges : List ℕ
 noEdges = 0 ∷ 0 ∷ []
-
-abbrev pub printed : Answer → List ℕ
-printed (listing bytes) = rowsBytes (listed bytes)
-printed (refused number place) = refusedBytes number place
-
-abbrev pub Listable : Answer → Type 0
-Listable (listing bytes) = Whole (leAt bytes 0 2) bytes 2
-Listable (refused number place) = Unit
-
-pub record TextIs (text t : List ℕ) (r : Written) (a : Answer) : Type 0 where
-  pub wrote : (n : ℕ) → r ≡ To n → Put text t 0 n (printed a)
-  pub room : (n : ℕ) → r ≡ To n → n ≤ length t
-  pub fits : Listable a → length (printed a) ≤ length text → r ≡ To (length (printed a))
 
 abbrev pub plainAnswer : List ℕ → Answer
 plainAnswer line = addNumbers line plainBytes noEdges 65536 32768

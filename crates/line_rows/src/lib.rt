@@ -1,21 +1,11 @@
 // What the program prints for a line: the rows of the call's listing, or the row of its refusal, as text in a lent buffer. The words of the
 // contracts are in specs/LineRows.antt.
 ghost use lib.ListN.{length};
-ghost use Rattle.numbers.specs.Call.{refused, addNumbers};
-ghost use Rattle.answers.specs.Answers.{number, place};
-ghost use Rattle.line_rows.specs.LineRows.{noEdges, plainAnswer, TextIs};
+ghost use Rattle.numbers.specs.Call.{addNumbers};
+ghost use Rattle.refusal_row.specs.Printed.{TextIs};
+ghost use Rattle.line_rows.specs.LineRows.{noEdges, plainAnswer};
 use call::Answer;
-use call::Refusal;
 use edge::Written;
-
-// The row of a refusal.
-fn put_refusal(text: &mut [u8], r: Refusal) -> Written
-    ensures { λ w. ⌜ TextIs (now (text .entry)) (now (text .exit)) w (refused (number r) (place r)) ⌝ }
-{
-    let number = call::number_of(r) as u64;
-    let place = call::place_of(r) as u64;
-    rows::put_refused(text, 0, number, place)
-}
 
 // The text of a line with a table and no given edges.
 fn answer_line(
@@ -29,7 +19,7 @@ fn answer_line(
 {
     match call::add_numbers(line, table, b"\x00\x00", work, out) {
         Answer::Listing(n) => listing_rows::put_rows(text, &out[..n]),
-        Answer::Refused(r) => put_refusal(text, r),
+        Answer::Refused(r) => refusal_row::put_refusal(text, r),
     }
 }
 

@@ -1,16 +1,14 @@
 -- Laws of the rows (`specs/Rows.antt`): what stands behind one another, how long it is, and what a writer answers. No contract cites this file.
--- In order: one column; the mark; a row's columns; the row of an edge of a listing; the row of a refusal.
+-- In order: one column; the mark; a row's columns; the row of an edge of a listing.
 use mathlib.Core.Path.{_≡_, refl, sym, ap, _∙_}
 use mathlib.Core.Bool.{Bool, true, false, not, cond}
-use mathlib.Core.List.{List, [], _∷_, _++_}
+use mathlib.Core.List.{List, [], _∷_}
 use Prim.Native.Nat.{ℕ, _+_, _-_, _≤_, _<_}
 use native.Mathlib.Nat.{add-sub-cancel-left}
 use native.Mathlib.Omega.{arith}
-use lib.ListN.{length, set, take, drop, length-append}
-use lib.Seq.{sets}
+use lib.ListN.{length, take, drop, length-append}
 use borrow.Author.Tests.{not-true, not-false}
 use Rattle.whole.specs.Decimal.{decimal}
-use Rattle.whole.proofs.SetsLaws.{sets-then}
 use Rattle.fields.specs.Part.{part}
 use Rattle.fields.proofs.PartLaws.{length-part}
 use Rattle.edge.specs.declared.Part.{Part}
@@ -22,12 +20,10 @@ use Rattle.edge.specs.View.{textOf, viewAt}
 use Rattle.edge.specs.Write.{written, writtenTo, Put}
 use Rattle.edge.proofs.CheckLaws.{head-within, type-within, txt-within}
 use Rattle.edge.proofs.WriteLaws.{put-then, no-room, put-there}
-use Rattle.rows.specs.Rows.{ended, mark, row, rowBytes, refusedBytes, viewMark, viewRow}
+use Rattle.columns.specs.Columns.{ended}
+use Rattle.rows.specs.Rows.{mark, row, rowBytes, viewMark, viewRow}
 
 -- ---- one column
-pub put-ended : (bs s : List ℕ) {t : List ℕ} (at by : ℕ) {end : ℕ} → t ≡ sets s at bs → end ≡ at + length bs → Put s (set t end by) at (end + 1) (ended bs by)
-put-ended bs s at by {end} e k = record { wrote = sets-then s at end bs (by ∷ []) e k refl; next = simp length-append (omega arith) }
-
 -- the part that is lent to a writer
 pub put-slice : (s : List ℕ) (p : Part) (by : ℕ) {w t : List ℕ} {at r : ℕ} → Put w t at r (ended (take (p .at + p .len - p .at) (drop (p .at) s)) by) → Put w t at r (ended (textOf s p) by)
 unfolding part
@@ -137,24 +133,3 @@ module _ (s : List ℕ) (from : ℕ) (e : EdgeView) (read : e ≡ viewAt s from)
     pub row-there : {t : List ℕ} {r : ℕ} → a + z + e .ty .len + e .txt .len + 4 ≤ length out - at → Put out t at r (viewRow s e)
         → (To r ≡ written out at (rowBytes (edgeAt s from))) × (t ≡ writtenTo out at (rowBytes (edgeAt s from)))
     row-there h p = rw (sym row-is) (put-there out at (viewRow s e) (row-room h) p)
-
--- ---- the row of a refusal
-abbrev refused : List ℕ
-refused = 114 ∷ 101 ∷ 102 ∷ 117 ∷ 115 ∷ 101 ∷ 100 ∷ []
-
-module _ (out : List ℕ) (at n p : ℕ) (inside : at ≤ length out) {a z : ℕ} (a-is : a ≡ length (decimal n) + 1) (z-is : z ≡ length (decimal p) + 1) where
-  length-refused : length (refusedBytes n p) ≡ a + z + 8
-  unfolding refusedBytes
-  length-refused = simp length-append (omega arith)
-
-  pub refused-no-room : length out - at < a + z + 8 → (NoRoom ≡ written out at (refusedBytes n p)) × (out ≡ writtenTo out at (refusedBytes n p))
-  refused-no-room h = let l = length-refused in no-room out at (refusedBytes n p) (omega arith)
-
-  module _ (room : a + z + 8 ≤ length out - at) {t : List ℕ} {k : ℕ} (first : Put out t at k (ended refused 32)) where
-    module _ {u : List ℕ} {h : ℕ} (second : Put t u k h (ended (decimal n) 32)) where
-      pub place-room : h + length (decimal p) + 1 ≤ length out
-      place-room = let e = first .next in let f = second .next in let l = length-append (decimal n) (32 ∷ []) in omega arith
-
-      pub refused-there : {v : List ℕ} {r : ℕ} → Put u v h r (ended (decimal p) 10) → (To r ≡ written out at (refusedBytes n p)) × (v ≡ writtenTo out at (refusedBytes n p))
-      unfolding refusedBytes
-      refused-there q = let l = length-refused in put-there out at (refusedBytes n p) (omega arith) (put-then first (put-then second q))

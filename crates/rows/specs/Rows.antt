@@ -1,9 +1,8 @@
--- The rows that the program prints (01: "It prints start, end, type, txt, and 1, 0 or - (active, inactive, regular), tabs between, one edge a row;
--- or "refused", number, place, with spaces; a newline ends each row."). Definitions only.
+-- The rows that the program prints for edges (01: "It prints start, end, type, txt, and 1, 0 or - (active, inactive, regular), tabs between, one edge a row;
+-- .. a newline ends each row."). Definitions only.
 --     mark x              1, 0 or - for an edge with the numeric data x
 --     row ..              a row of start, end, type, txt and mark
 --     rowBytes e          the row of an edge
---     refusedBytes n p    the row of a refusal with its number and place
 --     viewMark m          the mark of an edge with the map m
 --     viewRow s v         the row of an edge of s that the code sees as v
 --     Assumes nothing.
@@ -12,14 +11,11 @@ use mathlib.Core.Bool.{cond}
 use mathlib.Core.List.{List, [], _∷_, _++_}
 use mathlib.Core.Option.{Option, none, some}
 use Rattle.whole.specs.Decimal.{decimal}
+use Rattle.columns.specs.Columns.{ended}
 use Rattle.edge.specs.declared.EdgeView.{EdgeView}
 use Rattle.edge.specs.Edge.{Text, Numeric, Edge}
 use Rattle.edge.specs.Layout.{stands}
 use Rattle.edge.specs.View.{textOf}
-
--- what stands in a column, and the byte that ends it: a tab (9), a newline (10) or a space (32)
-abbrev pub ended : List ℕ → ℕ → List ℕ
-ended bs by = bs ++ (by ∷ [])
 
 abbrev pub mark : Option Numeric → ℕ
 mark none = 45
@@ -30,9 +26,6 @@ row start end type txt m = ended (decimal start) 9 ++ (ended (decimal end) 9 ++ 
 
 abbrev pub rowBytes : Edge → List ℕ
 rowBytes e = row (e .start) (e .end) (e .type) (e .txt) (mark (e .num))
-
-unfoldable pub refusedBytes : ℕ → ℕ → List ℕ
-refusedBytes number place = ended (114 ∷ 101 ∷ 102 ∷ 117 ∷ 115 ∷ 101 ∷ 100 ∷ []) 32 ++ (ended (decimal number) 32 ++ ended (decimal place) 10)
 
 abbrev pub viewMark : ℕ → ℕ
 viewMark m = cond (stands 0 m) (cond (stands 7 m) 49 48) 45

@@ -1,5 +1,8 @@
 -- `line_rows::plain_rows` meets its contract. Assumes nothing.
 use borrow.Author.Needs.{needs}
+use Prim.Native.Nat.{ℕ}
+use lib.ListN.{length-replicate}
+use Rattle.line_rows.proofs.LineRowsLaws.{plain-text}
 use Rattle.line_rows.proofs.plain_rows.Statement.{statement}
 use Rattle.line_rows.proofs.plain_rows.Tie as tie
 
@@ -22,7 +25,7 @@ same-length : tie.Need-same-length
 same-length c = search needs
 
 returns : tie.Need-returns
-returns c = rw (c .before .before .before .before .before .before .before .before .before .plain-table .ensures .0) at (c .before .before .before .before .answer-line .ensures)
+returns c = plain-text _ (c .before .before .before .before .answer-line .ensures) (c .before .before .before .before .before .before .before .before .before .plain-table .ensures .0) (length-replicate {A = ℕ} 65536 0) (length-replicate {A = ℕ} 32768 0)
 
 pub plain-rows-spec : {M : Type 1} → statement M
 plain-rows-spec =

@@ -1,9 +1,9 @@
--- `rows::put_number` meets its contract: the digits, and a byte behind them. Assumes nothing.
+-- `columns::put_number` meets its contract: the digits, and a byte behind them. Assumes nothing.
 use Rattle.whole.specs.Decimal.{decimal}
-use Rattle.rows.proofs.RowsLaws.{put-ended}
+use Rattle.columns.proofs.ColumnLaws.{put-ended}
 use borrow.Author.Needs.{needs}
-use Rattle.rows.proofs.put_number.Statement.{statement}
-use Rattle.rows.proofs.put_number.Tie as tie
+use Rattle.columns.proofs.put_number.Statement.{statement}
+use Rattle.columns.proofs.put_number.Tie as tie
 
 put-decimal-requires : tie.Need-put-decimal-requires
 put-decimal-requires c κs = search needs

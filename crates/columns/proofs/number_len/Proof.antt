@@ -1,9 +1,9 @@
--- `rows::number_len` meets its contract: a u64 has at most 20 digits. Assumes nothing.
+-- `columns::number_len` meets its contract: a u64 has at most 20 digits. Assumes nothing.
 use native.Mathlib.Omega.{arith}
 use Rattle.whole.proofs.DecimalLaws.{length-decimal-u64}
 use borrow.Author.Needs.{needs}
-use Rattle.rows.proofs.number_len.Statement.{statement}
-use Rattle.rows.proofs.number_len.Tie as tie
+use Rattle.columns.proofs.number_len.Statement.{statement}
+use Rattle.columns.proofs.number_len.Tie as tie
 
 decimal-len-requires : tie.Need-decimal-len-requires
 decimal-len-requires c κs = search needs

@@ -1,8 +1,8 @@
--- `line_rows::put_refusal` meets its contract. Assumes nothing.
-use Rattle.line_rows.proofs.LineRowsLaws.{refusal-put}
+-- `refusal_row::put_refusal` meets its contract. Assumes nothing.
+use Rattle.refusal_row.proofs.RefusalLaws.{refusal-put}
 use borrow.Author.Needs.{needs}
-use Rattle.line_rows.proofs.put_refusal.Statement.{statement}
-use Rattle.line_rows.proofs.put_refusal.Tie as tie
+use Rattle.refusal_row.proofs.put_refusal.Statement.{statement}
+use Rattle.refusal_row.proofs.put_refusal.Tie as tie
 
 number-of-requires : tie.Need-number-of-requires
 number-of-requires c κs = search needs

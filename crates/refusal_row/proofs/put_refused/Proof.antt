@@ -1,9 +1,9 @@
--- `rows::put_refused` meets its contract: the test asks for the row's length. Assumes nothing.
+-- `refusal_row::put_refused` meets its contract: the test asks for the row's length. Assumes nothing.
 use native.Mathlib.Omega.{arith}
-use Rattle.rows.proofs.RowsLaws.{refused-no-room, place-room, refused-there}
+use Rattle.refusal_row.proofs.RefusalLaws.{refused-no-room, place-room, refused-there}
 use borrow.Author.Needs.{needs}
-use Rattle.rows.proofs.put_refused.Statement.{statement}
-use Rattle.rows.proofs.put_refused.Tie as tie
+use Rattle.refusal_row.proofs.put_refused.Statement.{statement}
+use Rattle.refusal_row.proofs.put_refused.Tie as tie
 
 sub-room : tie.Need-sub-room
 sub-room c = search needs

@@ -1,9 +1,9 @@
--- `rows::put_text` meets its contract: the text, and a byte behind it. Assumes nothing.
+-- `columns::put_text` meets its contract: the text, and a byte behind it. Assumes nothing.
 use mathlib.Core.Path.{refl}
-use Rattle.rows.proofs.RowsLaws.{put-ended}
+use Rattle.columns.proofs.ColumnLaws.{put-ended}
 use borrow.Author.Needs.{needs}
-use Rattle.rows.proofs.put_text.Statement.{statement}
-use Rattle.rows.proofs.put_text.Tie as tie
+use Rattle.columns.proofs.put_text.Statement.{statement}
+use Rattle.columns.proofs.put_text.Tie as tie
 
 copy-in-requires : tie.Need-copy-in-requires
 copy-in-requires c κs = search needs

@@ -1,0 +1,2 @@
+-- A law of the columns, for the crate's own proofs.
+mod ColumnLaws

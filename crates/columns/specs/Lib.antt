@@ -1,0 +1,2 @@
+-- The definition that the contracts of `columns` cite.
+pub mod Columns

@@ -1,0 +1,2 @@
+-- The definitions that the contracts of `refusal_row` cite.
+pub mod Printed
