@@ -34,7 +34,7 @@ use Rattle.stages.proofs.CallLaws.{allowed-map, add-all-call, turn-off-call}
 use Rattle.numbers.specs.Listed.{wholeValue}
 use Rattle.numbers.specs.Fractions.{Marker, percentage, connector, noMarker, Made, made, nothing, percentageType, fractionType, scriptOf, fractionEdge, percentEdge, isNumeric, otherwise, both, withValues, between, marked, byMarker, markerAt, madeAt, madeFrom, newEdges, usedEdges, fractions}
 use Rattle.made.specs.Choice.{numberOr}
-use Rattle.new_edges.proofs.EdgeLaws.{some-inj, none-some, txt-short, value-is}
+use Rattle.made_parts.proofs.EdgeLaws.{some-inj, none-some, txt-short, value-is}
 
 -- ---- texts
 formed-byte : (c : ℕ) → c < 128 → wellFormed (c ∷ []) ≡ true

@@ -7,7 +7,7 @@ use Rattle.edge.specs.Edge.{Edge}
 use Rattle.lattice.specs.declared.Lattice.{Lattice}
 use Rattle.stages.specs.CallEdge.{CallEdges}
 use Rattle.numbers.specs.Fractions.{newEdges}
-use Rattle.new_edges.specs.NewEdge.{Has}
+use Rattle.made_parts.specs.MadeParts.{Has}
 use Rattle.turned_off.specs.Mades.{madesOf, AllValid}
 
 pub record Planned (n : ℕ) (w : List ℕ) (l : Lattice) (es : List Edge) (fs ls rs : List ℕ) : Type 0 where

@@ -1,104 +1,20 @@
 -- What the code says of the edge that a choice makes. Definitions only.
---     TextIs s r t          the first r bytes of the buffer s are the text t
---     HeadIs w e v          v is the head of the edge e, which stands in w
---     scriptFrom c s        the script that the code's answer s says, its bytes at the front of the buffer c
---     fractionFields ..     the fields of a fraction: bits 0 (numeric), 2 (fraction) and 7 (active), and 5 where there is a script
---     fractionWith ..       the fraction with this text, these numbers and this script
---     percentOf, fractionOf, txtPercentOf    the edges that the forms 1, 2 and 3 make
---     Has n w l es          w and l hold the edges es of a call over a line of n characters
---     addMade es m          es with the edge that was made, if one was
---     Over n w l es c       besides, the choice c may stand over es
+--     percentOf, fractionOf   the edges that the forms 1 and 2 make
+--     addMade es m            es with the edge that was made, if one was
+--     Over n w l es c         w and l hold the edges es of a call over a line of n characters, and the choice c may stand over es
 --     Assumes nothing.
-use mathlib.Core.Path.{_≡_}
-use mathlib.Core.Bool.{true, false}
 use mathlib.Core.List.{List}
-use mathlib.Core.Option.{Option, none, some}
-use Prim.Native.Nat.{ℕ, _+_, _≤_}
-use lib.ListN.{length, take, getD}
-use Rattle.fields.specs.Part.{part}
+use Prim.Native.Nat.{ℕ}
+use lib.ListN.{getD}
 use Rattle.whole.specs.Decimal.{decimal}
-use Rattle.edge.specs.Edge.{Text, Edge, Numeric, mapOf}
-use Rattle.edge.specs.Layout.{fieldsEnd, numericAt}
-use Rattle.edge.specs.View.{textOf, noPart}
-use Rattle.edge.specs.declared.EdgeView.{EdgeView}
-use Rattle.edge.specs.declared.NumFields.{NumFields}
+use Rattle.edge.specs.Edge.{Edge}
 use Rattle.lattice.specs.declared.Lattice.{Lattice}
 use Rattle.lattice.specs.Lattice.{add}
-use Rattle.lattice.specs.Kept.{noEdge, Holds}
-use Rattle.stages.specs.CallEdge.{CallEdges}
-use Rattle.numbers.specs.Fractions.{Made, made, nothing, fractionType, percentEdge, fractionEdge}
+use Rattle.lattice.specs.Kept.{noEdge}
+use Rattle.numbers.specs.Fractions.{Made, made, nothing, percentEdge, fractionEdge}
 use Rattle.made.specs.declared.Choice.{Choice}
+use Rattle.made_parts.specs.MadeParts.{Has}
 use Rattle.made.specs.Choice.{valueOr, Valid}
-use Rattle.new_edges.specs.declared.Script.{Script}
-use Rattle.new_edges.specs.declared.Script.the-variants.{Absent, Bytes}
-
-pub record TextIs (s : List ℕ) (r : ℕ) (t : Text) : Type 0 where
-  pub is : take r s ≡ t
-  pub len : r ≡ length t
-  pub room : r ≤ length s
-  pub short : r ≤ 300
-
-pub record HeadIs (w : List ℕ) (e : Edge) (v : EdgeView) : Type 0 where
-  pub map : v .map ≡ mapOf (e .num)
-  pub start : v .start .0 ≡ e .start
-  pub end : v .end .0 ≡ e .end
-  pub txt : textOf w (v .txt) ≡ e .txt
-  pub size : v .txt .len ≡ length (e .txt)
-  pub inside : v .txt .at + v .txt .len ≤ length w
-  pub numeric : (x : Numeric) → e .num ≡ some x → (fieldsEnd (v .map) w (v .fields) ≤ length w) × (numericAt (v .map) w (v .fields) ≡ x)
-
--- ---- the fields of a fraction
-unfoldable pub scriptFrom : List ℕ → Script → Option Text
-scriptFrom c Absent = none
-scriptFrom c (Bytes k) = some (part c 0 k)
-
-abbrev pub scriptLen : Script → ℕ
-scriptLen Absent = 0
-scriptLen (Bytes k) = k
-
-unfoldable pub fractionFields : ℕ → ℕ → ℕ → Script → NumFields
-fractionFields n a b Absent = record {
-  map = 133;
-  value = 0;
-  numerator = a;
-  denominator = b;
-  base = 0;
-  «base_multiplier» = 0;
-  orig = record { at = 0; len = n };
-  script = noPart;
-  «value_s» = noPart;
-}
-fractionFields n a b (Bytes k) = record {
-  map = 165;
-  value = 0;
-  numerator = a;
-  denominator = b;
-  base = 0;
-  «base_multiplier» = 0;
-  orig = record { at = 0; len = n };
-  script = record { at = 0; len = k };
-  «value_s» = noPart;
-}
-
--- the fraction with text t, numerator and denominator f, and this script
-unfoldable pub fractionWith : ℕ → ℕ → Text → ℕ × ℕ → Option Text → Edge
-fractionWith a z t f script = record {
-  start = a;
-  end = z;
-  type = fractionType;
-  txt = t;
-  num = some (record {
-    orig = t;
-    value = none;
-    fraction = some f;
-    base = none;
-    mult = none;
-    script = script;
-    large = false;
-    active = true;
-    value-s = none;
-  });
-}
 
 -- ---- the edges, of the edges i and j of es
 abbrev pub percentOf : List Edge → ℕ → ℕ → Edge
@@ -107,15 +23,7 @@ percentOf es i j = percentEdge (getD es i noEdge .start) (getD es j noEdge .end)
 abbrev pub fractionOf : List Edge → ℕ → ℕ → Edge
 fractionOf es i j = fractionEdge (getD es i noEdge) (valueOr (getD es i noEdge)) (getD es j noEdge) (valueOr (getD es j noEdge))
 
--- from a place on
-abbrev pub txtPercentOf : List Edge → ℕ → ℕ → Edge
-txtPercentOf es p j = percentEdge p (getD es j noEdge .end) (getD es j noEdge .txt)
-
 -- ---- the lattice
-pub record Has (n : ℕ) (w : List ℕ) (l : Lattice) (es : List Edge) : Type 0 where
-  pub holds : Holds w l es
-  pub call : CallEdges n es
-
 pub record Over (n : ℕ) (w : List ℕ) (l : Lattice) (es : List Edge) (c : Choice) : Type 0 where
   pub has : Has n w l es
   pub valid : Valid es c

@@ -9,7 +9,7 @@ use Rattle.lattice.specs.Kept.{Holds}
 use Rattle.stages.specs.CallEdge.{CallEdges}
 use Rattle.choices.specs.Choices.{Decided}
 use Rattle.lattice.proofs.HoldsLaws.{behind-twice}
-use Rattle.new_edges.proofs.EdgeLaws.{not-true}
+use Rattle.made_parts.proofs.EdgeLaws.{not-true}
 use Rattle.markers.proofs.MarkLaws.{table-marks}
 use Rattle.fractions.proofs.AnyMarkerLaws.{marked-any, no-marker-stage}
 use Rattle.fractions.proofs.StageLaws.{full-stage, keeps-of, planned, stage-holds}

@@ -11,11 +11,12 @@ use Rattle.lattice.specs.Lattice.{add}
 use Rattle.lattice.specs.Kept.{Holds}
 use Rattle.numbers.specs.Fractions.{percentageType}
 use Rattle.made.specs.Choice.{Two}
-use Rattle.new_edges.specs.NewEdge.{Has, percentOf}
-use Rattle.new_edges.proofs.TextLaws.{text-count}
-use Rattle.new_edges.proofs.FractionLaws.{regular-is}
+use Rattle.made_parts.specs.MadeParts.{Has}
+use Rattle.new_edges.specs.NewEdge.{percentOf}
+use Rattle.made_parts.proofs.TextLaws.{text-count}
+use Rattle.made_parts.proofs.WriteLaws.{regular-is}
 use Rattle.lattice.proofs.HoldsLaws.{behind-same}
-use Rattle.new_edges.proofs.EdgeLaws.{left-in, right-in, head-small}
+use Rattle.made_parts.proofs.EdgeLaws.{left-in, right-in, head-small}
 use borrow.Author.Needs.{needs}
 use Rattle.new_edges.proofs.add_percent.Statement.{statement}
 use Rattle.new_edges.proofs.add_percent.Tie as tie

@@ -1,4 +1,4 @@
--- `new_edges::put_txt_percent` meets its contract: the text is copied, and a byte behind it. Assumes nothing.
+-- `made_parts::put_txt_percent` meets its contract: the text is copied, and a byte behind it. Assumes nothing.
 use native.Mathlib.Omega.{arith}
 use mathlib.Core.Path.{_≡_, refl, sym, _∙_}
 use Prim.Native.Nat.{_+_, _-_}
@@ -6,10 +6,10 @@ use lib.Seq.{sets}
 use Rattle.fields.specs.Part.{part}
 use Rattle.edge.specs.View.{textOf}
 use Rattle.fields.proofs.PartLaws.{length-part}
-use Rattle.new_edges.proofs.TextLaws.{text-byte}
+use Rattle.made_parts.proofs.TextLaws.{text-byte}
 use borrow.Author.Needs.{needs}
-use Rattle.new_edges.proofs.put_txt_percent.Statement.{statement}
-use Rattle.new_edges.proofs.put_txt_percent.Tie as tie
+use Rattle.made_parts.proofs.put_txt_percent.Statement.{statement}
+use Rattle.made_parts.proofs.put_txt_percent.Tie as tie
 
 -- the copy as a part
 copied : (c : tie.After-copy-in) → c .copy-in .last .0 ≡ sets (c .before .before .before .before .args .buf .now) 0 (textOf (c .before .before .before .before .args .w .now) (c .before .before .before .before .args .t))

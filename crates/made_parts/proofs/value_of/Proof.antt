@@ -1,4 +1,4 @@
--- `new_edges::value_of` meets its contract: the bits of the value stand in the fields. Assumes nothing.
+-- `made_parts::value_of` meets its contract: the bits of the value stand in the fields. Assumes nothing.
 use mathlib.Core.Path.{_≡_, sym, ap, _∙_}
 use mathlib.Core.List.{List}
 use Prim.Native.Nat.{ℕ}
@@ -11,10 +11,10 @@ use Rattle.edge.specs.declared.NumFields.{NumFields}
 use Rattle.edge_theorems.proofs.Theorems.{f64-bits-not-nan, f64-bits-back}
 use Rattle.lattice.specs.Kept.{noEdge}
 use Rattle.made.specs.Choice.{HasValue}
-use Rattle.new_edges.specs.NewEdge.{Has}
-use Rattle.new_edges.proofs.EdgeLaws.{call-at, ValueRead, value-read}
-use Rattle.new_edges.proofs.value_of.Statement.{statement}
-use Rattle.new_edges.proofs.value_of.Tie as tie
+use Rattle.made_parts.specs.MadeParts.{Has}
+use Rattle.made_parts.proofs.EdgeLaws.{call-at, ValueRead, value-read}
+use Rattle.made_parts.proofs.value_of.Statement.{statement}
+use Rattle.made_parts.proofs.value_of.Tie as tie
 
 head-of-requires : tie.Need-head-of-requires
 head-of-requires c κs = let p = c .before .pre in ((p .0 .0, (p .0 .1 .0, p .0 .1 .1)), p .1, p .2)

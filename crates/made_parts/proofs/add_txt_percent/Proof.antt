@@ -1,4 +1,4 @@
--- `new_edges::add_txt_percent` meets its contract: the text is copied, and the edge added. Assumes nothing.
+-- `made_parts::add_txt_percent` meets its contract: the text is copied, and the edge added. Assumes nothing.
 use mathlib.Core.Path.{_≡_, refl, ap, subst, _∙_}
 use mathlib.Core.List.{List, [], _∷_, _++_}
 use Prim.Native.Nat.{ℕ}
@@ -9,14 +9,14 @@ use Rattle.edge.specs.Write.{regular}
 use Rattle.lattice.specs.Lattice.{add}
 use Rattle.lattice.specs.Kept.{Holds}
 use Rattle.numbers.specs.Fractions.{percentageType}
-use Rattle.new_edges.specs.NewEdge.{Has, txtPercentOf}
-use Rattle.new_edges.proofs.TextLaws.{text-count}
-use Rattle.new_edges.proofs.FractionLaws.{regular-is}
+use Rattle.made_parts.specs.MadeParts.{Has, txtPercentOf}
+use Rattle.made_parts.proofs.TextLaws.{text-count}
+use Rattle.made_parts.proofs.WriteLaws.{regular-is}
 use Rattle.lattice.proofs.HoldsLaws.{behind-same}
-use Rattle.new_edges.proofs.EdgeLaws.{one-in, call-at, head-small, txt-short}
+use Rattle.made_parts.proofs.EdgeLaws.{one-in, call-at, head-small, txt-short}
 use borrow.Author.Needs.{needs}
-use Rattle.new_edges.proofs.add_txt_percent.Statement.{statement}
-use Rattle.new_edges.proofs.add_txt_percent.Tie as tie
+use Rattle.made_parts.proofs.add_txt_percent.Statement.{statement}
+use Rattle.made_parts.proofs.add_txt_percent.Tie as tie
 
 abbrev start : tie.After-put-txt-percent → tie.Start
 start c = c .before .before .before .before .before .before

@@ -1,4 +1,4 @@
--- `new_edges::add_composed` meets its contract: the fields are those of the fraction. Assumes nothing.
+-- `made_parts::add_composed` meets its contract: the fields are those of the fraction. Assumes nothing.
 use mathlib.Core.Path.{_≡_, subst}
 use mathlib.Core.List.{[]}
 use native.Mathlib.Omega.{arith}
@@ -7,12 +7,12 @@ use Rattle.edge.specs.Write.{numeric}
 use Rattle.lattice.specs.Lattice.{add}
 use Rattle.lattice.specs.Kept.{Holds}
 use Rattle.numbers.specs.Fractions.{fractionType}
-use Rattle.new_edges.specs.NewEdge.{scriptFrom, fractionWith}
+use Rattle.made_parts.specs.MadeParts.{scriptFrom, fractionWith}
 use Rattle.lattice.proofs.HoldsLaws.{behind-same}
-use Rattle.new_edges.proofs.FractionLaws.{fields-edge, fields-writable, fields-short}
+use Rattle.made_parts.proofs.WriteLaws.{fields-edge, fields-writable, fields-short}
 use borrow.Author.Needs.{needs}
-use Rattle.new_edges.proofs.add_composed.Statement.{statement}
-use Rattle.new_edges.proofs.add_composed.Tie as tie
+use Rattle.made_parts.proofs.add_composed.Statement.{statement}
+use Rattle.made_parts.proofs.add_composed.Tie as tie
 
 made : (c : tie.After-fraction-fields)
     → numeric (c .before .before .before .args .start .0) (c .before .before .before .args .end .0) fractionType (c .before .before .before .args .txt .now)

@@ -1,9 +1,9 @@
--- `new_edges::fraction_fields` meets its contract, by whether there is a script. Assumes nothing.
+-- `made_parts::fraction_fields` meets its contract, by whether there is a script. Assumes nothing.
 use mathlib.Core.Path.{sym}
-use Rattle.new_edges.specs.NewEdge.{fractionFields}
+use Rattle.made_parts.specs.MadeParts.{fractionFields}
 use borrow.Author.Needs.{needs}
-use Rattle.new_edges.proofs.fraction_fields.Statement.{statement}
-use Rattle.new_edges.proofs.fraction_fields.Tie as tie
+use Rattle.made_parts.proofs.fraction_fields.Statement.{statement}
+use Rattle.made_parts.proofs.fraction_fields.Tie as tie
 
 enum-told : tie.Need-enum-told
 enum-told c = search needs

@@ -1,12 +1,12 @@
--- `new_edges::put_fraction` meets its contract: the right number, a byte, and the left number behind it. Assumes nothing.
+-- `made_parts::put_fraction` meets its contract: the right number, a byte, and the left number behind it. Assumes nothing.
 use native.Mathlib.Omega.{arith}
 use mathlib.Core.Path.{refl, _∙_}
 use native.Mathlib.Nat.{zero-add}
 use Rattle.whole.specs.Decimal.{decimal}
 use Rattle.whole.proofs.DecimalLaws.{length-decimal-u64}
-use Rattle.new_edges.proofs.TextLaws.{text-two}
-use Rattle.new_edges.proofs.put_fraction.Statement.{statement}
-use Rattle.new_edges.proofs.put_fraction.Tie as tie
+use Rattle.made_parts.proofs.TextLaws.{text-two}
+use Rattle.made_parts.proofs.put_fraction.Statement.{statement}
+use Rattle.made_parts.proofs.put_fraction.Tie as tie
 
 put-decimal-requires : tie.Need-put-decimal-requires
 put-decimal-requires c κs = omega (arith, length-decimal-u64 (c .before .args .right) (c .before .fits .right .fits))

@@ -1,12 +1,12 @@
--- `new_edges::put_percent` meets its contract: the number, and a byte behind it. Assumes nothing.
+-- `made_parts::put_percent` meets its contract: the number, and a byte behind it. Assumes nothing.
 use native.Mathlib.Omega.{arith}
 use mathlib.Core.Path.{refl, _∙_}
 use native.Mathlib.Nat.{zero-add}
 use Rattle.whole.specs.Decimal.{decimal}
 use Rattle.whole.proofs.DecimalLaws.{length-decimal-u64}
-use Rattle.new_edges.proofs.TextLaws.{text-byte}
-use Rattle.new_edges.proofs.put_percent.Statement.{statement}
-use Rattle.new_edges.proofs.put_percent.Tie as tie
+use Rattle.made_parts.proofs.TextLaws.{text-byte}
+use Rattle.made_parts.proofs.put_percent.Statement.{statement}
+use Rattle.made_parts.proofs.put_percent.Tie as tie
 
 put-decimal-requires : tie.Need-put-decimal-requires
 put-decimal-requires c κs = omega (arith, length-decimal-u64 (c .before .args .v) (c .before .fits .v .fits))

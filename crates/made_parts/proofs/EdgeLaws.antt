@@ -28,7 +28,7 @@ use Rattle.stages.proofs.ReadLaws.{every-at, call-legals, EdgeThere, edge-of}
 use Rattle.numbers.specs.Listed.{valueOf, wholeValue}
 use Rattle.numbers.specs.Fractions.{scriptOf, isNumeric}
 use Rattle.made.specs.Choice.{numberOr, valueOr, HasValue, Two, One}
-use Rattle.new_edges.specs.NewEdge.{HeadIs, Has}
+use Rattle.made_parts.specs.MadeParts.{HeadIs, Has}
 
 -- ---- tests and options
 pub not-true : (t : Bool) → not t ≡ true → t ≡ false

@@ -1,8 +1,8 @@
--- `new_edges::head_of` meets its contract: the edge stands where its cell says. Assumes nothing.
-use Rattle.new_edges.proofs.EdgeLaws.{head-in, head-is}
+-- `made_parts::head_of` meets its contract: the edge stands where its cell says. Assumes nothing.
+use Rattle.made_parts.proofs.EdgeLaws.{head-in, head-is}
 use borrow.Author.Needs.{needs}
-use Rattle.new_edges.proofs.head_of.Statement.{statement}
-use Rattle.new_edges.proofs.head_of.Tie as tie
+use Rattle.made_parts.proofs.head_of.Statement.{statement}
+use Rattle.made_parts.proofs.head_of.Tie as tie
 
 offset-at-requires : tie.Need-offset-at-requires
 offset-at-requires c κs = search needs

@@ -1,4 +1,4 @@
--- `new_edges::copy_script` meets its contract, by whether the bit of the script stands. Assumes nothing.
+-- `made_parts::copy_script` meets its contract, by whether the bit of the script stands. Assumes nothing.
 use mathlib.Core.Path.{_≡_, refl, sym, ap, _∙_}
 use mathlib.Core.Bool.{Bool, true, false, not}
 use mathlib.Core.List.{List}
@@ -10,11 +10,11 @@ use Rattle.fields.specs.Part.{part}
 use Rattle.fields.proofs.PartLaws.{length-part, part-sets}
 use Rattle.edge.specs.Layout.{stands, numericAt}
 use Rattle.edge.specs.View.{textOf}
-use Rattle.new_edges.specs.NewEdge.{scriptFrom}
-use Rattle.new_edges.proofs.EdgeLaws.{script-inside, script-there, script-absent, not-true, not-false}
+use Rattle.made_parts.specs.MadeParts.{scriptFrom}
+use Rattle.made_parts.proofs.EdgeLaws.{script-inside, script-there, script-absent, not-true, not-false}
 use borrow.Author.Needs.{needs}
-use Rattle.new_edges.proofs.copy_script.Statement.{statement}
-use Rattle.new_edges.proofs.copy_script.Tie as tie
+use Rattle.made_parts.proofs.copy_script.Statement.{statement}
+use Rattle.made_parts.proofs.copy_script.Tie as tie
 
 fields-at-requires : tie.Need-fields-at-requires
 fields-at-requires c κs = search needs

@@ -1,0 +1,2 @@
+-- The definitions that the contracts of `made_parts` cite.
+pub mod MadeParts
