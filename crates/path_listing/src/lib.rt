@@ -3,16 +3,14 @@ ghost use mathlib.Core.Path.{_≡_};
 ghost use mathlib.Core.Bool.{cond};
 ghost use Prim.Native.Nat.{_+_, _≤_, _<_};
 ghost use lib.ListN.{length, getD, set, replicate};
-ghost use lib.Seq.{sets};
 ghost use lib.Dec.{ltb};
 ghost use Rattle.paths.specs.Reading.{Spans};
-ghost use Rattle.paths.specs.Path.{rights, path, edgeParts, pathListing, fitting, pathOut, written, after};
-ghost use Rattle.paths.specs.Table.{byTable, Rights, Steps, hopOf, sizeOf};
+ghost use Rattle.paths.specs.Path.{rights, path, pathListing, fitting, pathOut, written, after};
+ghost use Rattle.paths.specs.Table.{Rights};
 use path_check::check;
 use path_refusals::is_inside;
 use path_score::score_at;
 use paths::Checked;
-use paths::Hop;
 use paths::Query;
 use paths::Refusal;
 use paths::Size;
@@ -53,86 +51,6 @@ fn right_neighbors(
     }
 }
 
-// The step of the path from a place.
-fn hop_from(s: &[u8], tops: &[usize; 256], ats: &[usize; 256], p: usize) -> Hop
-    requires { ⌜ Steps (now s) (now tops) (now ats) × (p < 256) ⌝ }
-    ensures { λ r. ⌜ r ≡ hopOf (now (s .entry)) (byTable (now (s .entry)) (now (tops .entry)) (now (ats .entry)) p) ⌝ }
-{
-    if tops[p] == 0 {
-        return Hop::Pass;
-    }
-    let at = ats[p];
-    Hop::Take(
-        at,
-        edge_next::next_at(s, at),
-        fields::u16_at(s, at + 4) as usize,
-    )
-}
-
-// The size of the path from a place to another.
-fn path_size(
-    s: &[u8],
-    tops: &[usize; 256],
-    ats: &[usize; 256],
-    start: usize,
-    end: usize,
-    room: usize,
-) -> Size
-    requires { ⌜ Steps (now s) (now tops) (now ats) × (end ≤ 256) ⌝ }
-    ensures { λ r. ⌜ r ≡ sizeOf (now (s .entry)) (path (byTable (now (s .entry)) (now (tops .entry)) (now (ats .entry))) start end) room ⌝ }
-{
-    if room < 2 {
-        return Size::Over;
-    }
-    let mut p = start;
-    let mut n = 0;
-    let mut len = 2;
-    while p < end {
-        match hop_from(s, tops, ats, p) {
-            Hop::Pass => {
-                p += 1;
-            }
-            Hop::Take(from, to, next) => {
-                if room - len < to - from {
-                    return Size::Over;
-                }
-                len += to - from;
-                n += 1;
-                p = next;
-            }
-        }
-    }
-    Size::Fits(n, len)
-}
-
-// The edges of the path, copied behind the count.
-fn write_path(
-    s: &[u8],
-    tops: &[usize; 256],
-    ats: &[usize; 256],
-    start: usize,
-    end: usize,
-    out: &mut [u8],
-)
-    requires { ⌜ Steps (now s) (now tops) (now ats) × (end ≤ 256) × (2 + length (edgeParts (now s) (path (byTable (now s) (now tops) (now ats)) start end)) ≤ length (now out)) ⌝ }
-    ensures { λ _. ⌜ now (out .exit) ≡ sets (now (out .entry)) 2 (edgeParts (now (s .entry)) (path (byTable (now (s .entry)) (now (tops .entry)) (now (ats .entry))) start end)) ⌝ }
-{
-    let mut p = start;
-    let mut at = 2;
-    while p < end {
-        match hop_from(s, tops, ats, p) {
-            Hop::Pass => {
-                p += 1;
-            }
-            Hop::Take(from, to, next) => {
-                fields_copy::copy_in(out, at, &s[from..to]);
-                at += to - from;
-                p = next;
-            }
-        }
-    }
-}
-
 // The path in a listing that is read, within the line.
 fn path_in(
     listing: &[u8],
@@ -149,11 +67,11 @@ fn path_in(
     let mut tops = [0usize; 256];
     let mut ats = [0usize; 256];
     right_neighbors(listing, count, skip, &mut tops, &mut ats);
-    match path_size(listing, &tops, &ats, start, end, out.len()) {
+    match path_walk::path_size(listing, &tops, &ats, start, end, out.len()) {
         Size::Over => Written::Refused(Refusal::ShortOutput),
         Size::Fits(n, len) => {
             fields_write::put_u16(out, 0, n as u16);
-            write_path(listing, &tops, &ats, start, end, out);
+            path_walk::write_path(listing, &tops, &ats, start, end, out);
             Written::Bytes(len)
         }
     }

@@ -1,4 +1,4 @@
--- `path_listing::path_size` meets its contract. The loop's invariant: what is counted and the path that is left are the whole path (`Sized`). The measure is
+-- `path_walk::path_size` meets its contract. The loop's invariant: what is counted and the path that is left are the whole path (`Sized`). The measure is
 -- the places up to the end. Assumes nothing.
 use mathlib.Core.Path.{_≡_, sym, _∙_}
 use Prim.Native.Nat.{_+_, _-_}
@@ -7,8 +7,8 @@ use borrow.Author.Needs.{needs}
 use Rattle.paths.specs.Path.{path}
 use Rattle.paths.specs.Table.{byTable}
 use Rattle.paths.proofs.PathLaws.{Stepped, passes, takes, path-short, Sized, sized-start, sized-never, sized-pass, sized-take, sized-over, sized-room, sized-ends}
-use Rattle.path_listing.proofs.path_size.Statement.{statement}
-use Rattle.path_listing.proofs.path_size.Tie as tie
+use Rattle.path_walk.proofs.path_size.Statement.{statement}
+use Rattle.path_walk.proofs.path_size.Tie as tie
 
 abbrev Inv-loop : tie.InvT-loop
 Inv-loop s tops ats start end room p₀ n₀ len₀ p n len = Sized s (byTable s tops ats) (path (byTable s tops ats) start end) room end p n len

@@ -1,9 +1,9 @@
--- `path_listing::hop_from` meets its contract, by whether the place has a right neighbour. Assumes nothing.
+-- `path_walk::hop_from` meets its contract, by whether the place has a right neighbour. Assumes nothing.
 use native.Mathlib.Omega.{arith}
 use Rattle.paths.proofs.TableLaws.{hop-pass, hop-take, hop-head}
 use borrow.Author.Needs.{needs}
-use Rattle.path_listing.proofs.hop_from.Statement.{statement}
-use Rattle.path_listing.proofs.hop_from.Tie as tie
+use Rattle.path_walk.proofs.hop_from.Statement.{statement}
+use Rattle.path_walk.proofs.hop_from.Tie as tie
 
 mul-if1 : tie.Need-mul-if1
 mul-if1 c = search needs

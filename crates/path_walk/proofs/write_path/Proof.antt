@@ -1,4 +1,4 @@
--- `path_listing::write_path` meets its contract. The loop's invariant: what is stored and the path that is left are the whole path (`Copied`). The measure is
+-- `path_walk::write_path` meets its contract. The loop's invariant: what is stored and the path that is left are the whole path (`Copied`). The measure is
 -- the places up to the end. Assumes nothing.
 use mathlib.Core.Path.{_≡_, sym, _∙_}
 use Prim.Native.Nat.{_+_, _-_}
@@ -7,8 +7,8 @@ use borrow.Author.Needs.{needs}
 use Rattle.paths.specs.Path.{path}
 use Rattle.paths.specs.Table.{byTable}
 use Rattle.paths.proofs.PathLaws.{Stepped, passes, takes, Copied, copied-start, copied-length, copied-pass, copied-fits, copied-room, copied-take, copied-ends}
-use Rattle.path_listing.proofs.write_path.Statement.{statement}
-use Rattle.path_listing.proofs.write_path.Tie as tie
+use Rattle.path_walk.proofs.write_path.Statement.{statement}
+use Rattle.path_walk.proofs.write_path.Tie as tie
 
 abbrev Inv-loop : tie.InvT-loop
 Inv-loop s tops ats start end out₀ p₀ at₀ out p at = Copied s (byTable s tops ats) (path (byTable s tops ats) start end) end out₀ out p at
