@@ -1,20 +1,18 @@
 -- Laws of the marks of F1 (`specs/Marks.antt`). No contract cites this file.
 -- In order: the edge that is read; marks and the definition. Assumes nothing.
 use mathlib.Core.Path.{_≡_, refl, sym, ap, _∙_}
-use mathlib.Core.Bool.{Bool, true, false, cond, _&&_}
+use mathlib.Core.Bool.{Bool, true, false, _&&_}
 use mathlib.Core.List.{List, [], _∷_}
 use mathlib.Core.Option.{none, some}
 use Prim.Native.Nat.{ℕ, _+_, _-_, _<_}
-use native.Mathlib.Nat.{add-sub-cancel-left}
 use native.Mathlib.Omega.{arith}
-use lib.ListN.{take, drop, getD, set}
-use Rattle.fields.specs.Part.{part}
+use lib.ListN.{take, drop, getD}
 use Rattle.text.proofs.RowLaws.{and-true}
-use Rattle.digits.specs.TextEnds.{beginsWithDigit, endsWithDigit}
+use Rattle.digits.specs.TextEnds.{beginsWithDigit}
 use Rattle.digits.proofs.Theorems.{ends-last}
 use Rattle.edge.specs.declared.EdgeView.{EdgeView}
 use Rattle.edge.specs.Edge.{Edge, Numeric}
-use Rattle.edge.specs.Layout.{stands, only, mapAt, textAt, edgeAt}
+use Rattle.edge.specs.Layout.{stands, only, mapAt, edgeAt}
 use Rattle.edge.specs.View.{viewAt}
 use Rattle.paths.specs.Reading.{Spanned}
 use Rattle.pass_list.specs.Item.{nil, cons}
@@ -23,18 +21,12 @@ use Rattle.stages.specs.Marks.{anyAt}
 use Rattle.stages.proofs.SoundLaws.{sound-of}
 use Rattle.numbers.specs.Fractions.{isNumeric}
 use Rattle.numbers.specs.Separators.{endsBefore}
-use Rattle.separators.specs.Marks.{digitEnds, apartBy}
+use Rattle.end_marks.specs.Marks.{digitEnds}
+use Rattle.end_marks.proofs.MarkLaws.{txt-read}
+use Rattle.separators.specs.Marks.{apartBy}
 
 -- ---- the edge that is read
 module _ (s : List ℕ) (at : ℕ) {v : EdgeView} (read : v ≡ viewAt s at) where
-  txt-read : take (v .txt .at + v .txt .len - v .txt .at) (drop (v .txt .at) s) ≡ edgeAt s at .txt
-  unfolding viewAt edgeAt textAt part
-  txt-read = ap (λ (n : ℕ). take n (drop (v .txt .at) s)) (add-sub-cancel-left (v .txt .at) (v .txt .len)) ∙ ap (λ (z : EdgeView). take (z .txt .len) (drop (z .txt .at) s)) read
-
-  end-read : v .end .0 ≡ edgeAt s at .end
-  unfolding viewAt edgeAt
-  end-read = ap (λ (z : EdgeView). z .end .0) read
-
   start-read : v .start .0 ≡ edgeAt s at .start
   unfolding viewAt edgeAt
   start-read = ap (λ (z : EdgeView). z .start .0) read
@@ -51,21 +43,8 @@ module _ (s : List ℕ) (at : ℕ) {v : EdgeView} (read : v ≡ viewAt s at) whe
   unfolding edgeAt
   numeric-read = rw (map-read, numeric-only)
 
-  pub end-in : Spanned 256 s at → v .end .0 < 257
-  end-in w = let e = end-read in let i = w .within in omega arith
-
   pub start-in : Spanned 256 s at → v .start .0 < 257
   start-in w = let e = start-read in let r = w .rises in let i = w .within in omega arith
-
-  module _ {r : Bool} (asked : r ≡ endsWithDigit (take (v .txt .at + v .txt .len - v .txt .at) (drop (v .txt .at) s))) (marks : List Bool) where
-    ends-read : r ≡ endsWithDigit (edgeAt s at .txt)
-    ends-read = asked ∙ ap endsWithDigit txt-read
-
-    pub mark-set : r ≡ true → set marks (v .end .0) true ≡ cond (endsWithDigit (edgeAt s at .txt)) (set marks (edgeAt s at .end) true) marks
-    mark-set t = rw (sym ends-read ∙ t, end-read)
-
-    pub mark-kept : r ≡ false → marks ≡ cond (endsWithDigit (edgeAt s at .txt)) (set marks (edgeAt s at .end) true) marks
-    mark-kept t = rw (sym ends-read ∙ t)
 
   module _ {b : Bool} (bit-0 : b ≡ stands 0 (v .map)) (marks : List Bool) where
     both-read : (b && getD marks (v .start .0) false) ≡ (isNumeric (edgeAt s at) && getD marks (edgeAt s at .start) false)
@@ -84,7 +63,7 @@ module _ (s : List ℕ) (at : ℕ) {v : EdgeView} (read : v ≡ viewAt s at) whe
     unfolding apartBy
     apart-digit t asked =
         let n = and-true (isNumeric (edgeAt s at)) (getD marks (edgeAt s at .start) false) (sym both-read ∙ t) in
-        asked ∙ ap beginsWithDigit txt-read ∙ rw (n .0, n .1) (go (beginsWithDigit (edgeAt s at .txt)))
+        asked ∙ ap beginsWithDigit (txt-read s at read) ∙ rw (n .0, n .1) (go (beginsWithDigit (edgeAt s at .txt)))
       where
         go : (d : Bool) → d ≡ (d && true)
         go true = refl

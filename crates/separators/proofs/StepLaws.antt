@@ -8,7 +8,6 @@ use Prim.Native.Nat.{ℕ, suc, _+_, _-_, _≤_, _<_}
 use native.Mathlib.Numerals.{add-one}
 use native.Mathlib.Omega.{arith}
 use lib.ListN.{length, drop, getD, length-append}
-use lib.Seq.{take-all}
 use lib.Dec.{eqb}
 use Rattle.text.proofs.RowLaws.{and-true}
 use Rattle.fields.specs.Fields.{bytesOf}
@@ -21,7 +20,7 @@ use Rattle.paths.specs.Reading.{Spanned}
 use Rattle.lattice.specs.declared.Lattice.{Lattice}
 use Rattle.lattice.specs.Lattice.{add, turnOffAt, turnOff, overfull}
 use Rattle.lattice.specs.Kept.{noEdge, offset, Holds}
-use Rattle.lattice.proofs.KeptLaws.{fieldsBytes, kept-size, edge-stands, offset-in}
+use Rattle.lattice.proofs.KeptLaws.{fieldsBytes, edge-stands, offset-in}
 use Rattle.lattice.proofs.HoldsLaws.{kept-of, over-of, over-add}
 use Rattle.copies.specs.Copy.{prefixed, Source}
 use Rattle.copies.proofs.CopyLaws.{length-by-txt, map-is}
@@ -99,11 +98,7 @@ edge-short e c t = go (e .num) refl t
         let o : length (fieldsBytes e) ≡ length (numericBytes x) = ap (λ (y : Option Numeric). length (opt numericBytes y)) p in
         omega arith
 
--- ---- the i-th edge of the lattice; behind the last one the listing ends
-pub last-ends : {w : List ℕ} {l : Lattice} {es : List Edge} → Holds w l es → (l .len ≡ 0 → ⊥) → (i : ℕ) → l .count ≤ i → l .len ≡ offset es i
-unfolding offset
-last-ends {es = es} q f i h = let k = kept-of q f in let c = k .count in rw (take-all i es (omega arith)) (kept-size k)
-
+-- ---- the i-th edge of the lattice
 module _ {w : List ℕ} {l : Lattice} {es : List Edge} (q : Holds w l es) (i : ℕ) (in-list : i < length es) where
   pub counted : (l .len ≡ 0 → ⊥) → i < l .count
   counted f = let k = kept-of q f .count in omega arith

@@ -1,5 +1,4 @@
--- F1 by marks: one for each place where an edge ends whose txt ends with a digit. Definitions only.
---     digitEnds es p             an edge of es that ends at place p has a txt whose last bytes are a decimal digit
+-- F1 by marks: one for each place where an edge ends whose txt ends with a digit (`end_marks`). Definitions only.
 --     apartBy marks e            e is numeric, its txt begins with a decimal digit, and it starts at a place that has a mark
 --     setApart marks es i        es with the copy of its i-th edge, and that edge inactive, if it is apart by the marks
 --     allApart marks es i k      the same for k edges from the i-th on, in turn
@@ -8,16 +7,12 @@ use Prim.Native.Nat.{ℕ, zero, suc}
 use mathlib.Core.Bool.{Bool, false, cond, _&&_}
 use mathlib.Core.List.{List}
 use lib.ListN.{getD}
-use Rattle.digits.specs.TextEnds.{beginsWithDigit, endsWithDigit}
+use Rattle.digits.specs.TextEnds.{beginsWithDigit}
 use Rattle.edge.specs.Edge.{Edge}
 use Rattle.lattice.specs.Lattice.{add, turnOffAt}
 use Rattle.lattice.specs.Kept.{noEdge}
-use Rattle.stages.specs.Marks.{anyAt}
 use Rattle.numbers.specs.Fractions.{isNumeric}
 use Rattle.numbers.specs.Separators.{copyOf}
-
-abbrev pub digitEnds : List Edge → ℕ → Bool
-digitEnds = anyAt (λ e. endsWithDigit (e .txt)) (λ e. e .end)
 
 unfoldable pub apartBy : List Bool → Edge → Bool
 apartBy marks e = isNumeric e && (beginsWithDigit (e .txt) && getD marks (e .start) false)

@@ -1,51 +1,20 @@
 // F1 (01, "The rest of the call"): a numeric edge whose txt begins with a digit, right after an edge whose txt ends with one, turns inactive, and its copy
-// with a separator before its txt is added. One walk marks the places where such edges end, one walk over the edges that were there adds the copies.
+// with a separator before its txt is added. One walk marks the places where such edges end (`end_marks`), one walk over the edges that were there adds the copies.
 ghost use mathlib.Core.Path.{_≡_};
-ghost use mathlib.Core.Bool.{false, true, cond};
+ghost use mathlib.Core.Bool.{false};
 ghost use mathlib.Core.List.{List};
 ghost use Prim.Native.Nat.{ℕ, _+_, _≤_, _<_};
-ghost use lib.ListN.{length, drop, getD, set, replicate};
-ghost use Rattle.digits.specs.TextEnds.{endsWithDigit};
+ghost use lib.ListN.{length, drop, getD};
 ghost use Rattle.edge.specs.Edge.{Edge};
 ghost use Rattle.edge.specs.Layout.{edgeAt};
 ghost use Rattle.lattice.specs.Lattice.{add};
-ghost use Rattle.lattice.specs.Kept.{Holds, noEdge, offset};
+ghost use Rattle.lattice.specs.Kept.{Holds, noEdge};
 ghost use Rattle.paths.specs.Reading.{Spanned};
 ghost use Rattle.copies.specs.Copy.{Source};
-ghost use Rattle.stages.specs.CallEdge.{Legals, CallEdge, CallEdges};
+ghost use Rattle.stages.specs.CallEdge.{CallEdge, CallEdges};
 ghost use Rattle.numbers.specs.Separators.{copyOf, separate};
-ghost use Rattle.separators.specs.Marks.{digitEnds, apartBy, setApart, allApart};
+ghost use Rattle.separators.specs.Marks.{apartBy, setApart, allApart};
 use lattice::Lattice;
-
-// Sets the mark of the place where an edge ends whose txt ends with a digit.
-fn mark(s: &[u8], at: usize, marks: &mut [bool; 257])
-    requires { ⌜ Spanned 256 (now s) at ⌝ }
-    ensures { λ _. ⌜ now (marks .exit) ≡ cond (endsWithDigit (edgeAt (now (s .entry)) at .txt)) (set (now (marks .entry)) (edgeAt (now (s .entry)) at .end) true) (now (marks .entry)) ⌝ }
-{
-    let e = edge_head::edge_at(s, at);
-    let txt = e.txt;
-    let end = e.end;
-    let from = txt.at;
-    let to = from + txt.len;
-    let place = end.0;
-    if digit_ends::ends_with_digit(&s[from..to]) {
-        marks[place] = true;
-    }
-}
-
-// The marks of all places where an edge ends whose txt ends with a digit. One walk over the lattice.
-fn mark_ends(w: &[u8], l: Lattice, marks: &mut [bool; 257])
-    requires { ⌜ (l .len ≡ 0 → ⊥) × ((n : ℕ) × (n ≤ 256) × ((es : List Edge) × Holds (now w) l es × Legals n es)) × (now marks ≡ replicate 257 false) ⌝ }
-    ensures { λ _. ⌜ ((n : ℕ) (es : List Edge) → n ≤ 256 → Holds (now (w .entry)) l es → Legals n es → (p : ℕ) → p < 257 → getD (now (marks .exit)) p false ≡ digitEnds es p) ⌝ }
-{
-    let count = l.count;
-    let mut i = 0;
-    while i < count {
-        let at = lattice::offset_at(w, l, i);
-        mark(w, at, marks);
-        i += 1;
-    }
-}
 
 // Whether an edge is numeric, starts at a place that has a mark, and begins with a digit: few of them have to be asked for the last.
 fn is_apart(s: &[u8], at: usize, marks: &[bool; 257]) -> bool
@@ -76,17 +45,6 @@ fn add_separated(w: &mut [u8], l: Lattice, at: usize, next: usize) -> Lattice
     copies::add_copy(w, l, at, next, b"\xC2\xB7")
 }
 
-// Where the i-th edge ends: where the next one begins, or the listing ends.
-fn end_of(w: &[u8], l: Lattice, i: usize) -> usize
-    requires { ⌜ ((es : List Edge) × Holds (now w) l es) × (l .len ≡ 0 → ⊥) × (i < l .count) ⌝ }
-    ensures { λ r. ⌜ ((es : List Edge) → Holds (now (w .entry)) l es → r ≡ offset es (i + 1)) ⌝ }
-{
-    if i + 1 < l.count {
-        return lattice::offset_at(w, l, i + 1);
-    }
-    l.len
-}
-
 // The i-th edge is set apart, if the marks say so. The copy is made before its original turns inactive: it is active as that was.
 fn set_apart(w: &mut [u8], l: Lattice, i: usize, marks: &[bool; 257]) -> Lattice
     requires { ⌜ ((n : ℕ) × (n ≤ 256) × ((es : List Edge) × Holds (now w) l es × (i < length es) × CallEdge n (getD es i noEdge))) ⌝ }
@@ -99,7 +57,7 @@ fn set_apart(w: &mut [u8], l: Lattice, i: usize, marks: &[bool; 257]) -> Lattice
     if !is_apart(w, at, marks) {
         return l;
     }
-    let next = end_of(w, l, i);
+    let next = end_marks::end_of(w, l, i);
     let added = add_separated(w, l, at, next);
     if added.len == 0 {
         return added;
@@ -132,6 +90,6 @@ pub fn separate(w: &mut [u8], l: Lattice) -> Lattice
         return l;
     }
     let mut marks = [false; 257];
-    mark_ends(w, l, &mut marks);
+    end_marks::mark_ends(w, l, &mut marks);
     set_all_apart(w, l, &marks)
 }

@@ -1,12 +1,12 @@
--- `separators::mark_ends` meets its contract. The loop's invariant: with the edges from the i-th on, the marks are those of all edges (`Marking`). The measure is
+-- `end_marks::mark_ends` meets its contract. The loop's invariant: with the edges from the i-th on, the marks are those of all edges (`Marking`). The measure is
 -- how many are left. Assumes nothing.
 use Prim.Native.Nat.{_-_}
 use native.Mathlib.Omega.{arith}
 use Rattle.digits.specs.TextEnds.{endsWithDigit}
 use Rattle.stages.proofs.SoundLaws.{spanned-at}
 use Rattle.stages.proofs.MarkLaws.{Marking, marking-start, marking-turn, marking-end}
-use Rattle.separators.proofs.mark_ends.Statement.{statement}
-use Rattle.separators.proofs.mark_ends.Tie as tie
+use Rattle.end_marks.proofs.mark_ends.Statement.{statement}
+use Rattle.end_marks.proofs.mark_ends.Tie as tie
 
 abbrev Inv-loop : tie.InvT-loop
 Inv-loop w l marks₀ count i₀ marks i = Marking (λ e. endsWithDigit (e .txt)) (λ e. e .end) w l i marks

@@ -1,12 +1,12 @@
--- `separators::mark` meets its contract. Assumes nothing.
+-- `end_marks::mark` meets its contract. Assumes nothing.
 use Prim.Native.Nat.{_+_, _≤_}
 use native.Mathlib.Omega.{arith}
 use lib.ListN.{length}
 use Rattle.edge.proofs.CheckLaws.{head-within, txt-within}
-use Rattle.separators.proofs.MarkLaws.{end-in, mark-set, mark-kept}
+use Rattle.end_marks.proofs.MarkLaws.{end-in, mark-set, mark-kept}
 use borrow.Author.Needs.{needs}
-use Rattle.separators.proofs.mark.Statement.{statement}
-use Rattle.separators.proofs.mark.Tie as tie
+use Rattle.end_marks.proofs.mark.Statement.{statement}
+use Rattle.end_marks.proofs.mark.Tie as tie
 
 -- the text of the edge whose head was read is within the listing
 txt-inside : (c : tie.After-edge-at) → c .edge-at .result .txt .at + c .edge-at .result .txt .len ≤ length (c .before .before .args .s .now)

@@ -1,8 +1,8 @@
--- `separators::end_of` meets its contract: edges stand one behind the other. Assumes nothing.
-use Rattle.separators.proofs.StepLaws.{last-ends}
+-- `end_marks::end_of` meets its contract: edges stand one behind the other. Assumes nothing.
+use Rattle.end_marks.proofs.MarkLaws.{last-ends}
 use borrow.Author.Needs.{needs}
-use Rattle.separators.proofs.end_of.Statement.{statement}
-use Rattle.separators.proofs.end_of.Tie as tie
+use Rattle.end_marks.proofs.end_of.Statement.{statement}
+use Rattle.end_marks.proofs.end_of.Tie as tie
 
 add-if1 : tie.Need-add-if1
 add-if1 c = search needs

@@ -1,0 +1,2 @@
+-- The laws of `end_marks`.
+pub mod MarkLaws

@@ -1,0 +1,2 @@
+-- What the marks say.
+pub mod Marks
