@@ -1,7 +1,7 @@
 // The fallback (01, "The rest of the call"): an ASCII digit without a numeric edge on its place adds a regular edge there. The last stage of the call.
 ghost use mathlib.Core.Path.{_≡_};
 ghost use mathlib.Core.List.{List};
-ghost use Prim.Native.Nat.{ℕ, _≤_, _<_};
+ghost use Prim.Native.Nat.{_≤_, _<_};
 ghost use lib.ListN.{length, drop};
 ghost use Rattle.text.specs.Text.{chars};
 ghost use Rattle.edge.specs.Edge.{Edge};
