@@ -121,6 +121,8 @@ pub fn run() {
     for count in [10, 100, 900] {
         row(&format!("a line of 20, {count} given edges"), &[Case::new(&line_of(20), &plain, &given(count, 20))]);
     }
+    // a longer line would have more than 1,024 edges beside them
+    row("a line of 3, 1000 given edges", &[Case::new(&line_of(3), &plain, &given(1_000, 3))]);
     let marks: String = "五分之一".chars().cycle().take(200).collect();
     row("a line of 200 with 50 connectors", &[Case::new(&marks, &plain, &[])]);
 }
