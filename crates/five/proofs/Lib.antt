@@ -3,3 +3,5 @@ pub mod FrontLaws
 pub mod RootLaws
 pub mod KeptLaws
 pub mod FiveLaws
+pub mod JoinedLaws
+pub mod AddingLaws

@@ -1,6 +1,6 @@
 // An item of the pass list as an edge of the lattice (01, "From characters to edges", "Five passes"): what an item needs for it is `Sound` of specs/Sound.antt;
 // and a character's texts, as parts of the table or of the line. An item's type and txt are put together in `item_type` and `item_txt`, its fields are written in
-// `item_fields`, and the stage that adds the items of one kind is `item_stage`.
+// `item_fields`, and the stage that adds the items of one kind is in `five`.
 ghost use mathlib.Core.Path.{_≡_};
 ghost use Prim.Native.Nat.{ℕ, _+_, _/_, _%_, _≤_};
 ghost use mathlib.Core.List.{List};

@@ -1,7 +1,39 @@
 // The program of 01: reads one line from standard input and prints its rows with the plain table. What fails is said on standard error, and
-// then no line is taken for read and no row for printed: a program of the kit has no exit status of its own.
+// then no line is taken for read and no row for printed: a program of the kit has no exit status of its own. The words of the
+// contracts are in specs/LineRows.antt.
+ghost use lib.ListN.{length};
+ghost use Rattle.numbers.specs.Call.{addNumbers};
+ghost use Rattle.refusal_row.specs.Printed.{TextIs};
+ghost use Rattle.print_line.specs.LineRows.{noEdges, plainAnswer};
+use call::Answer;
 use edge::Written;
 use read_line::Got;
+
+// The text of a line with a table and no given edges.
+fn answer_line(
+    line: &[u8],
+    table: &[u8],
+    work: &mut [u8],
+    out: &mut [u8],
+    text: &mut [u8],
+) -> Written
+    ensures { λ r. ⌜ TextIs (now (text .entry)) (now (text .exit)) r (addNumbers (now (line .entry)) (now (table .entry)) noEdges (length (now (work .entry))) (length (now (out .entry)))) ⌝ }
+{
+    match call::add_numbers(line, table, b"\x00\x00", work, out) {
+        Answer::Listing(n) => listing_rows::put_rows(text, &out[..n]),
+        Answer::Refused(r) => refusal_row::put_refusal(text, r),
+    }
+}
+
+// The text of a line with the plain table, in the program's own work space and output.
+pub fn plain_rows(line: &[u8], text: &mut [u8]) -> Written
+    ensures { λ r. ⌜ TextIs (now (text .entry)) (now (text .exit)) r (plainAnswer (now (line .entry))) ⌝ }
+{
+    let table = plain_table::plain_table();
+    let mut work = [0u8; 65536];
+    let mut out = [0u8; 32768];
+    answer_line(line, &table, &mut work, &mut out, text)
+}
 
 fn print(text: &[u8]) {
     if !io::write_all(libc::STDOUT_FILENO, text) {
@@ -12,7 +44,7 @@ fn print(text: &[u8]) {
 // Prints the rows of a line, or of its refusal.
 pub fn print_rows(line: &[u8]) {
     let mut text = io::large_buffer();
-    match line_rows::plain_rows(line, &mut text) {
+    match plain_rows(line, &mut text) {
         Written::To(n) => print(&text[..n]),
         Written::NoRoom => {
             io::write_all(libc::STDERR_FILENO, b"the rows are too long\n");

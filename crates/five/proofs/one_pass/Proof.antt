@@ -46,6 +46,7 @@ add-of-kind-requires c κs = let k = c .before .before .before in
       s .pre .2,
       pass-sounds (chars-scalars _) (s .pre .5) (s .pre .4) (r .last .0) (r .ensures .1) (k .k .given .1),
       omega (arith, pass-few (chars-scalars _) (s .pre .5) (s .pre .4) (r .last .0) (r .ensures .1) (k .k .given .1), r .kept .0, s .pre .3),
+      λ z. omega (arith, z),
     )
 
 same-length-2 : tie.Need-same-length-2

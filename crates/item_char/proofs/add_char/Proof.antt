@@ -7,7 +7,8 @@ use Rattle.items.specs.Sound.{LegalAt, ItemIs}
 use Rattle.items.specs.Texts.{TextsAre}
 use Rattle.items.proofs.TextLaws.{places-of, type-within, own-part}
 use Rattle.item_fields.proofs.FieldLaws.{legal-there}
-use Rattle.item_char.proofs.TextsLaws.{texts-there, texts-added, char-fraction, char-texts}
+use Rattle.item_fields.proofs.AddedLaws.{texts-there, texts-added}
+use Rattle.item_char.proofs.TextsLaws.{char-fraction, char-texts}
 use Rattle.item_char.proofs.add_char.Statement.{statement}
 use Rattle.item_char.proofs.add_char.Tie as tie
 

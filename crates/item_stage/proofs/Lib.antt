@@ -1,2 +1,0 @@
--- Laws of adding items in turn.
-pub mod AddingLaws

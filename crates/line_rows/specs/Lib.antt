@@ -1,2 +1,0 @@
--- The definitions that the contracts of `line_rows` cite.
-pub mod LineRows

@@ -1,0 +1,2 @@
+-- The definitions that the contracts of `print_line` cite.
+pub mod LineRows
