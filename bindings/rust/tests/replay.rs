@@ -1,39 +1,43 @@
-//! The cases that the gate replays (crates/replay/stdin; tools/replay_cases.py writes them), through the bindings.
+//! The cases that the gate replays (crates/replay, stdin and stdout; tools/replay_cases.py writes them), through the bindings.
 
 use rilvostam::{Refusal, add_numbers_into, edges};
 
-fn frames(mut bytes: &[u8]) -> impl Iterator<Item = &[u8]> {
-    std::iter::from_fn(move || {
-        let (length, rest) = bytes.split_first_chunk()?;
-        let (frame, rest) = rest.split_at(u32::from_le_bytes(*length) as usize);
-        bytes = rest;
-        Some(frame)
-    })
+fn read(name: &str) -> Vec<u8> {
+    std::fs::read(format!("{}/../../crates/replay/{name}", env!("CARGO_MANIFEST_DIR"))).unwrap()
 }
 
-/// A refusal as the cases have it: u8 number and u32 offset or place.
+/// The next so many bytes.
+fn next<'a>(bytes: &mut &'a [u8], size: usize) -> &'a [u8] {
+    bytes.split_off(..size).unwrap()
+}
+
+/// A refusal as the answers have it: u8 number and u32 offset or place.
 fn bytes(r: Refusal) -> Vec<u8> {
     [&[r.number() as u8][..], &(r.at as u32).to_le_bytes()].concat()
 }
 
 #[test]
 fn replay() {
-    let cases = std::fs::read(concat!(env!("CARGO_MANIFEST_DIR"), "/../../crates/replay/stdin")).unwrap();
+    let (stdin, stdout) = (read("stdin"), read("stdout"));
+    let (mut cases, mut answers) = (&stdin[..], &stdout[..]);
     let (mut work, mut out) = (vec![0; rilvostam::WORK], vec![0; rilvostam::OUT]);
-    let (mut parts, mut last, mut count) = (frames(&cases), &[][..], 0);
-    while let Some(line) = parts.next() {
-        let (table, given, answer) = (parts.next().unwrap(), parts.next().unwrap(), parts.next().unwrap());
+    let (mut last, mut count) = (&[][..], 0);
+    while !cases.is_empty() {
+        let head = next(&mut cases, 6);
+        let sizes = [0, 2, 4].map(|at| u16::from_le_bytes([head[at], head[at + 1]]) as usize);
+        let [line, table, given] = sizes.map(|size| next(&mut cases, size));
         last = if table.is_empty() { last } else { table };
+        let size = u32::from_le_bytes(next(&mut answers, 4).try_into().unwrap());
         let ours = match add_numbers_into(line, last, given, &mut work, &mut out) {
             Ok(length) => out[..length].to_vec(),
             Err(refusal) => bytes(refusal),
         };
-        assert_eq!(ours, answer, "case {count}");
+        assert_eq!(ours, next(&mut answers, size as usize), "case {count}");
         // The iterator reads a listing to its end.
         if ours.len() != 5 {
             assert_eq!(edges(&ours).count(), u16::from_le_bytes([ours[0], ours[1]]).into(), "case {count}");
         }
         count += 1;
     }
-    assert_eq!(count, 2097);
+    assert_eq!((count, answers), (2097, &[][..]));
 }

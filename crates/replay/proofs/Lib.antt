@@ -1,2 +1,0 @@
--- The proofs of `replay`.
-pub mod FrameLaws

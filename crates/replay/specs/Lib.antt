@@ -1,2 +1,0 @@
--- What the frames of a case are known to be.
-pub mod Frames
