@@ -1,3 +1,2 @@
--- The laws that the proofs of `walker` share, and what is promised of a walk beyond the contracts.
-pub mod WalkLaws
+-- What is promised of a walk beyond the contracts.
 pub mod Theorems

@@ -1,8 +1,8 @@
--- `walker::whole_at` meets its contract: an edge from past the end is cut off, and of another its end decides. Assumes nothing.
+-- `walk_steps::whole_at` meets its contract: an edge from past the end is cut off, and of another its end decides. Assumes nothing.
 use borrow.Author.Needs.{needs}
-use Rattle.walker.proofs.WalkLaws.{cut-past, whole-next}
-use Rattle.walker.proofs.whole_at.Statement.{statement}
-use Rattle.walker.proofs.whole_at.Tie as tie
+use Rattle.walk_steps.proofs.WalkLaws.{cut-past, whole-next}
+use Rattle.walk_steps.proofs.whole_at.Statement.{statement}
+use Rattle.walk_steps.proofs.whole_at.Tie as tie
 
 returns : tie.Need-returns
 returns c = cut-past _ _ (c .if1 .taken)

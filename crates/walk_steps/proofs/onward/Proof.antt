@@ -1,12 +1,12 @@
--- `walker::onward` meets its contract. The loop's invariant: the steps that are left lead from the offset to where all of them lead from the front.
+-- `walk_steps::onward` meets its contract. The loop's invariant: the steps that are left lead from the offset to where all of them lead from the front.
 -- The measure is how many are left. Assumes nothing.
 use mathlib.Core.Path.{_≡_, refl}
 use borrow.Author.Needs.{needs}
 use native.Mathlib.Omega.{arith}
-use Rattle.walker.specs.Walk.{onward}
-use Rattle.walker.proofs.WalkLaws.{onward-none, onward-step, onward-stuck}
-use Rattle.walker.proofs.onward.Statement.{statement}
-use Rattle.walker.proofs.onward.Tie as tie
+use Rattle.walk_steps.specs.Walk.{onward}
+use Rattle.walk_steps.proofs.WalkLaws.{onward-none, onward-step, onward-stuck}
+use Rattle.walk_steps.proofs.onward.Statement.{statement}
+use Rattle.walk_steps.proofs.onward.Tie as tie
 
 abbrev Inv-loop : tie.InvT-loop
 Inv-loop listing i at₀ left₀ at left = onward left listing at ≡ onward i listing 2

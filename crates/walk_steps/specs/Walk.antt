@@ -11,8 +11,8 @@ use lib.ListN.{length}
 use lib.Dec.{leb}
 use Rattle.edge.specs.Layout.{nextAt}
 use Rattle.edge.specs.View.{viewAt}
-use Rattle.walker.specs.declared.Here.{Here}
-use Rattle.walker.specs.declared.Here.the-variants.{Edge, End}
+use Rattle.walk_steps.specs.declared.Here.{Here}
+use Rattle.walk_steps.specs.declared.Here.the-variants.{Edge, End}
 
 abbrev pub whole : List ℕ → ℕ → Bool
 whole s at = leb (nextAt s at) (length s)

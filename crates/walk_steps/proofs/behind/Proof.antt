@@ -1,8 +1,8 @@
--- `walker::behind` meets its contract: whether the edge is whole decides. Assumes nothing.
+-- `walk_steps::behind` meets its contract: whether the edge is whole decides. Assumes nothing.
 use borrow.Author.Needs.{needs}
-use Rattle.walker.proofs.WalkLaws.{whole-from, behind-edge, behind-end}
-use Rattle.walker.proofs.behind.Statement.{statement}
-use Rattle.walker.proofs.behind.Tie as tie
+use Rattle.walk_steps.proofs.WalkLaws.{whole-from, behind-edge, behind-end}
+use Rattle.walk_steps.proofs.behind.Statement.{statement}
+use Rattle.walk_steps.proofs.behind.Tie as tie
 
 whole-at-requires : tie.Need-whole-at-requires
 whole-at-requires c κs = search needs

@@ -1,8 +1,8 @@
--- `walker::here_at` meets its contract: whether the edge is whole decides. Assumes nothing.
+-- `walk_steps::here_at` meets its contract: whether the edge is whole decides. Assumes nothing.
 use borrow.Author.Needs.{needs}
-use Rattle.walker.proofs.WalkLaws.{whole-head, here-edge, here-end}
-use Rattle.walker.proofs.here_at.Statement.{statement}
-use Rattle.walker.proofs.here_at.Tie as tie
+use Rattle.walk_steps.proofs.WalkLaws.{whole-head, here-edge, here-end}
+use Rattle.walk_steps.proofs.here_at.Statement.{statement}
+use Rattle.walk_steps.proofs.here_at.Tie as tie
 
 whole-at-requires : tie.Need-whole-at-requires
 whole-at-requires c κs = search needs

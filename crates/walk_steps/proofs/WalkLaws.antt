@@ -13,9 +13,9 @@ use Rattle.edge.specs.Layout.{txtAt, headEnd, nextAt}
 use Rattle.edge.specs.View.{viewAt}
 use Rattle.edge.proofs.LayoutLaws.{if-on, if-off, string-end-ge}
 use Rattle.edge.proofs.CheckLaws.{head-within}
-use Rattle.walker.specs.declared.Here.{Here}
-use Rattle.walker.specs.declared.Here.the-variants.{Edge, End}
-use Rattle.walker.specs.Walk.{whole, hereAt, behind, onward}
+use Rattle.walk_steps.specs.declared.Here.{Here}
+use Rattle.walk_steps.specs.declared.Here.the-variants.{Edge, End}
+use Rattle.walk_steps.specs.Walk.{whole, hereAt, behind, onward}
 
 -- ---- an edge: it ends behind its offset
 pub next-past : (s : List ℕ) (at : ℕ) → at + 10 ≤ nextAt s at

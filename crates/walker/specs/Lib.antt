@@ -1,2 +1,0 @@
--- The definitions that the contracts of `walker` cite.
-pub mod Walk
