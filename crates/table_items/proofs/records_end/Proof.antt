@@ -1,4 +1,4 @@
--- `table_check::records_end` meets its contract. The loop's invariant: the records that are left end where all of them end, and the index is being made; the
+-- `table_items::records_end` meets its contract. The loop's invariant: the records that are left end where all of them end, and the index is being made; the
 -- measure is how many are left.
 use mathlib.Core.Path.{_≡_, refl, sym, subst, _∙_}
 use native.Mathlib.Omega.{arith}
@@ -6,10 +6,10 @@ use Rattle.dicts.specs.Check.{readRecords}
 use Rattle.dicts.specs.Answers.{endOf}
 use Rattle.dicts.proofs.CheckLaws.{records-none, records-stop}
 use Rattle.table_record.specs.Step.{StepIs}
-use Rattle.table_check.proofs.StepLaws.{passed-turn, Making, making-none, making-index, making-more}
+use Rattle.table_items.proofs.StepLaws.{passed-turn, Making, making-none, making-index, making-more}
 use borrow.Author.Needs.{needs}
-use Rattle.table_check.proofs.records_end.Statement.{statement}
-use Rattle.table_check.proofs.records_end.Tie as tie
+use Rattle.table_items.proofs.records_end.Statement.{statement}
+use Rattle.table_items.proofs.records_end.Tie as tie
 
 abbrev Inv-loop : tie.InvT-loop
 Inv-loop s from n offs₀ entries₀ at₀ left₀ least₀ index₀ offs entries at left least index =

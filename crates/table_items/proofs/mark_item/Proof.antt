@@ -1,12 +1,12 @@
--- `table_check::mark_item` meets its contract: the string's layout, then its content.
+-- `table_items::mark_item` meets its contract: the string's layout, then its content.
 use mathlib.Core.Path.{sym, ap, _∙_}
 use Rattle.dicts.specs.Check.{legalMark}
 use Rattle.dicts.specs.Answers.{textField, endOf}
 use Rattle.dicts.proofs.LayoutLaws.{told, within-told}
 use Rattle.dicts.proofs.CheckLaws.{item-fault, item-legal, item-illegal}
 use borrow.Author.Needs.{needs}
-use Rattle.table_check.proofs.mark_item.Statement.{statement}
-use Rattle.table_check.proofs.mark_item.Tie as tie
+use Rattle.table_items.proofs.mark_item.Statement.{statement}
+use Rattle.table_items.proofs.mark_item.Tie as tie
 
 text-at-requires : tie.Need-text-at-requires
 text-at-requires c κs = search needs

@@ -1,12 +1,12 @@
--- `table_check::texts_end` meets its contract. The loop's invariant: the strings that are left end where all of them end; the measure is how many are left.
+-- `table_items::texts_end` meets its contract. The loop's invariant: the strings that are left end where all of them end; the measure is how many are left.
 use mathlib.Core.Path.{_≡_, refl, sym, _∙_}
 use native.Mathlib.Omega.{arith}
 use Rattle.dicts.specs.Check.{readTexts}
 use Rattle.dicts.specs.Answers.{endOf}
 use Rattle.dicts.proofs.CheckLaws.{texts-none, texts-turn, texts-stop}
 use borrow.Author.Needs.{needs}
-use Rattle.table_check.proofs.texts_end.Statement.{statement}
-use Rattle.table_check.proofs.texts_end.Tie as tie
+use Rattle.table_items.proofs.texts_end.Statement.{statement}
+use Rattle.table_items.proofs.texts_end.Tie as tie
 
 abbrev Inv-loop : tie.InvT-loop
 Inv-loop s from n at₀ left₀ at left = endOf (readTexts left s at) ≡ endOf (readTexts n s from)

@@ -1,10 +1,10 @@
--- `table_check::list_end` meets its contract: the count, then the strings.
+-- `table_items::list_end` meets its contract: the count, then the strings.
 use mathlib.Core.Path.{_∙_}
 use native.Mathlib.Omega.{arith}
 use Rattle.dicts.proofs.CheckLaws.{list-missing, list-is}
 use borrow.Author.Needs.{needs}
-use Rattle.table_check.proofs.list_end.Statement.{statement}
-use Rattle.table_check.proofs.list_end.Tie as tie
+use Rattle.table_items.proofs.list_end.Statement.{statement}
+use Rattle.table_items.proofs.list_end.Tie as tie
 
 returns : tie.Need-returns
 returns c = list-missing _ _ (c .if1 .taken)

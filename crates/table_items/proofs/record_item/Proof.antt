@@ -1,10 +1,10 @@
--- `table_check::record_item` meets its contract: a record that is told by few tests is legal, and of any other the reading in full decides.
+-- `table_items::record_item` meets its contract: a record that is told by few tests is legal, and of any other the reading in full decides.
 use mathlib.Core.Path.{subst}
 use Rattle.table_plain.specs.Plain.{PlainIs}
-use Rattle.table_check.proofs.StepLaws.{plain-passed}
+use Rattle.table_items.proofs.StepLaws.{plain-passed}
 use borrow.Author.Needs.{needs}
-use Rattle.table_check.proofs.record_item.Statement.{statement}
-use Rattle.table_check.proofs.record_item.Tie as tie
+use Rattle.table_items.proofs.record_item.Statement.{statement}
+use Rattle.table_items.proofs.record_item.Tie as tie
 
 plain-at-requires : tie.Need-plain-at-requires
 plain-at-requires c κs = search needs
