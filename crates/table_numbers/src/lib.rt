@@ -1,7 +1,7 @@
-// The numbers of a record: their layout (01, cause 4) and what they may be (cause 5), in one walk; and what its code point may be.
+// The numbers of a record: their layout (01, cause 4) and what they may be (cause 5), in one walk.
 ghost use mathlib.Core.Path.{_≡_};
 ghost use Rattle.dicts.specs.Layout.{mapField, number, fraction, optional, readNumbers};
-ghost use Rattle.dicts.specs.Check.{allOf, legalRatio, legalNumbers, legalCodePoint};
+ghost use Rattle.dicts.specs.Check.{allOf, legalRatio, legalNumbers};
 ghost use Rattle.table_numbers.specs.Look.{lookField, fromLeast};
 
 const TOP: u64 = 9007199254740991;
@@ -10,22 +10,6 @@ const TOP: u64 = 9007199254740991;
 pub enum Look {
     Field(bool, usize),
     Fault,
-}
-
-// A scalar value, and at least `least`.
-pub fn legal_code_point(c: u32, least: u64) -> bool
-    ensures { λ r. ⌜ r ≡ legalCodePoint least c ⌝ }
-{
-    if (c as u64) < least {
-        return false;
-    }
-    if c <= 0xD7FF {
-        return true;
-    }
-    if c < 0xE000 {
-        return false;
-    }
-    c <= 0x10FFFF
 }
 
 // A number that is there: it is from least to TOP.

@@ -1,5 +1,5 @@
 // A record of the table: its layout (01, cause 4) and what it may hold (cause 5), in one walk. Its strings are looked at in `table_texts`, its numbers in
-// `table_numbers`, and the rule of the type "digit" in `table_digit`.
+// `table_numbers`, its code point in `code_point`, and the rule of the type "digit" in `table_digit`.
 ghost use mathlib.Core.Path.{_≡_};
 ghost use mathlib.Core.Bool.{true};
 ghost use Prim.Native.Nat.{_+_, _≤_};
@@ -12,12 +12,12 @@ ghost use Rattle.dicts.specs.Answers.{partOf, optionally, optText, Within, Text
 ghost use Rattle.table_numbers.specs.Look.{lookField};
 ghost use Rattle.table_record.specs.Content.{textsFine, restFine};
 ghost use Rattle.table_record.specs.Step.{StepIs};
+use code_point::legal_code_point;
 use dicts::layout::Part;
 use dicts::layout::TextAt;
 use dicts::layout::text_at;
 use table_digit::legal_digit;
 use table_numbers::Look;
-use table_numbers::legal_code_point;
 use table_numbers::numbers_look;
 
 // What checking a record gives: its code point and the offset behind it, or the refusal's number.

@@ -1,7 +1,7 @@
--- `table_numbers::legal_code_point` meets its contract: each answer is one law.
+-- `code_point::legal_code_point` meets its contract: each answer is one law.
 use Rattle.dicts.proofs.ContentLaws.{code-low, code-first, code-surrogate, code-last}
-use Rattle.table_numbers.proofs.legal_code_point.Statement.{statement}
-use Rattle.table_numbers.proofs.legal_code_point.Tie as tie
+use Rattle.code_point.proofs.legal_code_point.Statement.{statement}
+use Rattle.code_point.proofs.legal_code_point.Tie as tie
 
 returns : tie.Need-returns
 returns c = code-low _ _ (c .if1 .taken)
