@@ -65,12 +65,12 @@ fn shown(place: usize) {
         }
         Shown::Line(_) => {
             io::write_all(1, b"line ");
-            io::write_all(1, shown::shown_part(&line, &l, w));
+            io::write_all(1, shown_bytes::shown_part(&line, &l, w));
             io::write_all(1, b"\n");
         }
         Shown::Listing(_) => {
             io::write_all(1, b"listing ");
-            io::write_all(1, shown::shown_part(&line, &l, w));
+            io::write_all(1, shown_bytes::shown_part(&line, &l, w));
             io::write_all(1, b"\n");
         }
     }

@@ -1,12 +1,11 @@
-// The text shown at a place of a line (01, "Added: ..").
+// The text shown at a place of a line (01, "Added: .."): which part of which slice. Crate `shown_bytes` hands its bytes out.
 ghost use mathlib.Core.Path.{_≡_};
 ghost use mathlib.Core.Bool.{false};
 ghost use Prim.Native.Nat.{_+_, _<_};
-ghost use Rattle.edge.specs.View.{textOf};
 ghost use Rattle.paths.specs.declared.Query.the-variants as Query;
 ghost use Rattle.paths.specs.Best.{best, withOffsets, found};
 ghost use Rattle.paths.specs.Reading.{Spans};
-ghost use Rattle.paths.specs.Shown.{shownBy, shown, shownPart};
+ghost use Rattle.paths.specs.Shown.{shownBy, shown};
 use edge::Part;
 use path_best::best_of;
 use path_check::check;
@@ -51,32 +50,5 @@ pub fn shown_text(line: &[u8], listing: &[u8], place: Place) -> Shown
             }
             shown_at(line, listing, chars, count, place)
         }
-    }
-}
-
-// A part of a slice; what of it is behind the slice's end is left out.
-fn part_of(s: &[u8], p: Part) -> &[u8]
-    ensures { λ r. ⌜ now r ≡ textOf (now (s .entry)) p ⌝ }
-{
-    let at = p.at;
-    let len = p.len;
-    if s.len() <= at {
-        return &s[..0];
-    }
-    if s.len() - at < len {
-        return &s[at..];
-    }
-    let end = at + len;
-    &s[at..end]
-}
-
-// The bytes of a text shown, a part of the slice that it names; none for a refusal.
-pub fn shown_part<'a>(line: &'a [u8], listing: &'a [u8], w: Shown) -> &'a [u8]
-    ensures { λ r. ⌜ now r ≡ shownPart (now (line .entry)) (now (listing .entry)) w ⌝ }
-{
-    match w {
-        Shown::Listing(p) => part_of(listing, p),
-        Shown::Line(p) => part_of(line, p),
-        Shown::Refused(_) => &line[..0],
     }
 }

@@ -1,9 +1,9 @@
--- `shown::part_of` meets its contract, by where the slice ends. Assumes nothing.
+-- `shown_bytes::part_of` meets its contract, by where the slice ends. Assumes nothing.
 use native.Mathlib.Omega.{arith}
 use Rattle.paths.proofs.ShownLaws.{part-past, part-to-end, part-within}
 use borrow.Author.Needs.{needs}
-use Rattle.shown.proofs.part_of.Statement.{statement}
-use Rattle.shown.proofs.part_of.Tie as tie
+use Rattle.shown_bytes.proofs.part_of.Statement.{statement}
+use Rattle.shown_bytes.proofs.part_of.Tie as tie
 
 slice-aggregate-result : tie.Need-slice-aggregate-result
 slice-aggregate-result c = search needs

@@ -1,9 +1,9 @@
--- `shown::shown_part` meets its contract, by the slice that is named. Assumes nothing.
+-- `shown_bytes::shown_part` meets its contract, by the slice that is named. Assumes nothing.
 use mathlib.Core.Path.{_≡_, _∙_}
 use Rattle.paths.specs.Shown.{shownPart}
 use borrow.Author.Needs.{needs}
-use Rattle.shown.proofs.shown_part.Statement.{statement}
-use Rattle.shown.proofs.shown_part.Tie as tie
+use Rattle.shown_bytes.proofs.shown_part.Statement.{statement}
+use Rattle.shown_bytes.proofs.shown_part.Tie as tie
 
 enum-known-w : tie.Need-enum-known-w
 enum-known-w c = search needs
