@@ -1,7 +1,7 @@
 -- Laws of `specs/Plain.antt`. No contract cites this file.
 -- In order: the fields that a map of 43 says there are; the digit rule; a legal record of such fields; strings; what the functions answer.
 use mathlib.Core.Path.{_≡_, refl, sym, ap, _∙_, subst}
-use mathlib.Core.Bool.{Bool, true, false, cond, _&&_, _||_, true≢false}
+use mathlib.Core.Bool.{Bool, true, false, cond}
 use mathlib.Core.List.{List, [], _∷_}
 use mathlib.Core.Option.{none, some}
 use Prim.Native.Nat.{ℕ, _+_, _-_, _*_, _/_, _%_, _≤_, _<_}
@@ -9,23 +9,21 @@ use native.Mathlib.Omega.{arith}
 use native.Mathlib.Decide.{decLe}
 use lib.ListN.{length, getD}
 use lib.Seq.{drop-cons}
-use lib.Dec.{leb, ltb, eqb}
-use borrow.Author.Tests.{eq-eqb, le-leb, lt-leb, lt-ltb, le-ltb, eqb-true, eqb-false, ltb-true, ltb-false}
+use borrow.Author.Tests.{eq-eqb, le-leb, lt-ltb, le-ltb}
 use Rattle.fields.specs.Fields.{leAt}
 use Rattle.fields.specs.Part.{part}
 use Rattle.fields.proofs.FieldsLaws.{leAt-add, leAt-one}
 use Rattle.fields.proofs.PartLaws.{length-part, part-at}
-use Rattle.text.specs.Bytes.{same}
 use Rattle.text.specs.Text.{wellFormed}
 use Rattle.text.proofs.BytesLaws.{same-refl, same-true}
-use Rattle.text.proofs.RowLaws.{and-true}
 use Rattle.whole.specs.Whole.{TOP}
-use Rattle.dicts.specs.Table.{Text, Record}
+use Rattle.dicts.specs.Table.{Text}
 use Rattle.dicts.specs.Layout as Layout
-use Rattle.dicts.specs.Layout.{Field, Is, mapField, bit, text, optional, readNumbers, recordWith, readFields, readRecord}
-use Rattle.dicts.specs.Check.{digit, legalCodePoint, allOf, isDigitType, legalDigit, digitRule, legalTexts, legalNumbers, legalRecord}
+use Rattle.dicts.specs.Layout.{Is, mapField, bit, text, optional, readNumbers, recordWith, readFields, readRecord}
+use Rattle.dicts.specs.Check.{digit, allOf, isDigitType, legalDigit, digitRule, legalTexts, legalNumbers, legalRecord}
 use Rattle.dicts.proofs.LayoutLaws.{number-is, text-is, optional-there, fields-are, record-is}
-use Rattle.table_plain.specs.Plain.{LegalAt, Head, Digit, Numbers, Tail, TailIs, FieldsIs, PlainIs}
+use Rattle.plain_content.specs.Content.{Head, Digit, Numbers}
+use Rattle.table_plain.specs.Plain.{LegalAt, Tail, TailIs, FieldsIs}
 use Rattle.table_plain.specs.declared.Behind.{Behind}
 use Rattle.table_plain.specs.declared.Behind.the-variants as Behind
 use Rattle.ascii_words.specs.Ascii.{Ascii}
@@ -129,37 +127,6 @@ fields-plain least c m s at {type} {rom} {script} {a} {b} h t r u l n d = record
 }
 
 -- ---- what the functions answer
-or-false : (a b : Bool) → (a || b) ≡ false → (a ≡ false) × (b ≡ false)
-or-false false b e = (refl, e)
-or-false true b e = absurd (true≢false e)
-
--- ---- the head, by what is told of it: x is the code point c, and 0 ≤ c needs no test
-module _ (least c m : ℕ) {x : ℕ} {b : Bool} (d : x ≡ c) (told : b ≡ ((eqb (m % 64) 43 && ltb m 128) && leb least x)) where
-  head-told : (leb c 0xD7FF || (leb 0xE000 c && leb c 0x10FFFF)) ≡ true → b ≡ true → Head least c m
-  unfolding legalCodePoint
-  head-told k e =
-      let two = and-true (eqb (m % 64) 43 && ltb m 128) (leb least x) (sym told ∙ e) in
-      let one = and-true (eqb (m % 64) 43) (ltb m 128) (two .0) in
-      let rises : leb least c ≡ true = rw d at (two .1) in
-      record { fields = eqb-true _ _ (one .0); map = ltb-true _ _ (one .1); code = rw (rises, le-leb 0 c (omega arith)) k }
-
-  pub head-below : x ≤ 0xD7FF → b ≡ true → Head least c m
-  head-below l = head-told (rw (le-leb c 0xD7FF (rw d at l)))
-
-  pub head-above : 0xD7FF < x → ((leb 0xE000 x && leb x 0x10FFFF) && b) ≡ true → Head least c m
-  head-above l e =
-      let two = and-true (leb 0xE000 x && leb x 0x10FFFF) b e in
-      let k : (leb 0xE000 c && leb c 0x10FFFF) ≡ true = rw d at (two .0) in
-      let n : leb c 0xD7FF ≡ false = lt-leb c 0xD7FF (rw d at l) in
-      head-told (rw (n, k)) (two .1)
-
-pub numbers-is : (t x v b : ℕ) {w d : ℕ} → w ≡ v → d ≡ b → ((ltb TOP w || eqb d 0) || ltb TOP d) ≡ false → Digit t x w → Numbers t x v b
-numbers-is t x v b {w} {d} ev eb e h =
-    let two = or-false (ltb TOP w || eqb d 0) (ltb TOP d) e in
-    let one = or-false (ltb TOP w) (eqb d 0) (two .0) in
-    let z : d ≡ 0 → ⊥ = eqb-false _ _ (one .1) in
-    record { small = rw (← ev) (ltb-false _ _ (one .0)); positive = rw (← eb) (omega arith); base-small = rw (← eb) (ltb-false _ _ (two .1)); digit = rw (← ev) h }
-
 pub tail-is : (s : List ℕ) (t rom at : ℕ) → 17 ≤ length s - at → getD s (at + 16) 0 ≤ 4 → getD s (at + 16) 0 ≤ length s - at - 17
     → Ascii s (at + 17 + getD s (at + 16) 0 - 4) (at + 17 + getD s (at + 16) 0 - 4 + 4) → Numbers t (leAt s rom 2) (leAt s at 8) (leAt s (at + 8) 8)
     → Tail s t rom at (at + 17 + getD s (at + 16) 0)

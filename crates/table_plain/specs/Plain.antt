@@ -1,8 +1,5 @@
 -- What a look by few tests tells of a record (01, "Record"): nothing where it answers Other. Definitions only.
 --     LegalAt least c f next   the field f holds a legal record with the code point c and ends before next
---     Head least c m           c is a legal code point, and bits 0 to 5 of the map m say: rom, value, base and script, and no other field
---     Digit t x v              where the type's first byte t is that of "digit", a value v of 0 to 9 has the rom of one digit that x says: its length 1, and the digit
---     Numbers t x v b          the value v and the base b are legal, and so is the rom by its first two bytes x and the type's first byte t
 --     Tail s t rom at next     the numbers at an offset are legal, by the rom at another and the type's first byte t, and the script behind them is ASCII and ends before next
 --     TailIs s t rom at r      what the answer r tells of these numbers and the script
 --     FieldsIs s at r          what r tells of the fields behind the map
@@ -11,14 +8,14 @@
 use mathlib.Core.Path.{_≡_}
 use mathlib.Core.Bool.{true}
 use mathlib.Core.List.{List}
-use Prim.Native.Nat.{ℕ, _+_, _*_, _%_, _≤_, _<_}
+use Prim.Native.Nat.{ℕ, _+_, _≤_, _<_}
 use lib.ListN.{length, getD}
 use Rattle.fields.specs.Fields.{leAt}
-use Rattle.whole.specs.Whole.{TOP}
 use Rattle.dicts.specs.Table.{Record}
 use Rattle.dicts.specs.Layout.{Field, Is, readFields, readRecord}
-use Rattle.dicts.specs.Check.{legalCodePoint, legalRecord}
+use Rattle.dicts.specs.Check.{legalRecord}
 use Rattle.ascii_words.specs.Ascii.{Ascii}
+use Rattle.plain_content.specs.Content.{Head, Numbers}
 use Rattle.table_plain.specs.declared.Plain.{Plain}
 use Rattle.table_plain.specs.declared.Plain.the-variants as Plain
 use Rattle.table_plain.specs.declared.Behind.{Behind}
@@ -29,20 +26,6 @@ pub record LegalAt (least c : ℕ) (f : Field Record) (next : ℕ) : Type 0 wher
   pub is : f ≡ Is it next
   pub legal : legalRecord least it ≡ true
   pub point : it .code-point ≡ c
-
-pub record Head (least c m : ℕ) : Type 0 where
-  pub fields : m % 64 ≡ 43
-  pub map : m < 128
-  pub code : legalCodePoint least c ≡ true
-
-abbrev pub Digit : ℕ → ℕ → ℕ → Type 0
-Digit t x v = t ≡ 100 → v ≤ 9 → x ≡ 0x3001 + 256 * v
-
-pub record Numbers (t x v b : ℕ) : Type 0 where
-  pub small : v ≤ TOP
-  pub positive : 0 < b
-  pub base-small : b ≤ TOP
-  pub digit : Digit t x v
 
 pub record Tail (s : List ℕ) (t rom at next : ℕ) : Type 0 where
   pub numbers : Numbers t (leAt s rom 2) (leAt s at 8) (leAt s (at + 8) 8)

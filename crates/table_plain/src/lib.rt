@@ -1,15 +1,13 @@
 // Records as most of a table are, those of the plain table among them: with rom, value, base and script, no other field, and short ASCII strings.
 // They are read and found legal in one go, by few tests: of a record that is not told by them nothing is said, and the general reading decides.
-mod content; // content.rt: the code point and the numbers
-
 ghost use mathlib.Core.Path.{_≡_};
 ghost use Prim.Native.Nat.{ℕ, _+_, _≤_, _<_};
 ghost use lib.ListN.{length, getD};
 ghost use Rattle.table_plain.specs.Plain.{TailIs, FieldsIs, PlainIs};
-use crate::content::legal_head;
-use crate::content::legal_numbers;
 use ascii_words::ascii;
 use ascii_words::low_four;
+use plain_content::legal_head;
+use plain_content::legal_numbers;
 
 // A legal record: its code point, and the offset behind it; any other, or none.
 pub enum Plain {

@@ -1,9 +1,8 @@
 -- Laws of a walk over a listing (`specs/Walk.antt`). No contract cites this file.
 use mathlib.Core.Path.{_≡_, refl, sym, ap, _∙_}
-use mathlib.Core.Bool.{Bool, true, false, cond}
+use mathlib.Core.Bool.{Bool, true, false}
 use mathlib.Core.List.{List}
 use Prim.Native.Nat.{ℕ, zero, suc, _+_, _-_, _≤_, _<_}
-use native.Mathlib.Nat.{le-trans, le-of-eq}
 use native.Mathlib.Omega.{arith}
 use lib.ListN.{length}
 use lib.Dec.{leb}
@@ -13,7 +12,6 @@ use Rattle.edge.specs.Layout.{txtAt, headEnd, nextAt}
 use Rattle.edge.specs.View.{viewAt}
 use Rattle.edge.proofs.LayoutLaws.{if-on, if-off, string-end-ge}
 use Rattle.edge.proofs.CheckLaws.{head-within}
-use Rattle.walk_steps.specs.declared.Here.{Here}
 use Rattle.walk_steps.specs.declared.Here.the-variants.{Edge, End}
 use Rattle.walk_steps.specs.Walk.{whole, hereAt, behind, onward}
 

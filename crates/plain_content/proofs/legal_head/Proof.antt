@@ -1,9 +1,9 @@
--- `table_plain::content::legal_head` meets its contract: its tests are what the definition asks for.
+-- `plain_content::legal_head` meets its contract: its tests are what the definition asks for.
 use borrow.Author.Needs.{needs}
 use native.Mathlib.Omega.{arith}
-use Rattle.table_plain.proofs.PlainLaws.{head-below, head-above}
-use Rattle.table_plain.proofs.content.legal_head.Statement.{statement}
-use Rattle.table_plain.proofs.content.legal_head.Tie as tie
+use Rattle.plain_content.proofs.ContentLaws.{head-below, head-above}
+use Rattle.plain_content.proofs.legal_head.Statement.{statement}
+use Rattle.plain_content.proofs.legal_head.Tie as tie
 
 add-map : tie.Need-add-map
 add-map c = search needs

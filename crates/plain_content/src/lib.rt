@@ -1,11 +1,11 @@
-// What the code point and the numbers of a record may be (01, cause 5).
+// What the code point and the numbers of a record may be (01, cause 5), told by few tests, for the short look of `table_plain`.
 ghost use mathlib.Core.Path.{_≡_};
 ghost use mathlib.Core.Bool.{true, _&&_};
 ghost use Prim.Native.Nat.{_+_, _%_, _≤_};
 ghost use lib.ListN.{length, getD};
 ghost use lib.Dec.{leb, ltb, eqb};
 ghost use Rattle.fields.specs.Fields.{leAt};
-ghost use Rattle.table_plain.specs.Plain.{Head, Digit, Numbers};
+ghost use Rattle.plain_content.specs.Content.{Head, Digit, Numbers};
 
 const TOP: u64 = 9007199254740991;
 

@@ -1,10 +1,10 @@
--- `table_plain::content::legal_numbers` meets its contract.
+-- `plain_content::legal_numbers` meets its contract.
 use mathlib.Core.Path.{sym}
 use mathlib.Core.Bool.{true≢false}
-use Rattle.table_plain.proofs.PlainLaws.{numbers-is}
+use Rattle.plain_content.proofs.ContentLaws.{numbers-is}
 use native.Mathlib.Omega.{arith}
-use Rattle.table_plain.proofs.content.legal_numbers.Statement.{statement}
-use Rattle.table_plain.proofs.content.legal_numbers.Tie as tie
+use Rattle.plain_content.proofs.legal_numbers.Statement.{statement}
+use Rattle.plain_content.proofs.legal_numbers.Tie as tie
 
 u64-at-requires : tie.Need-u64-at-requires
 u64-at-requires c κs = omega arith

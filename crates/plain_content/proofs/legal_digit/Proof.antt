@@ -1,10 +1,10 @@
--- `table_plain::content::legal_digit` meets its contract.
+-- `plain_content::legal_digit` meets its contract.
 use mathlib.Core.Path.{sym, _∙_}
 use borrow.Author.Tests.{eqb-true}
 use native.Mathlib.Omega.{arith}
 use borrow.Author.Needs.{needs}
-use Rattle.table_plain.proofs.content.legal_digit.Statement.{statement}
-use Rattle.table_plain.proofs.content.legal_digit.Tie as tie
+use Rattle.plain_content.proofs.legal_digit.Statement.{statement}
+use Rattle.plain_content.proofs.legal_digit.Tie as tie
 
 returns : tie.Need-returns
 returns c = search needs
