@@ -1,31 +1,13 @@
 // One UTF-8 sequence (Unicode Standard, table 3-7). The words of the contracts are those of `text`, in its specs/Table.antt and specs/Sequence.antt.
 use text::Offset;
-use text::Row;
 use text::Seq;
+use text_row::row_of;
 ghost use mathlib.Core.Path.{_≡_};
 ghost use mathlib.Core.Bool.{cond};
 ghost use Prim.Native.Nat.{_+_, _<_};
 ghost use lib.ListN.{length, drop};
-ghost use Rattle.text.specs.Table.{rowOf, within, six};
+ghost use Rattle.text.specs.Table.{within, six};
 ghost use Rattle.text.specs.Sequence.{seq, trailing};
-
-// The row for a lead byte; of length 0 where no sequence begins with it.
-fn row_of(b: u8) -> Row
-    ensures { λ r. ⌜ r ≡ rowOf b ⌝ }
-{
-    match b {
-        0x00..=0x7F => Row(1, 0, 0),
-        0xC2..=0xDF => Row(2, 0x80, 0xBF),
-        0xE0 => Row(3, 0xA0, 0xBF),
-        0xE1..=0xEC => Row(3, 0x80, 0xBF),
-        0xED => Row(3, 0x80, 0x9F),
-        0xEE..=0xEF => Row(3, 0x80, 0xBF),
-        0xF0 => Row(4, 0x90, 0xBF),
-        0xF1..=0xF3 => Row(4, 0x80, 0xBF),
-        0xF4 => Row(4, 0x80, 0x8F),
-        _ => Row(0, 0, 0),
-    }
-}
 
 fn between(lo: u8, hi: u8, x: u8) -> bool
     ensures { λ r. ⌜ r ≡ within lo hi x ⌝ }

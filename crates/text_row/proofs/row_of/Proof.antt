@@ -1,9 +1,9 @@
--- `text_seq::row_of` meets its contract: each arm of the match is an interval of lead bytes, over which antt computes `rowOf`.
+-- `text_row::row_of` meets its contract: each arm of the match is an interval of lead bytes, over which antt computes `rowOf`.
 use native.Mathlib.Omega.{arith}
 use Rattle.text.specs.Table.{rowOf}
 use Rattle.text.proofs.RowLaws.{row-at}
-use Rattle.text_seq.proofs.row_of.Statement.{statement}
-use Rattle.text_seq.proofs.row_of.Tie as tie
+use Rattle.text_row.proofs.row_of.Statement.{statement}
+use Rattle.text_row.proofs.row_of.Tie as tie
 
 returns : tie.Need-returns
 unfolding rowOf
