@@ -1,2 +1,2 @@
--- Laws of `specs/Look.antt`, for this crate's proofs and its callers'.
-pub mod LookLaws
+-- Laws of the numbers of a record, for this crate's proofs and its callers'.
+pub mod NumbersLaws

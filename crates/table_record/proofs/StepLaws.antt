@@ -11,7 +11,7 @@ use Rattle.dicts.specs.Check.{Refused, item, legalRecord}
 use Rattle.dicts.proofs.LayoutLaws.{record-is}
 use Rattle.dicts.proofs.CheckLaws.{item-fault, item-legal, item-illegal}
 use Rattle.known_record.proofs.WalkLaws.{fields-code}
-use Rattle.table_numbers.proofs.LookLaws.{Looked}
+use Rattle.number_look.proofs.LookLaws.{Looked}
 use Rattle.table_record.specs.Step.{Passed}
 
 module _ (s : List ℕ) (at least : ℕ) (h : at + 5 ≤ length s) (k : getD s (at + 4) 0 < 128) {c : ℕ} (e : c ≡ leAt s at 4) where

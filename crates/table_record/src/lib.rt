@@ -9,15 +9,15 @@ ghost use Rattle.fields.specs.Fields.{leAt};
 ghost use Rattle.dicts.specs.Layout.{bit, mapField, text, optional, readFields};
 ghost use Rattle.dicts.specs.Check.{allOf, legalRecord};
 ghost use Rattle.dicts.specs.Answers.{partOf, optionally, optText, Within, TextWithin};
-ghost use Rattle.table_numbers.specs.Look.{lookField};
+ghost use Rattle.number_look.specs.Look.{lookField};
 ghost use Rattle.table_record.specs.Content.{textsFine, restFine};
 ghost use Rattle.table_record.specs.Step.{StepIs};
 use code_point::legal_code_point;
 use dicts::layout::Part;
 use dicts::layout::TextAt;
 use dicts::layout::text_at;
+use number_look::Look;
 use table_digit::legal_digit;
-use table_numbers::Look;
 use table_numbers::numbers_look;
 
 // What checking a record gives: its code point and the offset behind it, or the refusal's number.

@@ -2,8 +2,9 @@
 use Rattle.dicts.specs.Layout.{bit, number, fraction, optional}
 use Rattle.dicts.specs.Check.{allOf, legalRatio}
 use Rattle.dicts.proofs.LayoutLaws.{told}
-use Rattle.table_numbers.specs.Look.{lookField, fromLeast}
-use Rattle.table_numbers.proofs.LookLaws.{Looked, looked, look-fault, value-fault, ratio-fault, base-fault, mult-fault, numbers-are}
+use Rattle.number_look.specs.Look.{lookField, fromLeast}
+use Rattle.number_look.proofs.LookLaws.{Looked, looked, look-fault}
+use Rattle.table_numbers.proofs.NumbersLaws.{value-fault, ratio-fault, base-fault, mult-fault, numbers-are}
 use borrow.Author.Needs.{needs}
 use Rattle.table_numbers.proofs.numbers_look.Statement.{statement}
 use Rattle.table_numbers.proofs.numbers_look.Tie as tie

@@ -7,8 +7,8 @@ use Rattle.dicts.specs.Layout.{readFields}
 use Rattle.dicts.specs.Check.{legalRecord}
 use Rattle.dicts.proofs.LayoutLaws.{told, record-cut, record-bit-7}
 use Rattle.dicts.proofs.CheckLaws.{item-fault}
-use Rattle.table_numbers.specs.Look.{lookField}
-use Rattle.table_numbers.proofs.LookLaws.{Looked, looked, look-fault}
+use Rattle.number_look.specs.Look.{lookField}
+use Rattle.number_look.proofs.LookLaws.{Looked, looked, look-fault}
 use Rattle.table_record.proofs.StepLaws.{any-passed, any-illegal, any-fault}
 use borrow.Author.Needs.{needs}
 use Rattle.table_record.proofs.any_item.Statement.{statement}

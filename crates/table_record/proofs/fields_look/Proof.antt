@@ -4,8 +4,9 @@ use Rattle.dicts.specs.Layout.{Is, mapField, bit, text, optional, readNumbers}
 use Rattle.dicts.specs.Check.{legalNumbers, legalRecord}
 use Rattle.dicts.specs.Answers.{partOf, optionally, textField, optText}
 use Rattle.dicts.proofs.LayoutLaws.{type-fault, rom-fault, numbers-fault, script-fault, fields-are, told, within-told}
-use Rattle.table_numbers.specs.Look.{lookField}
-use Rattle.table_numbers.proofs.LookLaws.{Looked, looked, look-fault, value-told}
+use Rattle.number_look.specs.Look.{lookField}
+use Rattle.number_look.proofs.LookLaws.{Looked, looked, look-fault}
+use Rattle.table_numbers.proofs.NumbersLaws.{value-told}
 use Rattle.table_record.proofs.RecordLaws.{legal-is}
 use borrow.Author.Needs.{needs}
 use Rattle.table_record.proofs.fields_look.Statement.{statement}

@@ -8,8 +8,8 @@ use lib.Dec.{leb}
 use Rattle.whole.specs.Whole.{TOP}
 use Rattle.dicts.specs.Layout as Layout
 use Rattle.dicts.specs.Layout.{Field, Is}
-use Rattle.table_numbers.specs.declared.Look.{Look}
-use Rattle.table_numbers.specs.declared.Look.the-variants as Look
+use Rattle.number_look.specs.declared.Look.{Look}
+use Rattle.number_look.specs.declared.Look.the-variants as Look
 
 abbrev pub lookField : Look → Field Bool
 lookField (Look.Field b next) = Is b next

@@ -1,12 +1,12 @@
--- `table_numbers::ratio_look` meets its contract: the numerator, then the denominator.
+-- `number_look::ratio_look` meets its contract: the numerator, then the denominator.
 use Rattle.dicts.specs.Layout.{number, optional}
 use Rattle.dicts.specs.Check.{allOf}
 use Rattle.dicts.proofs.LayoutLaws.{told}
-use Rattle.table_numbers.specs.Look.{lookField, fromLeast}
-use Rattle.table_numbers.proofs.LookLaws.{Looked, looked, look-fault, numerator-fault, denominator-fault, ratio-is}
+use Rattle.number_look.specs.Look.{lookField, fromLeast}
+use Rattle.number_look.proofs.LookLaws.{Looked, looked, look-fault, numerator-fault, denominator-fault, ratio-is}
 use borrow.Author.Needs.{needs}
-use Rattle.table_numbers.proofs.ratio_look.Statement.{statement}
-use Rattle.table_numbers.proofs.ratio_look.Tie as tie
+use Rattle.number_look.proofs.ratio_look.Statement.{statement}
+use Rattle.number_look.proofs.ratio_look.Tie as tie
 
 first : (c : tie.After-known-told) → let k = c .before in let a = k .before .before .before .before .args in
     Looked (allOf (fromLeast 0)) (optional (a .there) (number 8) (a .s .now) (a .at)) (k .numerator .given .0 .0) (k .numerator .given .0 .1 .0)

@@ -1,21 +1,18 @@
 -- Laws of looks at fields (`specs/Look.antt`). No contract cites this file.
--- In order: what an answer told; a field that may be absent; a number; a fraction; the numbers of a record; its value.
+-- In order: what an answer told; a field that may be absent; a number; a fraction.
 use mathlib.Core.Path.{_≡_, refl, sym, ap, _∙_}
-use mathlib.Core.Bool.{Bool, true, false, cond, _&&_, false≢true}
+use mathlib.Core.Bool.{Bool, true, false, _&&_}
 use mathlib.Core.List.{List}
-use mathlib.Core.Option.{Option, none, some}
+use mathlib.Core.Option.{none, some}
 use Prim.Native.Nat.{ℕ, _+_, _≤_, _<_}
 use native.Mathlib.Omega.{arith}
-use native.Mathlib.Decide.{decLe}
 use lib.ListN.{length}
-use lib.Dec.{leb, ltb}
 use borrow.Author.Tests.{le-leb}
 use Rattle.fields.specs.Fields.{leAt}
-use Rattle.dicts.specs.Layout.{Field, Is, Fault, mapField, bit, number, fraction, optional, Numbers, readNumbers}
-use Rattle.dicts.specs.Check.{allOf, small, positive, legalRatio, legalNumbers}
-use Rattle.dicts.specs.Answers.{optionally}
-use Rattle.dicts.proofs.LayoutLaws.{no-fault, then-is, number-cut, number-is, optional-absent, optional-there}
-use Rattle.table_numbers.specs.Look.{fromLeast}
+use Rattle.dicts.specs.Layout.{Field, Is, Fault, mapField, number, fraction, optional}
+use Rattle.dicts.specs.Check.{allOf, small, positive, legalRatio}
+use Rattle.dicts.proofs.LayoutLaws.{number-cut, number-is, optional-absent, optional-there}
+use Rattle.number_look.specs.Look.{fromLeast}
 
 -- ---- what an answer told of a field f of which p is asked
 pub record Looked {A B : Type 0} (p : A → B) (f : Field A) (b : B) (next : ℕ) : Type 0 where
@@ -54,18 +51,8 @@ module _ (k : ℕ) (s : List ℕ) (at : ℕ) {b : Bool} (e : b ≡ true) where
   pub number-there : {n : ℕ} → n ≡ leAt s at 8 → at + 8 ≤ length s → Is (fromLeast k n) (at + 8) ≡ mapField (allOf (fromLeast k)) (optional b (number 8) s at)
   number-there z h = rw z (ap (mapField (fromLeast k)) (sym (number-is s at 8 h)) ∙ look-there (fromLeast k) (number 8) s at e)
 
-from-zero : (n : ℕ) → fromLeast 0 n ≡ small n
+pub from-zero : (n : ℕ) → fromLeast 0 n ≡ small n
 from-zero n = simp (le-leb 0 n (omega arith))
-
-all-small : (o : Option ℕ) → allOf (fromLeast 0) o ≡ allOf small o
-unfolding allOf
-all-small none = refl
-all-small (some n) = from-zero n
-
-all-positive : (o : Option ℕ) → allOf (fromLeast 1) o ≡ allOf positive o
-unfolding allOf
-all-positive none = refl
-all-positive (some n) = refl
 
 -- ---- a fraction
 module _ (s : List ℕ) (at : ℕ) where
@@ -95,49 +82,3 @@ module _ (s : List ℕ) (at : ℕ) where
       let a : true ≡ x = ap (allOf (fromLeast 0)) (let o : none ≡ n .it = cc (n .is) in o) ∙ n .says in
       let c : true ≡ y = ap (allOf (fromLeast 1)) (let o : none ≡ d .it = cc (d .is) in o) ∙ d .says in
       rw (← a, ← c, ← f, ← e)
-
--- ---- the numbers of a record, one after the other
-module _ (m : ℕ) (s : List ℕ) (at : ℕ) where
-  pub value-fault : optional (bit m 1) (number 8) s at ≡ Fault → Fault ≡ mapField legalNumbers (readNumbers m s at)
-  unfolding readNumbers
-  value-fault e = rw e
-
-  module _ {x : Bool} {a : ℕ} (v : Looked (allOf (fromLeast 0)) (optional (bit m 1) (number 8) s at) x a) where
-    pub ratio-fault : optional (bit m 2) fraction s a ≡ Fault → Fault ≡ mapField legalNumbers (readNumbers m s at)
-    unfolding readNumbers
-    ratio-fault e = rw (v .is, e)
-
-    module _ {y : Bool} {b : ℕ} (r : Looked (allOf legalRatio) (optional (bit m 2) fraction s a) y b) where
-      pub base-fault : optional (bit m 3) (number 8) s b ≡ Fault → Fault ≡ mapField legalNumbers (readNumbers m s at)
-      unfolding readNumbers
-      base-fault e = rw (v .is, r .is, e)
-
-      module _ {z : Bool} {c : ℕ} (t : Looked (allOf (fromLeast 1)) (optional (bit m 3) (number 8) s b) z c) where
-        pub mult-fault : optional (bit m 4) (number 8) s c ≡ Fault → Fault ≡ mapField legalNumbers (readNumbers m s at)
-        unfolding readNumbers
-        mult-fault e = rw (v .is, r .is, t .is, e)
-
-        pub numbers-are : {w : Bool} {next : ℕ} → Looked (allOf (fromLeast 0)) (optional (bit m 4) (number 8) s c) w next → Is (((x && y) && z) && w) next ≡ mapField legalNumbers (readNumbers m s at)
-        unfolding readNumbers legalNumbers
-        numbers-are u = rw (v .is, r .is, t .is, u .is, ← all-small (v .it), v .says, r .says, ← all-positive (t .it), t .says, ← all-small (u .it), u .says)
-
--- ---- the value by itself, for the rule of digits
-opt-number : (b : Bool) (s : List ℕ) (at : ℕ) {o : Option ℕ} {next : ℕ} → optional b (number 8) s at ≡ Is o next → (o ≡ optionally b (leAt s at 8)) × (b ≡ true → at + 8 ≤ length s)
-unfolding optional
-opt-number true s at {o} {next} e = go (decLe (at + 8) (length s))
-  where
-    go : Dec (at + 8 ≤ length s) → (o ≡ some (leAt s at 8)) × (true ≡ true → at + 8 ≤ length s)
-    go (yes k) = let q = number-is s at 8 k in (let f : Is (some (leAt s at 8)) (at + 8) ≡ Is o next = rw q at e in cc, λ z. k)
-    go (no k) = no-fault (rw (number-cut s at 8 (omega arith))) e
-opt-number false s at e = (cc, λ z. absurd (false≢true z))
-
-pub value-told : (m : ℕ) (s : List ℕ) (at : ℕ) {n : Numbers} {next : ℕ} → readNumbers m s at ≡ Is n next → (n .value ≡ optionally (bit m 1) (leAt s at 8)) × (bit m 1 ≡ true → at + 8 ≤ length s)
-unfolding readNumbers
-value-told m s at {n} e =
-    let v = then-is (optional (bit m 1) (number 8) s at) _ e in
-    let r = then-is (optional (bit m 2) fraction s (v .next)) _ (v .rest) in
-    let b = then-is (optional (bit m 3) (number 8) s (r .next)) _ (r .rest) in
-    let u = then-is (optional (bit m 4) (number 8) s (b .next)) _ (b .rest) in
-    let q : record { value = v .value; fraction = r .value; base = b .value; mult = u .value } ≡ n = cc in
-    let k = opt-number (bit m 1) s at (v .first) in
-    (rw (← q) (k .0), k .1)

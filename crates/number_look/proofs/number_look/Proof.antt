@@ -1,12 +1,12 @@
--- `table_numbers::number_look` meets its contract: the number is absent, cut off or there.
+-- `number_look::number_look` meets its contract: the number is absent, cut off or there.
 use native.Mathlib.Omega.{arith}
 use borrow.Author.Tests.{not-true, not-false}
 use borrow.Author.Needs.{needs}
 use Rattle.dicts.specs.Layout.{number}
-use Rattle.table_numbers.specs.Look.{fromLeast}
-use Rattle.table_numbers.proofs.LookLaws.{look-absent, number-cut-off, number-there}
-use Rattle.table_numbers.proofs.number_look.Statement.{statement}
-use Rattle.table_numbers.proofs.number_look.Tie as tie
+use Rattle.number_look.specs.Look.{fromLeast}
+use Rattle.number_look.proofs.LookLaws.{look-absent, number-cut-off, number-there}
+use Rattle.number_look.proofs.number_look.Statement.{statement}
+use Rattle.number_look.proofs.number_look.Tie as tie
 
 returns : tie.Need-returns
 returns c = look-absent (fromLeast (c .before .before .args .least)) (number 8) _ _ (not-true _ (c .if1 .taken))

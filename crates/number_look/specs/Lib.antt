@@ -1,0 +1,2 @@
+-- The definitions that the contracts of `number_look` and its callers cite besides those of `dicts`.
+pub mod Look
