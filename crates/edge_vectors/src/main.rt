@@ -2,100 +2,24 @@
 // `stdout` has the expected answers, worked out by hand from the scope: the offset of the faulty edge, of the edge that is missing, or of what is left over.
 ghost use Prim.Native.Nat.{_<_};
 
-// The answer for a listing over a line of three characters.
-fn show(s: &[u8], given: bool) {
-    match edge_check::check_listing(s, 3, given) {
-        edge::ListingCheck::Edges(count) => {
-            io::write_all(1, b"edges ");
-            io::print_decimal(1, count as u64);
-        }
-        edge::ListingCheck::Refused(at) => {
-            io::write_all(1, b"refused 6 ");
-            io::print_decimal(1, at.0 as u64);
-        }
-    }
+fn say(word: &[u8], n: usize) {
+    io::write_all(1, word);
+    io::print_decimal(1, n as u64);
     io::write_all(1, b"\n");
 }
 
-// Two edges: a regular one at offset 2, and at offset 14 a numeric one with every field. Its value is a NaN, its base 0.
+// The answer for a listing over a line of three characters.
+fn show(s: &[u8], given: bool) {
+    match edge_check::check_listing(s, 3, given) {
+        edge::ListingCheck::Edges(count) => say(b"edges ", count),
+        edge::ListingCheck::Refused(at) => say(b"refused 6 ", at.0),
+    }
+}
+
+// Two edges: a regular one at offset 2, and at offset 14 a numeric one with every field. 0: the count; 2, 14: map; 4, 16: start; 6, 18: end; 8, 20: type "t"; 11, 23: txt "x";
+// 26: orig_txt "o"; 29: value, a NaN; 37: numerator; 45: denominator; 53: base, 0; 61: base_multiplier; 69: script "c"; 72: value_s "v".
 fn listing() -> [u8; 75] {
-    [
-        2,
-        0, // the count
-        0,
-        0,
-        0,
-        0,
-        1,
-        0, // map, start, end
-        1,
-        0,
-        116,
-        1,
-        0,
-        120, // type "t", txt "x"
-        255,
-        1,
-        0,
-        0,
-        1,
-        0, // 14: map, 16: start, 18: end
-        1,
-        0,
-        116,
-        1,
-        0,
-        120, // 20: type "t", 23: txt "x"
-        1,
-        0,
-        111, // 26: orig_txt "o"
-        1,
-        0,
-        0,
-        0,
-        0,
-        0,
-        248,
-        127, // 29: value
-        1,
-        0,
-        0,
-        0,
-        0,
-        0,
-        0,
-        0, // 37: numerator
-        2,
-        0,
-        0,
-        0,
-        0,
-        0,
-        0,
-        0, // 45: denominator
-        0,
-        0,
-        0,
-        0,
-        0,
-        0,
-        0,
-        0, // 53: base
-        255,
-        255,
-        255,
-        255,
-        255,
-        255,
-        255,
-        255, // 61: base_multiplier
-        1,
-        0,
-        99, // 69: script "c"
-        1,
-        0,
-        118, // 72: value_s "v"
-    ]
+    *b"\x02\x00\x00\x00\x00\x00\x01\x00\x01\x00t\x01\x00x\xff\x01\x00\x00\x01\x00\x01\x00t\x01\x00x\x01\x00o\x01\x00\x00\x00\x00\x00\xf8\x7f\x01\x00\x00\x00\x00\x00\x00\x00\x02\x00\x00\x00\x00\x00\x00\x00\x00\x00\x00\x00\x00\x00\x00\x00\xff\xff\xff\xff\xff\xff\xff\xff\x01\x00c\x01\x00v"
 }
 
 // Every length that cuts the listing off, from 0 bytes on, and the whole listing at last.
@@ -117,7 +41,8 @@ fn damaged(at: usize, byte: u8)
     show(&s, false);
 }
 
-fn counts() {
+// Counts, lengths and maps.
+fn layout() {
     damaged(0, 3); // a third edge would begin at the end: 75
     damaged(0, 1); // the second edge is left over: 14
     damaged(0, 0); // both are: 2
@@ -128,9 +53,6 @@ fn counts() {
     damaged(26, 255);
     damaged(69, 2); // one byte too long
     damaged(72, 2);
-}
-
-fn maps() {
     damaged(2, 1); // numeric, with a length of 511 for orig_txt: 2
     damaged(2, 2); // a bit without bit 0: 2
     damaged(3, 2); // bit 9: 2
@@ -141,7 +63,8 @@ fn maps() {
     damaged(14, 63); // no large power, and inactive: accepted
 }
 
-fn spans() {
+// Spans, strings and numbers.
+fn contents() {
     damaged(6, 0); // end at start: 2
     damaged(4, 1); // start at end: 2
     damaged(6, 3); // the end of the line: accepted
@@ -150,9 +73,6 @@ fn spans() {
     damaged(18, 0); // end at start: 14
     damaged(16, 2); // start after end: 14
     damaged(18, 4); // past the line: 14
-}
-
-fn contents() {
     damaged(10, 255); // an ill-formed type: 2
     damaged(13, 128); // an ill-formed txt: 2
     damaged(22, 192); // and so for the strings of the second edge: 14
@@ -170,9 +90,7 @@ fn contents() {
 
 fn main() {
     cuts();
-    counts();
-    maps();
-    spans();
+    layout();
     contents();
     let s = listing();
     show(&s, true); // a numeric edge that is given: 14
