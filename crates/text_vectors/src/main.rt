@@ -38,6 +38,7 @@ fn answer(line: &[u8]) {
 fn take_apart(digits: &[u8], bytes: &mut [u8]) {
     let n = vectors::unhex(digits, bytes);
     show_first(bytes, n);
+    io::write_all(1, b"\n");
 }
 
 fn show_first(bytes: &[u8], n: usize)
@@ -49,37 +50,32 @@ fn show_first(bytes: &[u8], n: usize)
 fn show(line: &[u8]) {
     match line_check::check_line(line) {
         LineCheck::Chars(n) => {
-            io::write_all(1, b"chars ");
-            io::print_decimal(1, n as u64);
+            say(b"chars ", n);
             each(line, n);
         }
-        LineCheck::IllFormed(at) => {
-            refused(2, at);
-        }
-        LineCheck::TooLong(at) => {
-            refused(3, at);
-        }
+        LineCheck::IllFormed(at) => say(b"refused 2 ", at.0),
+        LineCheck::TooLong(at) => say(b"refused 3 ", at.0),
     }
-    io::write_all(1, b"\n");
 }
 
-fn refused(number: u64, at: Offset) {
-    io::write_all(1, b"refused ");
-    io::print_decimal(1, number);
-    io::write_all(1, b" ");
-    io::print_decimal(1, at.0 as u64);
+fn say(word: &[u8], n: usize) {
+    io::write_all(1, word);
+    io::print_decimal(1, n as u64);
+}
+
+// The character at an offset.
+fn show_char(line: &[u8], at: Offset) {
+    say(b" ", at.0);
+    io::write_all(1, b":");
+    if let Seq::Char(c, _) = text_seq::seq_at(line, at) {
+        io::print_hex(1, c as u64, 1);
+    }
 }
 
 fn each(line: &[u8], n: usize) {
     let mut p = 0;
     while p < n {
-        let at = text_line::offset_of(line, Place(p));
-        io::write_all(1, b" ");
-        io::print_decimal(1, at.0 as u64);
-        io::write_all(1, b":");
-        if let Seq::Char(c, _) = text_seq::seq_at(line, at) {
-            io::print_hex(1, c as u64, 1);
-        }
+        show_char(line, text_line::offset_of(line, Place(p)));
         p += 1;
     }
 }

@@ -5,10 +5,10 @@ use Rattle.text_vectors.proofs.each.Statement.{statement}
 use Rattle.text_vectors.proofs.each.Tie as tie
 
 abbrev Inv-loop : tie.InvT-loop
-Inv-loop line n p₀ t6 t7 p = p ≤ n
+Inv-loop line n p₀ p = p ≤ n
 
 abbrev μ-loop : tie.MeasureT-loop
-μ-loop line n p₀ t6 t7 p = n - p
+μ-loop line n p₀ p = n - p
 
 loop-holds : tie.Need-loop-holds Inv-loop μ-loop
 loop-holds c = search needs
@@ -16,32 +16,8 @@ loop-holds c = search needs
 offset-of-requires : tie.Need-offset-of-requires Inv-loop μ-loop
 offset-of-requires c κs = search needs
 
-slice-aggregate-write-all : tie.Need-slice-aggregate-write-all Inv-loop μ-loop
-slice-aggregate-write-all c = search needs
-
-write-all-requires : tie.Need-write-all-requires Inv-loop μ-loop
-write-all-requires c κs = search needs
-
-print-decimal-requires : tie.Need-print-decimal-requires Inv-loop μ-loop
-print-decimal-requires c κs = search needs
-
-slice-aggregate-write-all-2 : tie.Need-slice-aggregate-write-all-2 Inv-loop μ-loop
-slice-aggregate-write-all-2 c = search needs
-
-write-all-requires-2 : tie.Need-write-all-requires-2 Inv-loop μ-loop
-write-all-requires-2 c κs = search needs
-
-seq-at-requires : tie.Need-seq-at-requires Inv-loop μ-loop
-seq-at-requires c κs = search needs
-
-enum-known-c : tie.Need-enum-known-c Inv-loop μ-loop
-enum-known-c c = search needs
-
-cast-print-hex : tie.Need-cast-print-hex Inv-loop μ-loop
-cast-print-hex c = search needs
-
-print-hex-requires : tie.Need-print-hex-requires Inv-loop μ-loop
-print-hex-requires c κs = search needs
+show-char-requires : tie.Need-show-char-requires Inv-loop μ-loop
+show-char-requires c κs = search needs
 
 add-p : tie.Need-add-p Inv-loop μ-loop
 add-p c = search needs
@@ -63,15 +39,7 @@ each-spec =
     μ-loop
     loop-holds
     offset-of-requires
-    slice-aggregate-write-all
-    write-all-requires
-    print-decimal-requires
-    slice-aggregate-write-all-2
-    write-all-requires-2
-    seq-at-requires
-    enum-known-c
-    cast-print-hex
-    print-hex-requires
+    show-char-requires
     add-p
     loop-less
     loop-again
