@@ -1,7 +1,5 @@
 // Replays texts against the crate `text`. A line of standard input is a text in hexadecimal, or a remark that begins with #, which is written as it is.
 // Of each text it writes the refusal and its offset, or how many characters it has and then each one's offset and code point.
-ghost use Prim.Native.Nat.{_≤_};
-ghost use lib.ListN.{length};
 use text::LineCheck;
 use text::Offset;
 use text::Place;
@@ -37,14 +35,8 @@ fn answer(line: &[u8]) {
 // The text that a line's digits say, in a lent buffer, is shown.
 fn take_apart(digits: &[u8], bytes: &mut [u8]) {
     let n = vectors::unhex(digits, bytes);
-    show_first(bytes, n);
+    show(&bytes[0..n]);
     io::write_all(1, b"\n");
-}
-
-fn show_first(bytes: &[u8], n: usize)
-    requires { ⌜ n ≤ length (now bytes) ⌝ }
-{
-    show(&bytes[..n]);
 }
 
 fn show(line: &[u8]) {
