@@ -3,7 +3,6 @@
 // offset. Which case is the first that differs: `tools/replay_cases.py differ`.
 ghost use Prim.Native.Nat.{_≤_};
 ghost use lib.ListN.{length};
-ghost use Rattle.io.specs.Counts.{Counts};
 use call::Answer;
 
 // A proved loop has to end, and nothing says that the input does: no more cases are read than this.
@@ -11,14 +10,14 @@ const MOST: u64 = 1000000;
 
 // As many bytes as the head says at an offset, to the start of a buffer. Where it says none, there are still those before.
 fn read(head: &[u8; 6], at: usize, space: &mut [u8], before: usize) -> usize
-    requires { ⌜ (at ≤ 4) × (65536 ≤ length (now space)) × Counts before (now space) ⌝ }
-    ensures { λ r. ⌜ Counts r (now (space .exit)) ⌝ }
+    requires { ⌜ (at ≤ 4) × (65536 ≤ length (now space)) × (before ≤ length (now space)) ⌝ }
+    ensures { λ r. ⌜ r ≤ length (now (space .exit)) ⌝ }
 {
     let n = fields::u16_at(head, at) as usize;
     if n == 0 {
         return before;
     }
-    if io::read_full(0, &mut space[..n]) < n {
+    if io::read_full(0, &mut space[0..n]) < n {
         io::write_all(1, b"a case is cut off\n");
     }
     n
@@ -56,15 +55,15 @@ fn answer(line: &[u8], table: &[u8], edges: &[u8]) {
 
 // A case, with the length of the table before it. Returns that of its own.
 fn case(head: &[u8; 6], table: &mut [u8], before: usize) -> usize
-    requires { ⌜ (65536 ≤ length (now table)) × Counts before (now table) ⌝ }
-    ensures { λ r. ⌜ Counts r (now (table .exit)) ⌝ }
+    requires { ⌜ (65536 ≤ length (now table)) × (before ≤ length (now table)) ⌝ }
+    ensures { λ r. ⌜ r ≤ length (now (table .exit)) ⌝ }
 {
     let mut line = io::large_buffer();
     let mut edges = io::large_buffer();
     let l = read(head, 0, &mut line, 0);
     let t = read(head, 2, table, before);
     let e = read(head, 4, &mut edges, 0);
-    answer(&line[..l], &table[..t], &edges[..e]);
+    answer(&line[0..l], &table[0..t], &edges[0..e]);
     t
 }
 

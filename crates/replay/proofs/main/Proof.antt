@@ -1,14 +1,13 @@
 -- `replay::main` is safe and ends. The loop's invariant: the last table lies in its buffer. The measure is what is left of the most cases that are read.
 use mathlib.Core.Path.{_≡_}
-use Prim.Native.Nat.{_-_}
+use Prim.Native.Nat.{_≤_, _-_}
 use lib.ListN.{length}
-use Rattle.io.specs.Counts.{Counts}
 use borrow.Author.Needs.{needs}
 use Rattle.replay.proofs.main.Statement.{statement}
 use Rattle.replay.proofs.main.Tie as tie
 
 abbrev Inv-loop : tie.InvT-loop
-Inv-loop head₀ table₀ t₀ k₀ head table t k = (6 ≡ length head) × (65536 ≡ length table) × Counts t table
+Inv-loop head₀ table₀ t₀ k₀ head table t k = (6 ≡ length head) × (65536 ≡ length table) × (t ≤ length table)
 
 abbrev μ-loop : tie.MeasureT-loop
 μ-loop head₀ table₀ t₀ k₀ head table t k = 1000000 - k
