@@ -152,18 +152,6 @@ module _ (m at n : ℕ) (h : multAt m at + 8 * (m / 16 % 2) ≤ n) where
     pub ratio-fits : Fits w64 (ratioAt m at)
     ratio-fits = record { fits = omega arith }
 
-    pub denominator-fits : Fits w64 (ratioAt m at + 8 * (m / 4 % 2))
-    denominator-fits = record { fits = omega arith }
-
-    pub base-fits : Fits w64 (baseAt m at)
-    base-fits = record { fits = omega arith }
-
-    pub mult-fits : Fits w64 (multAt m at)
-    mult-fits = record { fits = omega arith }
-
-    pub end-fits : Fits w64 (multAt m at + 8 * (m / 16 % 2))
-    end-fits = record { fits = omega arith }
-
 module _ (m : ℕ) (s : List ℕ) (at : ℕ) where
   pub numbers-are : (v n d b u : ℕ) → multAt m at + 8 * (m / 16 % 2) ≤ length s
       → v ≡ numberIf (bit m 1) s at → n ≡ numberIf (bit m 2) s (ratioAt m at) → d ≡ numberIf (bit m 2) s (ratioAt m at + 8 * (m / 4 % 2))
@@ -258,14 +246,6 @@ Ends s (Is a next) = next ≤ length s
 Ends s Fault = Unit {0}
 
 module _ (s : List ℕ) (at : ℕ) where
-  number-ends : (w : ℕ) → Ends s (number w s at)
-  unfolding number
-  number-ends w = go (leb (at + w) (length s)) refl
-    where
-      go : (b : Bool) → leb (at + w) (length s) ≡ b → Ends s (cond b (Is (leAt s at w) (at + w)) Fault)
-      go true e = leb-true _ _ e
-      go false e = tt
-
   textOf-ends : (n : ℕ) → Ends s (textOf s at n)
   unfolding textOf
   textOf-ends n = go (leb n 60) (leb (at + n) (length s)) refl

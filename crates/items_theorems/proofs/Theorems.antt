@@ -23,7 +23,6 @@ use Rattle.edge_theorems.specs.Legal.{Legal}
 use Rattle.edge_theorems.proofs.Theorems.{f64-bits-fit}
 use Rattle.pass_list.specs.Item.{Item, Every, nil, cons}
 use Rattle.pass_list.specs.Edges.{between, edgeOf, txtOf}
-use Rattle.pass_edges.specs.InTurn.{ofKind}
 use Rattle.stages.specs.CallEdge.{Short, CallEdge, CallEdges}
 use Rattle.stages.proofs.CallLaws.{allowed-map}
 use Rattle.numbers.specs.Listed.{listedEdge}
@@ -133,16 +132,3 @@ module _ (w t : List ℕ) (scalars : Scalars w) (few : length w ≤ 256) where
   pub items-call : (l : List Item) → Sounds w t l → CallEdges (length w) (map listedEdge (map (edgeOf w t) l))
   items-call [] nil = nil
   items-call (x ∷ l) (cons s h) = cons (item-call w t x s scalars few) (items-call l h)
-
-  kind-sounds : (k : ℕ) (l : List Item) → Sounds w t l → Sounds w t (ofKind k l)
-  unfolding ofKind
-  kind-sounds k [] nil = nil
-  kind-sounds k (x ∷ l) (cons s h) = go (eqb (x .kind) k) (kind-sounds k l h)
-    where
-      go : (b : Bool) → Sounds w t (ofKind k l) → Sounds w t (cond b (x ∷ ofKind k l) (ofKind k l))
-      go true r = cons s r
-      go false r = r
-
-  -- what `add_of_kind` adds
-  pub of-kind-call : (k : ℕ) (l : List Item) → Sounds w t l → CallEdges (length w) (map listedEdge (map (edgeOf w t) (ofKind k l)))
-  of-kind-call k l h = items-call (ofKind k l) (kind-sounds k l h)

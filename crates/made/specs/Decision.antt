@@ -4,7 +4,7 @@
 --     choice f i j, noChoice      a choice, and the one that makes nothing
 --     optionOf v                  the value that the code read
 --     WholeValued e               the value of the edge e, if it has one, is a whole number up to TOP
---     otherwiseOf, bothOf, withValuesOf, betweenOf, markedOf
+--     otherwiseOf, bothOf, withValuesOf, betweenOf
 -- Assumes nothing.
 use mathlib.Core.Path.{_≡_}
 use mathlib.Core.Bool.{Bool, cond, _&&_, not}
@@ -56,6 +56,3 @@ abbrev pub betweenOf : Bool → Choice → List Edge → ℕ → ℕ → Choice
 betweenOf percent other es zero y = other
 betweenOf percent other es (suc i) zero = other
 betweenOf percent other es (suc i) (suc j) = withValuesOf percent other i (wholeValue (getD es i noEdge)) j (wholeValue (getD es j noEdge))
-
-unfoldable pub markedOf : Bool → List Edge → ℕ → ℕ → Choice
-markedOf percent es x y = betweenOf percent (otherwiseOf percent es y) es x y

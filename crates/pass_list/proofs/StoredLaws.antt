@@ -161,9 +161,6 @@ pub items-cons : (s : List ℕ) (i n : ℕ) → i < n → itemsAt s i (n - i) �
 unfolding itemsAt
 items-cons s i n h = let e : n - i ≡ suc (n - suc i) = omega arith in rw (add-one i, e)
 
-pub items-first : (s : List ℕ) (n : ℕ) → 0 < n → itemsAt s 0 n ≡ itemAt s 0 ∷ itemsAt s 1 (n - 1)
-items-first s n h = let e : n - 0 ≡ n = omega arith in rw e at (items-cons s 0 n h)
-
 pub items-none : (s : List ℕ) (i n : ℕ) → n ≤ i → itemsAt s i (n - i) ≡ []
 unfolding itemsAt
 items-none s i n h = let e : n - i ≡ 0 = omega arith in rw e
@@ -195,9 +192,6 @@ unfolding itemsAt
 small-at s i zero j a h = absurd (omega arith)
 small-at s i (suc n) zero (cons x a) h = rw add-zero x
 small-at s i (suc n) (suc j) (cons x a) h = let e : i + suc j ≡ suc i + j = omega arith in rw e (small-at s (suc i) n j a (omega arith))
-
-pub small-in : (s : List ℕ) (n j : ℕ) → AllSmall (itemsAt s 0 n) → j < n → Small (itemAt s (j * 56))
-small-in s n j a h = let e : j * 56 ≡ (0 + j) * 56 = omega arith in rw e (small-at s 0 n j a h)
 
 -- the bytes behind the i-th record stay as they are where earlier ones are written
 pub behind-put : (s t : List ℕ) (i k : ℕ) (x : Item) → k < i → drop (i * 56) t ≡ drop (i * 56) s → drop (i * 56) (sets t (k * 56) (recordBytes x)) ≡ drop (i * 56) s

@@ -1,7 +1,7 @@
 -- Laws of `from` and `chains` (`specs/Chains.antt`), for the proof of a pass's loop and for theorems on passes. No contract cites this file.
 -- In order: the clauses of `from` as laws; a turn of a loop that takes the list from the left.
 use mathlib.Core.Path.{_≡_, refl}
-use mathlib.Core.List.{List, [], _∷_, _++_, append-assoc}
+use mathlib.Core.List.{List, [], _∷_}
 use mathlib.Core.Option.{Option, none, some}
 use Rattle.passes.specs.Chains.{from, chains}
 
@@ -35,12 +35,3 @@ module _ {A S : Type 0} (begin : A → S) (next : S → A → Option S) where
       go : (o : Option S) → next s a ≡ o → ((t : S) → (u : S) × (us : List S) × (from begin next t l ≡ u ∷ us)) → (t : S) × (ts : List S) × (from begin next s (a ∷ l) ≡ t ∷ ts)
       go none e ih = (s, from begin next (begin a) l, from-none s a l e)
       go (some t) e ih = let (u, us, h) = ih t in (u, us, rw (from-some s t a l e) h)
-
-  -- ---- a turn of a pass's loop: `done` are the chains that ended, s is open, a comes next
-  pub turn-ends : (done : List S) {all : List S} (s : S) (a : A) (l : List A) → next s a ≡ none → done ++ from begin next s (a ∷ l) ≡ all
-      → (done ++ (s ∷ [])) ++ from begin next (begin a) l ≡ all
-  turn-ends done s a l e so-far = rw (append-assoc, ← (from-none s a l e)) so-far
-
-  pub turn-takes : (done : List S) {all : List S} (s t : S) (a : A) (l : List A) → next s a ≡ some t → done ++ from begin next s (a ∷ l) ≡ all
-      → done ++ from begin next t l ≡ all
-  turn-takes done s t a l e so-far = rw (← (from-some s t a l e)) so-far

@@ -5,7 +5,7 @@
 --     score skip q e       a longer span scores higher, then a better class; 0: e is no answer
 --     best skip q xs       of edges with labels, the first of the highest score; none where each scores 0
 --     numbered i es        the edges es with their indices, from i on, as labels
---     rightNeighbor ..     the best of a list of edges, with its index; leftNeighbor, bestEdge likewise
+--     rightNeighbor ..     the best of a list of edges, with its index; leftNeighbor likewise
 --     withOffsets k s at   the k edges of a listing from an offset on, with their offsets as labels
 --     Whole k s at         these edges are within s
 --     found b              the answer of the code: the label, an offset, or none
@@ -88,9 +88,6 @@ best skip q xs = bestFrom skip q none xs
 unfoldable pub numbered : ℕ → List Edge → List (ℕ × Edge)
 numbered i [] = []
 numbered i (e ∷ es) = (i, e) ∷ numbered (suc i) es
-
-abbrev pub bestEdge : Bool → List Edge → ℕ → ℕ → Best
-bestEdge skip es a z = best skip (Span (record { 0 = a }) (record { 0 = z })) (numbered 0 es)
 
 abbrev pub rightNeighbor : Bool → List Edge → ℕ → Best
 rightNeighbor skip es p = best skip (Right (record { 0 = p })) (numbered 0 es)

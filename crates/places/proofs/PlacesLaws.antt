@@ -9,7 +9,7 @@ use lib.Seq.{getD-set-same, getD-set-other}
 use borrow.Author.Count.{below-more}
 use Rattle.fields.specs.Part.{part}
 use Rattle.text.specs.Text.{chars, offsetOf}
-use Rattle.text.proofs.PlaceLaws.{Reached, reached-count, offset-part, offset-le, part-bytes}
+use Rattle.text.proofs.PlaceLaws.{Reached, reached-count, offset-part, part-bytes}
 use Rattle.pass_list.specs.Edges.{between}
 use Rattle.stages.specs.Ready.{Offsets}
 
@@ -17,9 +17,6 @@ module _ (s : List ℕ) (a b : ℕ) (h : a ≤ b) where
   -- ---- offsets rise, and stay within the line
   pub offset-rises : offsetOf s a ≤ offsetOf s b
   offset-rises = omega (arith, offset-part s a b h)
-
-  pub offset-within : offsetOf s a + (offsetOf s b - offsetOf s a) ≤ length s
-  offset-within = omega (arith, offset-part s a b h, offset-le s b)
 
   -- ---- the part of the line between two places is the bytes of the characters between them
   pub part-between : part s (offsetOf s a) (offsetOf s b - offsetOf s a) ≡ between (chars s) a b

@@ -1,6 +1,9 @@
 -- `decimal::put_decimal` meets its contract: the text of n is as many digits of n as it has bytes. Assumes nothing.
-use mathlib.Core.Path.{_∙_}
+use mathlib.Core.Path.{_≡_, ap, _∙_}
+use Prim.Native.Nat.{ℕ}
 use borrow.Author.Needs.{needs}
+use lib.Seq.{sets}
+use Rattle.whole.specs.Decimal.{decimal, padded}
 use Rattle.whole.proofs.DecimalLaws.{padded-decimal}
 use Rattle.decimal.proofs.put_decimal.Statement.{statement}
 use Rattle.decimal.proofs.put_decimal.Tie as tie
@@ -19,8 +22,10 @@ same-length c = search needs
 
 returns : tie.Need-returns
 returns c =
-    let len = c .before .before .before .before .decimal-len .ensures in
-    (rw len, c .before .before .put-padded .ensures ∙ rw (len, padded-decimal))
+    let l = c .before .before .before .before in
+    let a = l .before .before .args in
+    let text : padded (l .decimal-len .result) (a .n) ≡ decimal (a .n) = ap (λ (k : ℕ). padded k (a .n)) (l .decimal-len .ensures) ∙ padded-decimal (a .n) in
+    (rw (l .decimal-len .ensures), c .before .before .put-padded .ensures ∙ ap (sets (a .out .now) (a .at)) text)
 
 pub put-decimal-spec : {M : Type 1} → statement M
 put-decimal-spec =

@@ -7,7 +7,7 @@ ask-requires : tie.Need-ask-requires
 ask-requires c κs = search needs
 
 returns : tie.Need-returns
-returns c = search needs
+returns c = c .ask .ensures
 
 pub best-edge-spec : {M : Type 1} → statement M
 best-edge-spec = tie.close (tie.spec ask-requires returns)

@@ -7,7 +7,7 @@ ask-requires : tie.Need-ask-requires
 ask-requires c κs = search needs
 
 returns : tie.Need-returns
-returns c = search needs
+returns c = c .ask .ensures
 
 pub left-neighbor-spec : {M : Type 1} → statement M
 left-neighbor-spec = tie.close (tie.spec ask-requires returns)
