@@ -21,13 +21,14 @@ use Rattle.edge.specs.Edge.{Edge}
 use Rattle.lattice.specs.declared.Lattice.{Lattice}
 use Rattle.lattice.specs.Lattice.{add, addAll}
 use Rattle.lattice.specs.Kept.{Holds}
+use Rattle.lattice.proofs.HoldsLaws.{add-all-append}
 use Rattle.numbers.specs.Listed.{listedEdge}
 use Rattle.characters.specs.CharItem.{charItem}
 use Rattle.characters.specs.Initial.{recordsIn, Records}
 use Rattle.characters.proofs.InitialLaws.{so-far-none, so-far-skip, so-far-more}
 use Rattle.five.specs.Five.{listedItems, behind}
 use Rattle.five.proofs.FrontLaws.{holds-front}
-use Rattle.five.proofs.FiveLaws.{add-all-append, listed-append}
+use Rattle.five.proofs.FiveLaws.{listed-append}
 use Rattle.char_stage.specs.declared.First.{First}
 use Rattle.char_stage.specs.CharStage.{Adding}
 

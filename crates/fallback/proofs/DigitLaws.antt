@@ -1,5 +1,5 @@
 -- Laws of the fallback's edges (`specs/Marks.antt`). No contract cites this file.
--- In order: the edge of one character; edges in a row; a character's first byte; the walk over the line; marks and the definition; a line without a digit; the edges are legal.
+-- In order: the edge of one character; edges added to a full lattice; a character's first byte; the walk over the line; marks and the definition; a line without a digit; the edges are legal.
 -- Assumes nothing.
 use mathlib.Core.Path.{_≡_, refl, sym, ap, _∙_, subst}
 use mathlib.Core.Logic.{inl}
@@ -30,7 +30,7 @@ use Rattle.stages.proofs.CallLaws.{add-all-legals}
 use Rattle.lattice.specs.declared.Lattice.{Lattice}
 use Rattle.lattice.specs.Lattice.{add, addAll}
 use Rattle.lattice.specs.Kept.{Holds, AddingIs}
-use Rattle.lattice.proofs.HoldsLaws.{add-nothing}
+use Rattle.lattice.proofs.HoldsLaws.{add-all-append, add-nothing}
 use Rattle.numbers.specs.Fallback.{covered, numType, asciiDigit, fallback}
 use Rattle.digit_marks.specs.Marks.{anyDigit}
 use Rattle.fallback.specs.Marks.{digitEdge, unmarked}
@@ -73,12 +73,7 @@ module _ (c p : ℕ) (m : Bool) where
   unfolding addAll
   add-digit-one t es q = rw (is-digit t) q
 
--- ---- edges added in a row; to a lattice that is full
-add-all-append : (es cs ds : List Edge) → addAll es (cs ++ ds) ≡ addAll (addAll es cs) ds
-unfolding addAll
-add-all-append es [] ds = refl
-add-all-append es (c ∷ cs) ds = add-all-append (add es c) cs ds
-
+-- ---- edges added to a lattice that is full
 pub full-add-all : {w : List ℕ} {l : Lattice} (es cs : List Edge) → l .len ≡ 0 → Holds w l es → Holds w l (addAll es cs)
 unfolding addAll AddingIs
 full-add-all es [] f q = q

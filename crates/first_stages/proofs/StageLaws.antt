@@ -24,6 +24,7 @@ use Rattle.edge.specs.declared.ListingCheck.the-variants.{Edges}
 use Rattle.lattice.specs.declared.Lattice.{Lattice}
 use Rattle.lattice.specs.Lattice.{addAll}
 use Rattle.lattice.specs.Kept.{Holds}
+use Rattle.lattice.proofs.HoldsLaws.{add-all-append}
 use Rattle.stages.specs.Ready.{Ready}
 use Rattle.stages.specs.CallEdge.{CallEdges}
 use Rattle.stages.proofs.CallLaws.{add-all-call}
@@ -35,7 +36,6 @@ use Rattle.given.proofs.GivenLaws.{given-call}
 use Rattle.five.specs.declared.Passes.{Passes}
 use Rattle.five.specs.declared.Passes.the-variants.{Added, Above}
 use Rattle.five.specs.Five.{listedItems, behind, FiveIs}
-use Rattle.five.proofs.FiveLaws.{add-all-append}
 use Rattle.numbers.specs.Listed.{listedEdge}
 use Rattle.numbers.specs.Call.{afterPasses}
 use Rattle.char_stage.specs.declared.First.{First}

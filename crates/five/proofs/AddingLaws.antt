@@ -22,6 +22,7 @@ use Rattle.edge.specs.Edge.{Edge}
 use Rattle.lattice.specs.Lattice.{add, addAll}
 use Rattle.lattice.specs.declared.Lattice.{Lattice}
 use Rattle.lattice.specs.Kept.{Holds}
+use Rattle.lattice.proofs.HoldsLaws.{add-all-append}
 use Rattle.numbers.specs.Listed.{listedEdge}
 use Rattle.items.specs.Sound.{Sound, ItemIs}
 use Rattle.items.specs.Adding.{Adds, kindEdges, addIf}
@@ -65,11 +66,6 @@ pub added-if : (line t : List ℕ) (k : ℕ) (e : PassEdge) (x : Item) → ItemI
 added-if line t k e x is z a es h = rw (← adds (chars line) t k es x z) (a .holds es x h is)
 
 -- ---- one item more
-add-all-append : (es cs ds : List Edge) → addAll es (cs ++ ds) ≡ addAll (addAll es cs) ds
-unfolding addAll
-add-all-append es [] ds = refl
-add-all-append es (c ∷ cs) ds = add-all-append (add es c) cs ds
-
 of-kind-append : (k : ℕ) (l m : List Item) → ofKind k (l ++ m) ≡ ofKind k l ++ ofKind k m
 unfolding ofKind
 of-kind-append k [] m = refl

@@ -26,8 +26,9 @@ use Rattle.pass_edges.proofs.KindLaws.{added-of-kind, after-kind}
 use Rattle.pass_nth.specs.Nth.{nth}
 use Rattle.edge.specs.Edge.{Edge}
 use Rattle.lattice.specs.declared.Lattice.{Lattice}
-use Rattle.lattice.specs.Lattice.{add, addAll}
+use Rattle.lattice.specs.Lattice.{addAll}
 use Rattle.lattice.specs.Kept.{Holds}
+use Rattle.lattice.proofs.HoldsLaws.{add-all-append}
 use Rattle.pass_edges.proofs.EveryLaws.{every-append}
 use Rattle.items.specs.Sound.{Sound, Sounds}
 use Rattle.numbers.specs.Listed.{listedEdge}
@@ -120,11 +121,6 @@ module _ {w t : List ℕ} {i : ℕ} {s : List ℕ} {n : ℕ} (scalars : Scalars 
           one-added l v l front long refl (λ es x. rw none-new x)
 
 -- ---- all five in turn
-pub add-all-append : (es cs ds : List Edge) → addAll es (cs ++ ds) ≡ addAll (addAll es cs) ds
-unfolding addAll
-add-all-append es [] ds = refl
-add-all-append es (c ∷ cs) ds = add-all-append (add es c) cs ds
-
 pub listed-append : (w t : List ℕ) (l m : List Item) → listedItems w t (l ++ m) ≡ listedItems w t l ++ listedItems w t m
 listed-append w t l m = ap (map listedEdge) (map-append (edgeOf w t) l m) ∙ map-append listedEdge (map (edgeOf w t) l) (map (edgeOf w t) m)
 

@@ -9,8 +9,9 @@ use lib.ListN.{length, drop}
 use Rattle.dicts.specs.Table.{Table}
 use Rattle.edge.specs.Edge.{Edge}
 use Rattle.lattice.specs.declared.Lattice.{Lattice}
-use Rattle.lattice.specs.Lattice.{add, addAll}
+use Rattle.lattice.specs.Lattice.{addAll}
 use Rattle.lattice.specs.Kept.{Holds}
+use Rattle.lattice.proofs.HoldsLaws.{add-all-append}
 use Rattle.pass_list.specs.Item.{Every, nil, cons}
 use Rattle.stages.proofs.CallLaws.{add-all-call}
 use Rattle.numbers.specs.Fractions.{Made, made, nothing, madeAt, madeFrom, newEdges}
@@ -29,11 +30,6 @@ unfolding newEdges
 new-append [] b = refl
 new-append (made e is ∷ a) b = ap (λ (r : List Edge). e ∷ r) (new-append a b)
 new-append (nothing ∷ a) b = new-append a b
-
-add-all-append : (es a b : List Edge) → addAll es (a ++ b) ≡ addAll (addAll es a) b
-unfolding addAll
-add-all-append es [] b = refl
-add-all-append es (c ∷ a) b = add-all-append (add es c) a b
 
 add-made : (es : List Edge) (m : Made) → addAll es (newEdges (m ∷ [])) ≡ addMade es m
 unfolding addAll newEdges

@@ -1,5 +1,5 @@
 -- Laws of `Holds`: stores and edges that leave a lattice as it is. No contract cites this file.
--- In order: what lies behind the lattice; stores beside the listing and the cells; a list that is over stays so; an edge that is not added. Assumes nothing.
+-- In order: what lies behind the lattice; stores beside the listing and the cells; a list that is over stays so; edges added in a row; an edge that is not added. Assumes nothing.
 use mathlib.Core.Path.{_≡_, refl, sym, _∙_}
 use mathlib.Core.Logic.{_⊎_, inl, inr}
 use mathlib.Core.Bool.{Bool, true, false, cond, _||_}
@@ -14,7 +14,7 @@ use Rattle.fields.proofs.PartLaws.{part-sets-other}
 use Rattle.edge.specs.Edge.{Edge, edgesBytes, listingBytes}
 use Rattle.lattice.specs.declared.Lattice.{Lattice}
 use Rattle.lattice.specs.declared.Adding.the-variants.{Nothing}
-use Rattle.lattice.specs.Lattice.{has, add, overfull}
+use Rattle.lattice.specs.Lattice.{has, add, addAll, overfull}
 use Rattle.lattice.specs.Kept.{END, OFFSETS, NEXTS, HEADS, cell, Kept, Holds, AddingIs}
 use Rattle.lattice.proofs.KeptLaws.{length-edges-snoc, length-listing, cell-other}
 
@@ -110,6 +110,11 @@ over-add es e h = go (has es e)
     go : (t : Bool) → overfull (cond t es (es ++ (e ∷ []))) ≡ true
     go true = h
     go false = over-snoc es e h
+
+pub add-all-append : (es cs ds : List Edge) → addAll es (cs ++ ds) ≡ addAll (addAll es cs) ds
+unfolding addAll
+add-all-append es [] ds = refl
+add-all-append es (c ∷ cs) ds = add-all-append (add es c) cs ds
 
 -- ---- an edge that is not added
 module _ {w : List ℕ} {l : Lattice} {es : List Edge} (q : Holds w l es) (e : Edge) where

@@ -1,18 +1,14 @@
 -- Adding a list of edges to the lattice, some at a time: what a loop keeps. Assumes nothing.
 --     Toward w₀ l₀ all w l rest   from the work space w₀ and its lattice l₀ on some of the edges all are added; with the rest it is what it shall be
 use mathlib.Core.Path.{_≡_, refl, sym, ap, _∙_}
-use mathlib.Core.List.{List, [], _∷_, _++_}
+use mathlib.Core.List.{List, [], _++_}
 use Prim.Native.Nat.{ℕ}
 use lib.ListN.{length, drop}
 use Rattle.edge.specs.Edge.{Edge}
 use Rattle.lattice.specs.declared.Lattice.{Lattice}
-use Rattle.lattice.specs.Lattice.{add, addAll}
+use Rattle.lattice.specs.Lattice.{addAll}
 use Rattle.lattice.specs.Kept.{Holds}
-
-pub add-all-append : (es cs ds : List Edge) → addAll es (cs ++ ds) ≡ addAll (addAll es cs) ds
-unfolding addAll
-add-all-append es [] ds = refl
-add-all-append es (c ∷ cs) ds = add-all-append (add es c) cs ds
+use Rattle.lattice.proofs.HoldsLaws.{add-all-append}
 
 pub record Toward (w₀ : List ℕ) (l₀ : Lattice) (all : List Edge) (w : List ℕ) (l : Lattice) (rest : List Edge) : Type 0 where
   pub long : length w ≡ length w₀

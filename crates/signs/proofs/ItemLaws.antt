@@ -19,12 +19,12 @@ use Rattle.edge.specs.Edge.{Edge}
 use Rattle.lattice.specs.declared.Lattice.{Lattice}
 use Rattle.lattice.specs.Lattice.{addAll}
 use Rattle.lattice.specs.Kept.{Holds}
+use Rattle.lattice.proofs.HoldsLaws.{add-all-append}
 use Rattle.items.specs.Sound.{Sound, Sounds}
 use Rattle.numbers.specs.Signs.{signed, signs}
 use Rattle.signs.specs.SignEdges.{signsOf}
 use Rattle.markers.proofs.MarkLaws.{Marks}
 use Rattle.sign_edges.proofs.SignLaws.{signs-first}
-use Rattle.sign_edges.proofs.TowardLaws.{add-all-append}
 
 -- ---- both lists, where the item has a value
 module _ (w table : List ℕ) (h : Shape) {x : PassEdge} {i : Item} (e : EdgeIs x i) where
