@@ -2,13 +2,14 @@
 --     number r, place r      01's number of a refusal, and the place or offset returned with it
 --     Brief                  an answer without the listing's bytes: its length, or a refusal's number and place
 --     answerOf r             the code's answer so
---     statusOf b, atOf b     what C is told of it: 0 or the refusal's number; the length, or the refusal's place or offset
+--     refusalTold r, told b  what C is told of a refusal, and of an answer: 0 or the refusal's number; the length, or the refusal's place or offset
 --     Assumes nothing.
 use Prim.Native.Nat.{ℕ}
 use Rattle.answers.specs.declared.Refusal.{Refusal}
 use Rattle.answers.specs.declared.Refusal.the-variants.{ShortWork, NotUtf8, OverLong, BadTable, BadContent, BadEdges, AboveTop, TooLong}
 use Rattle.answers.specs.declared.Answer.{Answer}
 use Rattle.answers.specs.declared.Answer.the-variants as Answer
+use Rattle.answers.specs.declared.Told.{Told}
 
 abbrev pub number : Refusal → ℕ
 number ShortWork = 1
@@ -30,6 +31,9 @@ place (BadEdges at) = at .0
 place (AboveTop p) = p .0
 place TooLong = 0
 
+abbrev pub refusalTold : Refusal → Told
+refusalTold r = record { status = number r; at = place r }
+
 pub data Brief : Type 0 where
   of-length : ℕ → Brief
   refused : ℕ → ℕ → Brief
@@ -38,10 +42,6 @@ abbrev pub answerOf : Answer → Brief
 answerOf (Answer.Listing n) = of-length n
 answerOf (Answer.Refused r) = refused (number r) (place r)
 
-abbrev pub statusOf : Brief → ℕ
-statusOf (of-length n) = 0
-statusOf (refused n p) = n
-
-abbrev pub atOf : Brief → ℕ
-atOf (of-length n) = n
-atOf (refused n p) = p
+abbrev pub told : Brief → Told
+told (of-length n) = record { status = 0; at = n }
+told (refused n p) = record { status = n; at = p }

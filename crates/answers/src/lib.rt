@@ -1,6 +1,6 @@
 // What the call answers, 01's numbers of its refusals (01, the table of refusals), and what C is told of an answer.
 ghost use mathlib.Core.Path.{_≡_};
-ghost use Rattle.answers.specs.Answers.{number, place, answerOf, statusOf, atOf};
+ghost use Rattle.answers.specs.Answers.{refusalTold, answerOf, told};
 use text::Offset;
 use text::Place;
 
@@ -22,54 +22,55 @@ pub enum Answer {
     Refused(Refusal),
 }
 
-// 01's number of a refusal.
-pub fn number_of(r: Refusal) -> u32
-    ensures { λ n. ⌜ n ≡ number r ⌝ }
+// What C is told of an answer: a status, 0 or the refusal's number, and the number that goes with it.
+pub struct Told {
+    pub status: u32,
+    pub at: u64,
+}
+
+// 01's number of a refusal, and the place or offset that is returned with it, or 0.
+pub fn refusal_told(r: Refusal) -> Told
+    ensures { λ t. ⌜ t ≡ refusalTold r ⌝ }
 {
     match r {
-        Refusal::ShortWork => 1,
-        Refusal::NotUtf8(_) => 2,
-        Refusal::OverLong(_) => 3,
-        Refusal::BadTable(_) => 4,
-        Refusal::BadContent(_) => 5,
-        Refusal::BadEdges(_) => 6,
-        Refusal::AboveTop(_) => 7,
-        Refusal::TooLong => 8,
+        Refusal::ShortWork => Told { status: 1, at: 0 },
+        Refusal::NotUtf8(at) => Told {
+            status: 2,
+            at: at.0 as u64,
+        },
+        Refusal::OverLong(at) => Told {
+            status: 3,
+            at: at.0 as u64,
+        },
+        Refusal::BadTable(at) => Told {
+            status: 4,
+            at: at.0 as u64,
+        },
+        Refusal::BadContent(at) => Told {
+            status: 5,
+            at: at.0 as u64,
+        },
+        Refusal::BadEdges(at) => Told {
+            status: 6,
+            at: at.0 as u64,
+        },
+        Refusal::AboveTop(p) => Told {
+            status: 7,
+            at: p.0 as u64,
+        },
+        Refusal::TooLong => Told { status: 8, at: 0 },
     }
 }
 
-// The place or offset that is returned with it, or 0.
-pub fn place_of(r: Refusal) -> usize
-    ensures { λ n. ⌜ n ≡ place r ⌝ }
-{
-    match r {
-        Refusal::ShortWork => 0,
-        Refusal::NotUtf8(at) => at.0,
-        Refusal::OverLong(at) => at.0,
-        Refusal::BadTable(at) => at.0,
-        Refusal::BadContent(at) => at.0,
-        Refusal::BadEdges(at) => at.0,
-        Refusal::AboveTop(p) => p.0,
-        Refusal::TooLong => 0,
-    }
-}
-
-// The status that C is told: 0, or the refusal's number.
-pub fn status_of(a: Answer) -> u32
-    ensures { λ r. ⌜ r ≡ statusOf (answerOf a) ⌝ }
-{
-    match a {
-        Answer::Listing(_) => 0,
-        Answer::Refused(r) => number_of(r),
-    }
-}
-
-// The number that goes with it: the bytes of the listing, or the refusal's place or offset.
-pub fn at_of(a: Answer) -> u64
-    ensures { λ r. ⌜ r ≡ atOf (answerOf a) ⌝ }
+// 0 and the bytes of the listing, or the refusal.
+pub fn answer_told(a: Answer) -> Told
+    ensures { λ t. ⌜ t ≡ told (answerOf a) ⌝ }
 {
     match a {
-        Answer::Listing(n) => n as u64,
-        Answer::Refused(r) => place_of(r) as u64,
+        Answer::Listing(n) => Told {
+            status: 0,
+            at: n as u64,
+        },
+        Answer::Refused(r) => refusal_told(r),
     }
 }

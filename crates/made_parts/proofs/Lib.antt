@@ -1,4 +1,3 @@
 -- The laws of `made_parts`.
-pub mod TextLaws
 pub mod EdgeLaws
 pub mod WriteLaws

@@ -1,5 +1,4 @@
--- What the code says of the texts and fields of an edge that a choice makes, and of the edges that it uses (`new_edges` has the other forms). Definitions only.
---     TextIs s r t          the first r bytes of the buffer s are the text t
+-- What the code says of the fields of an edge that a choice makes, and of the edges that it uses (`new_edges` has the other forms). Definitions only.
 --     HeadIs w e v          v is the head of the edge e, which stands in w
 --     scriptFrom c s        the script that the code's answer s says, its bytes at the front of the buffer c
 --     fractionFields ..     the fields of a fraction: bits 0 (numeric), 2 (fraction) and 7 (active), and 5 where there is a script
@@ -25,12 +24,6 @@ use Rattle.stages.specs.CallEdge.{CallEdges}
 use Rattle.numbers.specs.Fractions.{fractionType, percentEdge}
 use Rattle.made_parts.specs.declared.Script.{Script}
 use Rattle.made_parts.specs.declared.Script.the-variants.{Absent, Bytes}
-
-pub record TextIs (s : List ℕ) (r : ℕ) (t : Text) : Type 0 where
-  pub is : take r s ≡ t
-  pub len : r ≡ length t
-  pub room : r ≤ length s
-  pub short : r ≤ 300
 
 pub record HeadIs (w : List ℕ) (e : Edge) (v : EdgeView) : Type 0 where
   pub map : v .map ≡ mapOf (e .num)

@@ -1,18 +1,17 @@
-// What an edge that a choice makes is put together of (01, "Fractions and percentages"): its texts in a buffer, its fields, and what is read of the edges
+// What an edge that a choice makes is put together of (01, "Fractions and percentages"): its fields, and what is read of the edges
 // that are used; and the two writers that need no more than that.
 ghost use mathlib.Core.Path.{_≡_};
-ghost use mathlib.Core.List.{List, [], _∷_, _++_};
+ghost use mathlib.Core.List.{List};
 ghost use mathlib.Core.Option.{some};
 ghost use Prim.Native.Nat.{ℕ, _+_, _≤_, _<_};
 ghost use lib.ListN.{length, getD, drop};
-ghost use Rattle.whole.specs.Decimal.{decimal};
 ghost use Rattle.edge.specs.Edge.{Edge, Text};
 ghost use Rattle.edge.specs.Layout.{fieldsEnd, numericAt};
 ghost use Rattle.edge.specs.View.{textOf};
 ghost use Rattle.lattice.specs.Lattice.{add};
 ghost use Rattle.lattice.specs.Kept.{noEdge, Holds};
 ghost use Rattle.made.specs.Choice.{valueOr, HasValue, One};
-ghost use Rattle.made_parts.specs.MadeParts.{TextIs, HeadIs, scriptFrom, scriptLen, fractionFields, Has, fractionWith, txtPercentOf};
+ghost use Rattle.made_parts.specs.MadeParts.{HeadIs, scriptFrom, scriptLen, fractionFields, Has, fractionWith, txtPercentOf};
 use edge::EdgeView;
 use edge::NumFields;
 use edge::Part;
@@ -26,38 +25,7 @@ pub enum Script {
     Bytes(usize),
 }
 
-// ---- texts and fields
-
-// A number and "%".
-pub fn put_percent(buf: &mut [u8; 300], v: u64) -> usize
-    ensures { λ r. ⌜ TextIs (now (buf .exit)) r (decimal v ++ (37 ∷ [])) ⌝ }
-{
-    let n = decimal::put_decimal(buf, 0, v);
-    buf[n] = 37;
-    n + 1
-}
-
-// "right/left".
-pub fn put_fraction(buf: &mut [u8; 300], right: u64, left: u64) -> usize
-    ensures { λ r. ⌜ TextIs (now (buf .exit)) r (decimal right ++ (47 ∷ decimal left)) ⌝ }
-{
-    let n = decimal::put_decimal(buf, 0, right);
-    buf[n] = 47;
-    decimal::put_decimal(buf, n + 1, left)
-}
-
-// A text of the lattice and "%".
-pub fn put_txt_percent(buf: &mut [u8; 300], w: &[u8], t: Part) -> usize
-    requires { ⌜ (t .at + t .len ≤ length (now w)) × (t .len ≤ 256) ⌝ }
-    ensures { λ r. ⌜ TextIs (now (buf .exit)) r (textOf (now (w .entry)) t ++ (37 ∷ [])) ⌝ }
-{
-    let from = t.at;
-    let n = t.len;
-    let to = from + n;
-    fields_copy::copy_in(buf, 0, &w[from..to]);
-    buf[n] = 37;
-    n + 1
-}
+// ---- fields
 
 // The script of a numeric edge with this map, whose fields stand at an offset.
 pub fn copy_script(buf: &mut [u8; 300], w: &[u8], map: u16, at: usize) -> Script
@@ -76,7 +44,7 @@ pub fn copy_script(buf: &mut [u8; 300], w: &[u8], map: u16, at: usize) -> Script
 }
 
 // The fields of a fraction.
-pub fn fraction_fields(n: usize, q: Ratio, s: Script) -> NumFields
+fn fraction_fields(n: usize, q: Ratio, s: Script) -> NumFields
     ensures { λ r. ⌜ r ≡ fractionFields n (q .numerator) (q .denominator) s ⌝ }
 {
     match s {
@@ -135,7 +103,7 @@ pub fn add_txt_percent(w: &mut [u8], l: Lattice, p: Place, right: usize) -> Latt
 {
     let b = head_of(w, l, right);
     let mut buf = [0u8; 300];
-    let n = put_txt_percent(&mut buf, w, b.txt);
+    let n = made_texts::put_txt_percent(&mut buf, w, b.txt);
     lattice_regular::add_regular(w, l, p, b.end, b"percentage", &buf[..n])
 }
 

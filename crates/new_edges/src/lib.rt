@@ -22,7 +22,7 @@ fn add_percent(w: &mut [u8], l: Lattice, left: usize, right: usize) -> Lattice
     let b = made_parts::head_of(w, l, right);
     let v = made_parts::value_of(w, l, right);
     let mut buf = [0u8; 300];
-    let n = made_parts::put_percent(&mut buf, v);
+    let n = made_texts::put_percent(&mut buf, v);
     lattice_regular::add_regular(w, l, a.start, b.end, b"percentage", &buf[..n])
 }
 
@@ -37,7 +37,7 @@ fn add_fraction(w: &mut [u8], l: Lattice, left: usize, right: usize) -> Lattice
     let rv = made_parts::value_of(w, l, right);
     let mut buf = [0u8; 300];
     let mut script = [0u8; 300];
-    let n = made_parts::put_fraction(&mut buf, rv, lv);
+    let n = made_texts::put_fraction(&mut buf, rv, lv);
     let s = made_parts::copy_script(&mut script, w, b.map, b.fields);
     let q = ratio::lowest(rv, lv);
     made_parts::add_composed(w, l, a.start, b.end, &buf[..n], q, s, &script)

@@ -9,7 +9,7 @@ use paths::Hop;
 use paths::Size;
 
 // The step of the path from a place.
-pub fn hop_from(s: &[u8], tops: &[usize; 256], ats: &[usize; 256], p: usize) -> Hop
+fn hop_from(s: &[u8], tops: &[usize; 256], ats: &[usize; 256], p: usize) -> Hop
     requires { ⌜ Steps (now s) (now tops) (now ats) × (p < 256) ⌝ }
     ensures { λ r. ⌜ r ≡ hopOf (now (s .entry)) (byTable (now (s .entry)) (now (tops .entry)) (now (ats .entry)) p) ⌝ }
 {

@@ -1,7 +1,7 @@
 // Reads a listing written by hand, over the line ab五. `stdout` has the answers, worked out by hand from 01.
-use paths::Answer;
+use answers::Told;
+use paths::Query;
 use paths::Shown;
-use paths::Written;
 use text::Place;
 
 fn say(word: &[u8], n: u64) {
@@ -10,32 +10,35 @@ fn say(word: &[u8], n: u64) {
 }
 
 // An answer by what C is told of it: its status, and the number that goes with it.
-fn show(word: &[u8], status: u32, at: u64) {
-    if status > 0 {
-        say(b"refused ", status as u64);
-        say(b" ", at);
-    } else if at == 18446744073709551615 {
+fn show(word: &[u8], t: Told) {
+    if t.status > 0 {
+        say(b"refused ", t.status as u64);
+        say(b" ", t.at);
+    } else if t.at == 18446744073709551615 {
         io::write_all(1, b"none");
     } else {
-        say(word, at);
+        say(word, t.at);
     }
 }
 
-fn show_answer(a: Answer) {
-    show(b"at ", statuses::answer_status(a), statuses::answer_at(a));
+fn ask(line: &[u8], listing: &[u8], q: Query, skip: bool) {
+    show(
+        b"at ",
+        statuses::answer_told(queries::best_edge(line, listing, q, skip)),
+    );
     io::write_all(1, b"\n");
 }
 
 fn best(line: &[u8], listing: &[u8], start: usize, end: usize, skip: bool) {
-    show_answer(queries::best_edge(line, listing, Place(start), Place(end), skip));
+    ask(line, listing, Query::Span(Place(start), Place(end)), skip);
 }
 
 fn right(line: &[u8], listing: &[u8], place: usize, skip: bool) {
-    show_answer(queries::right_neighbor(line, listing, Place(place), skip));
+    ask(line, listing, Query::Right(Place(place)), skip);
 }
 
 fn left(line: &[u8], listing: &[u8], place: usize, skip: bool) {
-    show_answer(queries::left_neighbor(line, listing, Place(place), skip));
+    ask(line, listing, Query::Left(Place(place)), skip);
 }
 
 // Which of the two a text shown is in; no text goes with a refusal.
@@ -47,7 +50,16 @@ fn show_part(w: Shown) {
         Shown::Line(_) => {
             io::write_all(1, b"line ");
         }
-        Shown::Refused(_) => show(b"", statuses::shown_status(w), statuses::shown_at(w)),
+        Shown::Refused(_) => {
+            let t = statuses::shown_told(w);
+            show(
+                b"",
+                Told {
+                    status: t.status,
+                    at: t.at,
+                },
+            );
+        }
     }
 }
 
@@ -58,17 +70,10 @@ fn shown<'a>(line: &'a [u8], listing: &'a [u8], place: usize) {
     io::write_all(1, b"\n");
 }
 
-fn show_written(w: Written) {
-    show(
-        b"bytes ",
-        statuses::written_status(w),
-        statuses::written_at(w),
-    );
-    io::write_all(1, b"\n");
-}
-
 fn path(line: &[u8], listing: &[u8], start: usize, end: usize, skip: bool, out: &mut [u8]) {
-    show_written(path_listing::path(line, listing, Place(start), Place(end), skip, out));
+    let w = path_listing::path(line, listing, Place(start), Place(end), skip, out);
+    show(b"bytes ", statuses::written_told(w));
+    io::write_all(1, b"\n");
 }
 
 // Paths into an output of 64 bytes.

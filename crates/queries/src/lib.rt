@@ -5,9 +5,9 @@ use paths::Answer;
 use paths::Checked;
 use paths::Query;
 use paths::Refusal;
-use text::Place;
 
-fn ask(line: &[u8], listing: &[u8], q: Query, skip: bool) -> Answer
+// The best edge of what is asked for, a span or the right or left neighbour of a place; skip: no numeric one.
+pub fn best_edge(line: &[u8], listing: &[u8], q: Query, skip: bool) -> Answer
     ensures { λ r. ⌜ r ≡ answer (now (line .entry)) (now (listing .entry)) q skip ⌝ }
 {
     match path_check::check(line, listing) {
@@ -19,25 +19,4 @@ fn ask(line: &[u8], listing: &[u8], q: Query, skip: bool) -> Answer
             Answer::Best(path_best::best_of(listing, 2, count, q, skip))
         }
     }
-}
-
-// The best edge of a span; skip: no numeric one.
-pub fn best_edge(line: &[u8], listing: &[u8], start: Place, end: Place, skip: bool) -> Answer
-    ensures { λ r. ⌜ r ≡ answer (now (line .entry)) (now (listing .entry)) (Query.Span start end) skip ⌝ }
-{
-    ask(line, listing, Query::Span(start, end), skip)
-}
-
-// The right neighbour of a place.
-pub fn right_neighbor(line: &[u8], listing: &[u8], place: Place, skip: bool) -> Answer
-    ensures { λ r. ⌜ r ≡ answer (now (line .entry)) (now (listing .entry)) (Query.Right place) skip ⌝ }
-{
-    ask(line, listing, Query::Right(place), skip)
-}
-
-// The left neighbour of a place.
-pub fn left_neighbor(line: &[u8], listing: &[u8], place: Place, skip: bool) -> Answer
-    ensures { λ r. ⌜ r ≡ answer (now (line .entry)) (now (listing .entry)) (Query.Left place) skip ⌝ }
-{
-    ask(line, listing, Query::Left(place), skip)
 }

@@ -10,7 +10,7 @@ use answers::Refusal;
 use edge::Written;
 
 // The row of a refusal, by its number and place.
-pub fn put_refused(out: &mut [u8], at: usize, number: u64, place: u64) -> Written
+fn put_refused(out: &mut [u8], at: usize, number: u64, place: u64) -> Written
     requires { ⌜ at ≤ length (now out) ⌝ }
     ensures answer { λ r. ⌜ r ≡ written (now (out .entry)) at (refusedBytes number place) ⌝ }
     ensures bytes { λ _. ⌜ now (out .exit) ≡ writtenTo (now (out .entry)) at (refusedBytes number place) ⌝ }
@@ -28,7 +28,6 @@ pub fn put_refused(out: &mut [u8], at: usize, number: u64, place: u64) -> Writte
 pub fn put_refusal(text: &mut [u8], r: Refusal) -> Written
     ensures { λ w. ⌜ TextIs (now (text .entry)) (now (text .exit)) w (refused (number r) (place r)) ⌝ }
 {
-    let number = answers::number_of(r) as u64;
-    let place = answers::place_of(r) as u64;
-    put_refused(text, 0, number, place)
+    let t = answers::refusal_told(r);
+    put_refused(text, 0, t.status as u64, t.at)
 }

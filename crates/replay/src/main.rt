@@ -3,6 +3,7 @@
 // offset. Which case is the first that differs: `tools/replay_cases.py differ`.
 ghost use Prim.Native.Nat.{_≤_};
 ghost use lib.ListN.{length};
+use answers::Told;
 use call::Answer;
 
 // A proved loop has to end, and nothing says that the input does: no more cases are read than this.
@@ -23,7 +24,7 @@ fn read(head: &[u8; 6], at: usize, space: &mut [u8], before: usize) -> usize
     n
 }
 
-fn write_u32(v: usize) {
+fn write_u32(v: u64) {
     let b = [
         (v % 256) as u8,
         (v / 256 % 256) as u8,
@@ -33,10 +34,10 @@ fn write_u32(v: usize) {
     io::write_all(1, &b);
 }
 
-fn write_refusal(number: u32, place: usize) {
-    let b = [5, 0, 0, 0, (number % 256) as u8];
+fn write_refusal(t: Told) {
+    let b = [5, 0, 0, 0, (t.status % 256) as u8];
     io::write_all(1, &b);
-    write_u32(place);
+    write_u32(t.at);
 }
 
 fn answer(line: &[u8], table: &[u8], edges: &[u8]) {
@@ -44,11 +45,11 @@ fn answer(line: &[u8], table: &[u8], edges: &[u8]) {
     let mut out = [0u8; 32768];
     match call::add_numbers(line, table, edges, &mut work, &mut out) {
         Answer::Listing(n) => {
-            write_u32(n);
+            write_u32(n as u64);
             io::write_all(1, &out[..n]);
         }
         Answer::Refused(r) => {
-            write_refusal(call::number_of(r), call::place_of(r));
+            write_refusal(call::refusal_told(r));
         }
     }
 }

@@ -1,1 +1,2 @@
 -- Laws of the exported functions.
+mod Tells

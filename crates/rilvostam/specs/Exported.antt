@@ -1,5 +1,5 @@
 -- What the functions of the C interface are given and tell. Definitions only.
---     callStatus, callAt     the call: a status, 0 or the number of 01's refusal; the bytes of the listing, or the refusal's place or offset
+--     callTold a             the call: a status, 0 or the number of 01's refusal; the bytes of the listing, or the refusal's place or offset
 --     placeOf p, isSet b     a place, and whether skip is set, as C gives them
 --     Assumes nothing.
 use Prim.Native.Nat.{ℕ}
@@ -7,14 +7,12 @@ use mathlib.Core.Bool.{Bool, not}
 use lib.Dec.{eqb}
 use Rattle.text.specs.declared.Place.{Place}
 use Rattle.numbers.specs.Call as numbers
-use Rattle.answers.specs.Answers.{statusOf, atOf}
+use Rattle.answers.specs.declared.Told.{Told}
+use Rattle.answers.specs.Answers.{told}
 use Rattle.ending.specs.Answers.{brief}
 
-abbrev pub callStatus : numbers.Answer → ℕ
-callStatus a = statusOf (brief a)
-
-abbrev pub callAt : numbers.Answer → ℕ
-callAt a = atOf (brief a)
+abbrev pub callTold : numbers.Answer → Told
+callTold a = told (brief a)
 
 abbrev pub placeOf : ℕ → Place
 placeOf p = record { 0 = p }

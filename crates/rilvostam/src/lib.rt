@@ -7,8 +7,9 @@ ghost use Rattle.paths.specs.declared.Query.the-variants.{Span, Right, Left};
 ghost use Rattle.paths.specs.Reading.{answer};
 ghost use Rattle.paths.specs.Shown.{shown};
 ghost use Rattle.paths.specs.Path.{pathOut, written, after};
-ghost use Rattle.statuses.specs.Statuses.{answerStatus, answerAt, writtenStatus, writtenAt, shownStatus, shownAt, shownLen, inListing};
-ghost use Rattle.rilvostam.specs.Exported.{placeOf, isSet, callStatus, callAt};
+ghost use Rattle.statuses.specs.Statuses.{answerTold, writtenTold, shownTold};
+ghost use Rattle.rilvostam.specs.Exported.{placeOf, isSet, callTold};
+use paths::Query;
 use text::Place;
 
 // The written numbers of a line as a listing of edges, behind those given.
@@ -21,13 +22,13 @@ pub extern "C" fn rilvostam_add_numbers(
     out: &mut [u8],
     at: &mut u64,
 ) -> u32
-    ensures status { λ r. ⌜ r ≡ callStatus (addNumbers (now (line .entry)) (now (table .entry)) (now (edges .entry)) (length (now (work .entry))) (length (now (out .entry)))) ⌝ }
-    ensures place { λ _. ⌜ now (at .exit) ≡ callAt (addNumbers (now (line .entry)) (now (table .entry)) (now (edges .entry)) (length (now (work .entry))) (length (now (out .entry)))) ⌝ }
+    ensures status { λ r. ⌜ r ≡ callTold (addNumbers (now (line .entry)) (now (table .entry)) (now (edges .entry)) (length (now (work .entry))) (length (now (out .entry)))) .status ⌝ }
+    ensures place { λ _. ⌜ now (at .exit) ≡ callTold (addNumbers (now (line .entry)) (now (table .entry)) (now (edges .entry)) (length (now (work .entry))) (length (now (out .entry)))) .at ⌝ }
     ensures output { λ _. ⌜ now (out .exit) ≡ outAfter (now (out .entry)) (addNumbers (now (line .entry)) (now (table .entry)) (now (edges .entry)) (length (now (work .entry))) (length (now (out .entry)))) ⌝ }
 {
-    let a = call::add_numbers(line, table, edges, work, out);
-    *at = answers::at_of(a);
-    answers::status_of(a)
+    let numbers = answers::answer_told(call::add_numbers(line, table, edges, work, out));
+    *at = numbers.at;
+    numbers.status
 }
 
 // The best edge of a span.
@@ -40,14 +41,13 @@ pub extern "C" fn rilvostam_best_edge(
     skip: u8,
     at: &mut u64,
 ) -> u32
-    ensures status { λ r. ⌜ r ≡ answerStatus (answer (now (line .entry)) (now (listing .entry)) (Span (placeOf start) (placeOf end)) (isSet skip)) ⌝ }
-    ensures place { λ _. ⌜ now (at .exit) ≡ answerAt (answer (now (line .entry)) (now (listing .entry)) (Span (placeOf start) (placeOf end)) (isSet skip)) ⌝ }
+    ensures status { λ r. ⌜ r ≡ answerTold (answer (now (line .entry)) (now (listing .entry)) (Span (placeOf start) (placeOf end)) (isSet skip)) .status ⌝ }
+    ensures place { λ _. ⌜ now (at .exit) ≡ answerTold (answer (now (line .entry)) (now (listing .entry)) (Span (placeOf start) (placeOf end)) (isSet skip)) .at ⌝ }
 {
-    let from = Place(start as usize);
-    let to = Place(end as usize);
-    let a = queries::best_edge(line, listing, from, to, skip != 0);
-    *at = statuses::answer_at(a);
-    statuses::answer_status(a)
+    let q = Query::Span(Place(start as usize), Place(end as usize));
+    let best = statuses::answer_told(queries::best_edge(line, listing, q, skip != 0));
+    *at = best.at;
+    best.status
 }
 
 // The right neighbour of a place.
@@ -59,12 +59,13 @@ pub extern "C" fn rilvostam_right_neighbor(
     skip: u8,
     at: &mut u64,
 ) -> u32
-    ensures status { λ r. ⌜ r ≡ answerStatus (answer (now (line .entry)) (now (listing .entry)) (Right (placeOf place)) (isSet skip)) ⌝ }
-    ensures place { λ _. ⌜ now (at .exit) ≡ answerAt (answer (now (line .entry)) (now (listing .entry)) (Right (placeOf place)) (isSet skip)) ⌝ }
+    ensures status { λ r. ⌜ r ≡ answerTold (answer (now (line .entry)) (now (listing .entry)) (Right (placeOf place)) (isSet skip)) .status ⌝ }
+    ensures place { λ _. ⌜ now (at .exit) ≡ answerTold (answer (now (line .entry)) (now (listing .entry)) (Right (placeOf place)) (isSet skip)) .at ⌝ }
 {
-    let a = queries::right_neighbor(line, listing, Place(place as usize), skip != 0);
-    *at = statuses::answer_at(a);
-    statuses::answer_status(a)
+    let q = Query::Right(Place(place as usize));
+    let right = statuses::answer_told(queries::best_edge(line, listing, q, skip != 0));
+    *at = right.at;
+    right.status
 }
 
 // The left neighbour of a place.
@@ -76,12 +77,13 @@ pub extern "C" fn rilvostam_left_neighbor(
     skip: u8,
     at: &mut u64,
 ) -> u32
-    ensures status { λ r. ⌜ r ≡ answerStatus (answer (now (line .entry)) (now (listing .entry)) (Left (placeOf place)) (isSet skip)) ⌝ }
-    ensures place { λ _. ⌜ now (at .exit) ≡ answerAt (answer (now (line .entry)) (now (listing .entry)) (Left (placeOf place)) (isSet skip)) ⌝ }
+    ensures status { λ r. ⌜ r ≡ answerTold (answer (now (line .entry)) (now (listing .entry)) (Left (placeOf place)) (isSet skip)) .status ⌝ }
+    ensures place { λ _. ⌜ now (at .exit) ≡ answerTold (answer (now (line .entry)) (now (listing .entry)) (Left (placeOf place)) (isSet skip)) .at ⌝ }
 {
-    let a = queries::left_neighbor(line, listing, Place(place as usize), skip != 0);
-    *at = statuses::answer_at(a);
-    statuses::answer_status(a)
+    let q = Query::Left(Place(place as usize));
+    let left = statuses::answer_told(queries::best_edge(line, listing, q, skip != 0));
+    *at = left.at;
+    left.status
 }
 
 // The path from start to end, written to the output as a listing.
@@ -95,15 +97,15 @@ pub extern "C" fn rilvostam_path(
     out: &mut [u8],
     at: &mut u64,
 ) -> u32
-    ensures status { λ r. ⌜ r ≡ writtenStatus (written (pathOut (now (line .entry)) (now (listing .entry)) (placeOf start) (placeOf end) (isSet skip) (length (now (out .entry))))) ⌝ }
-    ensures place { λ _. ⌜ now (at .exit) ≡ writtenAt (written (pathOut (now (line .entry)) (now (listing .entry)) (placeOf start) (placeOf end) (isSet skip) (length (now (out .entry))))) ⌝ }
+    ensures status { λ r. ⌜ r ≡ writtenTold (written (pathOut (now (line .entry)) (now (listing .entry)) (placeOf start) (placeOf end) (isSet skip) (length (now (out .entry))))) .status ⌝ }
+    ensures place { λ _. ⌜ now (at .exit) ≡ writtenTold (written (pathOut (now (line .entry)) (now (listing .entry)) (placeOf start) (placeOf end) (isSet skip) (length (now (out .entry))))) .at ⌝ }
     ensures output { λ _. ⌜ now (out .exit) ≡ after (now (out .entry)) (pathOut (now (line .entry)) (now (listing .entry)) (placeOf start) (placeOf end) (isSet skip) (length (now (out .entry)))) ⌝ }
 {
     let from = Place(start as usize);
     let to = Place(end as usize);
-    let a = path_listing::path(line, listing, from, to, skip != 0, out);
-    *at = statuses::written_at(a);
-    statuses::written_status(a)
+    let path = statuses::written_told(path_listing::path(line, listing, from, to, skip != 0, out));
+    *at = path.at;
+    path.status
 }
 
 // The text shown at a place: its offset and length, in the listing or in the line.
@@ -116,14 +118,14 @@ pub extern "C" fn rilvostam_shown_text(
     len: &mut u64,
     within: &mut u8,
 ) -> u32
-    ensures status { λ r. ⌜ r ≡ shownStatus (shown (now (line .entry)) (now (listing .entry)) (placeOf place)) ⌝ }
-    ensures place { λ _. ⌜ now (at .exit) ≡ shownAt (shown (now (line .entry)) (now (listing .entry)) (placeOf place)) ⌝ }
-    ensures len { λ _. ⌜ now (len .exit) ≡ shownLen (shown (now (line .entry)) (now (listing .entry)) (placeOf place)) ⌝ }
-    ensures within { λ _. ⌜ now (within .exit) ≡ inListing (shown (now (line .entry)) (now (listing .entry)) (placeOf place)) ⌝ }
+    ensures status { λ r. ⌜ r ≡ shownTold (shown (now (line .entry)) (now (listing .entry)) (placeOf place)) .status ⌝ }
+    ensures place { λ _. ⌜ now (at .exit) ≡ shownTold (shown (now (line .entry)) (now (listing .entry)) (placeOf place)) .at ⌝ }
+    ensures len { λ _. ⌜ now (len .exit) ≡ shownTold (shown (now (line .entry)) (now (listing .entry)) (placeOf place)) .len ⌝ }
+    ensures within { λ _. ⌜ now (within .exit) ≡ shownTold (shown (now (line .entry)) (now (listing .entry)) (placeOf place)) .in_listing ⌝ }
 {
-    let a = shown::shown_text(line, listing, Place(place as usize));
-    *at = statuses::shown_at(a);
-    *len = statuses::shown_len(a);
-    *within = statuses::in_listing(a);
-    statuses::shown_status(a)
+    let text = statuses::shown_told(shown::shown_text(line, listing, Place(place as usize)));
+    *at = text.at;
+    *len = text.len;
+    *within = text.in_listing;
+    text.status
 }

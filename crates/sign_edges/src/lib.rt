@@ -26,7 +26,7 @@ ghost use Rattle.markers.specs.Marks.{Formed};
 ghost use Rattle.sign_edges.specs.SignEdges.{signEdgeAt, Signs, Begins};
 
 // The type of a sign's edge goes to the front of a buffer: the item's, a space and the sign.
-pub fn sign_type(buf: &mut [u8], table: &[u8], x: PassEdge, sign: u8) -> usize
+fn sign_type(buf: &mut [u8], table: &[u8], x: PassEdge, sign: u8) -> usize
     requires { ⌜ (62 ≤ length (now buf)) × ((i : Item) × EdgeIs x i × (length (typeOf (now table) i) ≤ 60) × Rooted (now table) i) ⌝ }
     ensures { λ r. ⌜ ((i : Item) → EdgeIs x i → Begins (now (buf .exit)) r (typeOf (now (table .entry)) i ++ (32 ∷ sign ∷ []))) ⌝ }
 {
@@ -37,7 +37,7 @@ pub fn sign_type(buf: &mut [u8], table: &[u8], x: PassEdge, sign: u8) -> usize
 }
 
 // The txt of a sign's edge goes to the front of a buffer: the sign and the item's.
-pub fn sign_txt(
+fn sign_txt(
     buf: &mut [u8],
     line: &[u8],
     offs: &[usize; 257],
@@ -54,7 +54,7 @@ pub fn sign_txt(
 }
 
 // The edge for a sign that stands at place start: its texts are put together only here.
-pub fn add_signed(
+fn add_signed(
     w: &mut [u8],
     l: Lattice,
     line: &[u8],
@@ -75,7 +75,7 @@ pub fn add_signed(
 }
 
 // The edge for one sign of the table, where it stands directly before the item.
-pub fn add_sign(
+fn add_sign(
     w: &mut [u8],
     l: Lattice,
     line: &[u8],

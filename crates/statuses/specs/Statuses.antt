@@ -1,10 +1,14 @@
 -- What C is told of an answer of the reading calls: a status, 0 or the number of 01's refusal, and the numbers that go with it. Definitions only.
---     NONE                          no edge
---     answerStatus, answerAt        best edge and neighbours: the offset of the edge, or NONE; the refusal's place or offset
---     writtenStatus, writtenAt      the path: the bytes of its listing
---     shownStatus, shownAt, shownLen, inListing    the text shown: its offset and length, and whether it is a part of the listing (1) or of the line (0)
+--     NONE                   no edge
+--     refusalTold r          a refusal: its number, and its place or offset
+--     answerTold a           best edge and neighbours: the offset of the edge, or NONE
+--     writtenTold a          the path: the bytes of its listing
+--     shownTold a            the text shown: its offset and length, and whether it is a part of the listing (1) or of the line (0)
 --     Assumes nothing.
 use Prim.Native.Nat.{ℕ}
+use Rattle.answers.specs.declared.Told.{Told}
+use Rattle.statuses.specs.declared.ToldText.{ToldText}
+use Rattle.paths.specs.declared.Refusal.{Refusal}
 use Rattle.paths.specs.declared.Found.{Found}
 use Rattle.paths.specs.declared.Found.the-variants.{At, Nothing}
 use Rattle.paths.specs.declared.Answer.{Answer}
@@ -22,38 +26,18 @@ abbrev pub foundAt : Found → ℕ
 foundAt (At o) = o .0
 foundAt Nothing = NONE
 
-abbrev pub answerStatus : Answer → ℕ
-answerStatus (Answer.Best f) = 0
-answerStatus (Answer.Refused r) = number r
+abbrev pub refusalTold : Refusal → Told
+refusalTold r = record { status = number r; at = place r }
 
-abbrev pub answerAt : Answer → ℕ
-answerAt (Answer.Best f) = foundAt f
-answerAt (Answer.Refused r) = place r
+abbrev pub answerTold : Answer → Told
+answerTold (Answer.Best f) = record { status = 0; at = foundAt f }
+answerTold (Answer.Refused r) = refusalTold r
 
-abbrev pub writtenStatus : Written → ℕ
-writtenStatus (Written.Bytes n) = 0
-writtenStatus (Written.Refused r) = number r
+abbrev pub writtenTold : Written → Told
+writtenTold (Written.Bytes n) = record { status = 0; at = n }
+writtenTold (Written.Refused r) = refusalTold r
 
-abbrev pub writtenAt : Written → ℕ
-writtenAt (Written.Bytes n) = n
-writtenAt (Written.Refused r) = place r
-
-abbrev pub shownStatus : Shown → ℕ
-shownStatus (Shown.Listing p) = 0
-shownStatus (Shown.Line p) = 0
-shownStatus (Shown.Refused r) = number r
-
-abbrev pub shownAt : Shown → ℕ
-shownAt (Shown.Listing p) = p .at
-shownAt (Shown.Line p) = p .at
-shownAt (Shown.Refused r) = place r
-
-abbrev pub shownLen : Shown → ℕ
-shownLen (Shown.Listing p) = p .len
-shownLen (Shown.Line p) = p .len
-shownLen (Shown.Refused r) = 0
-
-abbrev pub inListing : Shown → ℕ
-inListing (Shown.Listing p) = 1
-inListing (Shown.Line p) = 0
-inListing (Shown.Refused r) = 0
+abbrev pub shownTold : Shown → ToldText
+shownTold (Shown.Listing p) = record { status = 0; at = p .at; len = p .len; in_listing = 1 }
+shownTold (Shown.Line p) = record { status = 0; at = p .at; len = p .len; in_listing = 0 }
+shownTold (Shown.Refused r) = record { status = number r; at = place r; len = 0; in_listing = 0 }

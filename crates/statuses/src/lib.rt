@@ -1,10 +1,42 @@
 // What C is told of an answer of the reading calls: a status, 0 or the refusal's number, and the numbers that go with it.
 ghost use mathlib.Core.Path.{_≡_};
-ghost use Rattle.statuses.specs.Statuses.{foundAt, answerStatus, answerAt, writtenStatus, writtenAt, shownStatus, shownAt, shownLen, inListing};
+ghost use Rattle.statuses.specs.Statuses.{foundAt, refusalTold, answerTold, writtenTold, shownTold};
+use answers::Told;
 use paths::Answer;
 use paths::Found;
+use paths::Refusal;
 use paths::Shown;
 use paths::Written;
+
+// What C is told of a text shown: its status, offset and length, and 1 where it is a part of the listing.
+pub struct ToldText {
+    pub status: u32,
+    pub at: u64,
+    pub len: u64,
+    pub in_listing: u8,
+}
+
+// 01's number of a refusal, and the offset that is returned with it, or 0.
+fn refusal_told(r: Refusal) -> Told
+    ensures { λ t. ⌜ t ≡ refusalTold r ⌝ }
+{
+    match r {
+        Refusal::NotUtf8(at) => Told {
+            status: 2,
+            at: at.0 as u64,
+        },
+        Refusal::OverLong(at) => Told {
+            status: 3,
+            at: at.0 as u64,
+        },
+        Refusal::BadListing(at) => Told {
+            status: 6,
+            at: at.0 as u64,
+        },
+        Refusal::ShortOutput => Told { status: 8, at: 0 },
+        Refusal::BadPlace => Told { status: 9, at: 0 },
+    }
+}
 
 // The offset of an edge; the greatest u64 where there is none.
 fn found_at(f: Found) -> u64
@@ -16,86 +48,57 @@ fn found_at(f: Found) -> u64
     }
 }
 
-// The status of a best edge or a neighbour: 0, or the refusal's number.
-pub fn answer_status(a: Answer) -> u32
-    ensures { λ r. ⌜ r ≡ answerStatus a ⌝ }
+// A best edge or a neighbour: the offset of the edge, or the refusal.
+pub fn answer_told(a: Answer) -> Told
+    ensures { λ t. ⌜ t ≡ answerTold a ⌝ }
 {
     match a {
-        Answer::Best(_) => 0,
-        Answer::Refused(r) => path_refusals::number_of(r),
+        Answer::Best(f) => Told {
+            status: 0,
+            at: found_at(f),
+        },
+        Answer::Refused(r) => refusal_told(r),
     }
 }
 
-// The number that goes with it: the offset of the edge, or the refusal's place or offset.
-pub fn answer_at(a: Answer) -> u64
-    ensures { λ r. ⌜ r ≡ answerAt a ⌝ }
+// A path: the bytes of its listing, or the refusal.
+pub fn written_told(a: Written) -> Told
+    ensures { λ t. ⌜ t ≡ writtenTold a ⌝ }
 {
     match a {
-        Answer::Best(f) => found_at(f),
-        Answer::Refused(r) => path_refusals::place_of(r) as u64,
+        Written::Bytes(n) => Told {
+            status: 0,
+            at: n as u64,
+        },
+        Written::Refused(r) => refusal_told(r),
     }
 }
 
-// The status of a path.
-pub fn written_status(a: Written) -> u32
-    ensures { λ r. ⌜ r ≡ writtenStatus a ⌝ }
+// A text shown: its part of the listing or of the line, or the refusal.
+pub fn shown_told(a: Shown) -> ToldText
+    ensures { λ t. ⌜ t ≡ shownTold a ⌝ }
 {
     match a {
-        Written::Bytes(_) => 0,
-        Written::Refused(r) => path_refusals::number_of(r),
-    }
-}
-
-// The bytes of its listing, or the refusal's place or offset.
-pub fn written_at(a: Written) -> u64
-    ensures { λ r. ⌜ r ≡ writtenAt a ⌝ }
-{
-    match a {
-        Written::Bytes(n) => n as u64,
-        Written::Refused(r) => path_refusals::place_of(r) as u64,
-    }
-}
-
-// The status of a text shown.
-pub fn shown_status(a: Shown) -> u32
-    ensures { λ r. ⌜ r ≡ shownStatus a ⌝ }
-{
-    match a {
-        Shown::Listing(_) => 0,
-        Shown::Line(_) => 0,
-        Shown::Refused(r) => path_refusals::number_of(r),
-    }
-}
-
-// Its offset, or the refusal's place or offset.
-pub fn shown_at(a: Shown) -> u64
-    ensures { λ r. ⌜ r ≡ shownAt a ⌝ }
-{
-    match a {
-        Shown::Listing(p) => p.at as u64,
-        Shown::Line(p) => p.at as u64,
-        Shown::Refused(r) => path_refusals::place_of(r) as u64,
-    }
-}
-
-// Its length; a refusal has none.
-pub fn shown_len(a: Shown) -> u64
-    ensures { λ r. ⌜ r ≡ shownLen a ⌝ }
-{
-    match a {
-        Shown::Listing(p) => p.len as u64,
-        Shown::Line(p) => p.len as u64,
-        Shown::Refused(_) => 0,
-    }
-}
-
-// 1: it is a part of the listing; 0: of the line, or refused.
-pub fn in_listing(a: Shown) -> u8
-    ensures { λ r. ⌜ r ≡ inListing a ⌝ }
-{
-    match a {
-        Shown::Listing(_) => 1,
-        Shown::Line(_) => 0,
-        Shown::Refused(_) => 0,
+        Shown::Listing(p) => ToldText {
+            status: 0,
+            at: p.at as u64,
+            len: p.len as u64,
+            in_listing: 1,
+        },
+        Shown::Line(p) => ToldText {
+            status: 0,
+            at: p.at as u64,
+            len: p.len as u64,
+            in_listing: 0,
+        },
+        Shown::Refused(r) => {
+            let t = refusal_told(r);
+            ToldText {
+                status: t.status,
+                at: t.at,
+                len: 0,
+                in_listing: 0,
+            }
+        }
     }
 }

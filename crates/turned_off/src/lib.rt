@@ -13,7 +13,7 @@ use lattice::Lattice;
 use made::Choice;
 
 // The edges that a choice uses turn inactive.
-pub fn turn_off_used(w: &mut [u8], l: Lattice, c: Choice)
+fn turn_off_used(w: &mut [u8], l: Lattice, c: Choice)
     requires { ⌜ ((es : List Edge) × Holds (now w) l es × Valid es c) × (l .len ≡ 0 → ⊥) ⌝ }
     ensures { λ _. ⌜ (drop 39424 (now (w .exit)) ≡ drop 39424 (now (w .entry))) × ((es : List Edge) → Holds (now (w .entry)) l es → Holds (now (w .exit)) l (turnOff es (usedBy c))) ⌝ }
 {

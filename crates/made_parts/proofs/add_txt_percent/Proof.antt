@@ -10,7 +10,7 @@ use Rattle.lattice.specs.Lattice.{add}
 use Rattle.lattice.specs.Kept.{Holds}
 use Rattle.numbers.specs.Fractions.{percentageType}
 use Rattle.made_parts.specs.MadeParts.{Has, txtPercentOf}
-use Rattle.made_parts.proofs.TextLaws.{text-count}
+use Rattle.made_texts.proofs.TextLaws.{text-count}
 use Rattle.made_parts.proofs.WriteLaws.{regular-is}
 use Rattle.lattice.proofs.HoldsLaws.{behind-same}
 use Rattle.made_parts.proofs.EdgeLaws.{one-in, call-at, head-small, txt-short}

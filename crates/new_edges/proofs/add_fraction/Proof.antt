@@ -10,7 +10,7 @@ use Rattle.lattice.specs.Kept.{noEdge, Holds}
 use Rattle.made.specs.Choice.{Two}
 use Rattle.made_parts.specs.MadeParts.{Has, scriptFrom, fractionWith}
 use Rattle.new_edges.specs.NewEdge.{fractionOf}
-use Rattle.made_parts.proofs.TextLaws.{text-count}
+use Rattle.made_texts.proofs.TextLaws.{text-count}
 use Rattle.new_edges.proofs.FractionLaws.{fraction-is}
 use Rattle.lattice.proofs.HoldsLaws.{behind-same}
 use Rattle.made_parts.proofs.EdgeLaws.{left-in, right-in, call-at, head-small, ScriptRead, script-read}

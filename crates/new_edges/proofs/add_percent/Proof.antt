@@ -13,7 +13,7 @@ use Rattle.numbers.specs.Fractions.{percentageType}
 use Rattle.made.specs.Choice.{Two}
 use Rattle.made_parts.specs.MadeParts.{Has}
 use Rattle.new_edges.specs.NewEdge.{percentOf}
-use Rattle.made_parts.proofs.TextLaws.{text-count}
+use Rattle.made_texts.proofs.TextLaws.{text-count}
 use Rattle.made_parts.proofs.WriteLaws.{regular-is}
 use Rattle.lattice.proofs.HoldsLaws.{behind-same}
 use Rattle.made_parts.proofs.EdgeLaws.{left-in, right-in, head-small}

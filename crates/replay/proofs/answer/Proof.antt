@@ -48,11 +48,8 @@ write-all-requires c κs = search needs
 enum-known-r : tie.Need-enum-known-r
 enum-known-r c = search needs
 
-number-of-requires : tie.Need-number-of-requires
-number-of-requires c κs = search needs
-
-place-of-requires : tie.Need-place-of-requires
-place-of-requires c κs = search needs
+refusal-told-requires : tie.Need-refusal-told-requires
+refusal-told-requires c κs = search needs
 
 write-refusal-requires : tie.Need-write-refusal-requires
 write-refusal-requires c κs = search needs
@@ -76,8 +73,7 @@ answer-spec =
     slice-aggregate-write-all
     write-all-requires
     enum-known-r
-    number-of-requires
-    place-of-requires
+    refusal-told-requires
     write-refusal-requires
     returns
     returns-2)

@@ -1,0 +1,2 @@
+-- The laws of `made_texts`.
+pub mod TextLaws

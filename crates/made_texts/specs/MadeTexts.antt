@@ -1,0 +1,14 @@
+-- What the code says of a text at the front of a buffer. Definitions only.
+--     TextIs s r t          the first r bytes of the buffer s are the text t
+--     Assumes nothing.
+use mathlib.Core.Path.{_≡_}
+use mathlib.Core.List.{List}
+use Prim.Native.Nat.{ℕ, _≤_}
+use lib.ListN.{length, take}
+use Rattle.edge.specs.Edge.{Text}
+
+pub record TextIs (s : List ℕ) (r : ℕ) (t : Text) : Type 0 where
+  pub is : take r s ≡ t
+  pub len : r ≡ length t
+  pub room : r ≤ length s
+  pub short : r ≤ 300
