@@ -26,7 +26,7 @@ fn answer_line(
 }
 
 // The text of a line with the plain table, in the program's own work space and output.
-pub fn plain_rows(line: &[u8], text: &mut [u8]) -> Written
+fn plain_rows(line: &[u8], text: &mut [u8]) -> Written
     ensures { λ r. ⌜ TextIs (now (text .entry)) (now (text .exit)) r (plainAnswer (now (line .entry))) ⌝ }
 {
     let table = plain_table::plain_table();
