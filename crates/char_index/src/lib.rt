@@ -71,8 +71,8 @@ fn wide(x: u32) -> usize
 }
 
 // Takes a record into the index over so many records, where it is its turn. An offset that takes more than 32 bits ends the index.
-pub fn enter(offs: &mut [u32; 256], index: Index, all: usize, here: Rest) -> Index
-    requires { ⌜ (index .due ≡ all - index .n * strideOf all) × (0 < here .left) ⌝ }
+pub fn enter(offs: &mut [u32], index: Index, all: usize, here: Rest) -> Index
+    requires { ⌜ (index .due ≡ all - index .n * strideOf all) × (0 < here .left) × (length (now offs) ≡ 256) ⌝ }
     ensures next { λ r. ⌜ r .due ≡ all - r .n * strideOf all ⌝ }
     ensures grows { λ r. ⌜ ((t : List ℕ) (rs : List Record) → Entry t rs (here .at) (here .left) → Growing t rs (now (offs .entry)) all index → Growing t rs (now (offs .exit)) all r) ⌝ }
 {

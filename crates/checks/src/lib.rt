@@ -1,6 +1,5 @@
 // The checks 2 to 6 of the call, in their order (01, "What a call is lent"): line, table, given edges.
 ghost use mathlib.Core.Path.{_≡_};
-ghost use lib.ListN.{length};
 ghost use Rattle.checks.specs.Checks.{tableRefusal, RestIs, LentIs, LentIndexed};
 use answers::Refusal;
 use dicts::shape::Shape;
@@ -33,7 +32,6 @@ fn check_rest(
     offs: &mut [u32; 256],
     entries: &mut usize,
 ) -> Lent
-    requires { ⌜ length (now offs) ≡ 256 ⌝ }
     ensures { λ r. ⌜ RestIs chars (now (table .entry)) (now (edges .entry)) r ⌝ }
     ensures indexed { λ r. ⌜ LentIndexed (now (table .entry)) (now (offs .exit)) (now (entries .exit)) r ⌝ }
 {
@@ -54,7 +52,6 @@ pub fn check(
     offs: &mut [u32; 256],
     entries: &mut usize,
 ) -> Lent
-    requires { ⌜ length (now offs) ≡ 256 ⌝ }
     ensures { λ r. ⌜ LentIs (now (line .entry)) (now (table .entry)) (now (edges .entry)) r ⌝ }
     ensures indexed { λ r. ⌜ LentIndexed (now (table .entry)) (now (offs .exit)) (now (entries .exit)) r ⌝ }
 {

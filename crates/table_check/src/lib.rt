@@ -2,7 +2,6 @@
 ghost use mathlib.Core.Path.{_≡_};
 ghost use Rattle.dicts.specs.Check.{readTable};
 ghost use Rattle.dicts.specs.Answers.{tableAnswer};
-ghost use lib.ListN.{length};
 ghost use Rattle.table_check.specs.Indexed.{TableIndexed};
 use dicts::shape::Items;
 use dicts::shape::Shape;
@@ -12,7 +11,6 @@ use table_items::records_end;
 
 // The table that the bytes are, or why they are none. The index over its records is left in offs, with so many entries.
 pub fn check_table(s: &[u8], offs: &mut [u32; 256], entries: &mut usize) -> TableCheck
-    requires { ⌜ length (now offs) ≡ 256 ⌝ }
     ensures { λ r. ⌜ tableAnswer (now (s .entry)) r ≡ readTable (now (s .entry)) ⌝ }
     ensures indexed { λ r. ⌜ TableIndexed (now (s .entry)) (now (offs .exit)) (now (entries .exit)) r ⌝ }
 {

@@ -75,13 +75,7 @@ fn record_item(s: &[u8], at: usize, least: u64) -> Step
 }
 
 // The records, n of them, their code points rising. Their index is made on the way, and how many entries it has.
-pub fn records_end(
-    s: &[u8],
-    from: usize,
-    n: usize,
-    offs: &mut [u32; 256],
-    entries: &mut usize,
-) -> Items
+pub fn records_end(s: &[u8], from: usize, n: usize, offs: &mut [u32], entries: &mut usize) -> Items
     requires { ⌜ length (now offs) ≡ 256 ⌝ }
     ensures { λ r. ⌜ r ≡ endOf (readRecords n 0 (now (s .entry)) from) ⌝ }
     ensures indexed { λ _. ⌜ IndexIf (now (s .entry)) from n (now (offs .exit)) (now (entries .exit)) ⌝ }
