@@ -1,4 +1,7 @@
+// What the calls answer, and what C is told of it.
 // What the call answers, 01's numbers of its refusals (01, the table of refusals), and what C is told of an answer.
+pub mod reading; // reading.rt: the same of the calls that read a listing
+
 ghost use mathlib.Core.Path.{_≡_};
 ghost use Rattle.answers.specs.Answers.{refusalTold, answerOf, told};
 use text::Offset;

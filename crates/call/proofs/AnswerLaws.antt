@@ -9,21 +9,21 @@ use borrow.Author.Tests.{lt-ltb, le-ltb}
 use Rattle.text.specs.declared.Place.{Place}
 use Rattle.text.specs.Text.{chars}
 use Rattle.text.specs.Line.{lineCheck}
-use Rattle.dicts.specs.Table.{Table}
-use Rattle.dicts.specs.Answers.{tableOf}
-use Rattle.dicts.specs.declared.shape.Shape.{Shape}
+use Rattle.table.specs.Table.{Table}
+use Rattle.table.specs.Answers.{tableOf}
+use Rattle.table.specs.declared.shape.Shape.{Shape}
 use Rattle.passes.specs.Passes.{aboveAt}
 use Rattle.edge.specs.Edge.{Edge}
 use Rattle.edge.specs.Layout.{listed}
 use Rattle.numbers.specs.Call.{finished, latticeOf, withAll, withLine, addNumbers}
 use Rattle.answers.specs.declared.Refusal.{Refusal}
 use Rattle.answers.specs.declared.Refusal.the-variants.{ShortWork, AboveTop}
-use Rattle.checks.specs.declared.Lent.the-variants as Lent
+use Rattle.call.specs.declared.checks.Lent.the-variants as Lent
 use Rattle.answers.specs.declared.Answer.{Answer}
 use Rattle.answers.specs.declared.Answer.the-variants as Answer
-use Rattle.ending.specs.Answers.{AnswerIs}
-use Rattle.checks.specs.Checks.{Sound, LentIs}
-use Rattle.checks.proofs.CheckLaws.{sound-answer}
+use Rattle.call.specs.Answers.{AnswerIs}
+use Rattle.call.specs.Checks.{Sound, LentIs}
+use Rattle.call.proofs.checks.CheckLaws.{sound-answer}
 
 -- ---- the stages
 module _ (t : Table) (w : List ℕ) (out : List ℕ) (given : List Edge) where

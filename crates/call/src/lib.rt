@@ -1,21 +1,26 @@
+// The whole call, `add_numbers`.
 // The whole call, `add_numbers` (01, "What a call is lent", "The rest of the call"): the checks in their order, then the stages.
+pub mod checks; // checks.rt: the checks 2 to 6
+pub mod last_stages; // last_stages.rt: the stages after the passes, in turn
+pub mod ending; // ending.rt: the listing in the output, or refusal 8
+
 ghost use mathlib.Core.Path.{_≡_};
 ghost use Prim.Native.Nat.{ℕ, _≤_};
 ghost use lib.ListN.{length};
-ghost use Rattle.stages.specs.Ready.{Offsets};
+ghost use Rattle.numbers.specs.Ready.{Offsets};
 ghost use Rattle.text.specs.Text.{chars};
-ghost use Rattle.dicts.specs.Answers.{tableOf};
+ghost use Rattle.table.specs.Answers.{tableOf};
 ghost use Rattle.edge.specs.Layout.{listed};
 ghost use Rattle.numbers.specs.Call.{withAll, addNumbers};
 ghost use Rattle.table_check.specs.Indexed.{RecordIndex};
-ghost use Rattle.checks.specs.Checks.{Sound};
-ghost use Rattle.ending.specs.Answers.{AnswerIs};
+ghost use Rattle.call.specs.Checks.{Sound};
+ghost use Rattle.call.specs.Answers.{AnswerIs};
+use crate::checks::Lent;
 pub use answers::Answer;
 pub use answers::Refusal;
 pub use answers::refusal_told;
-use checks::Lent;
-use dicts::shape::Shape;
-use five::Passes;
+use first_stages::five_passes::Passes;
+use table::shape::Shape;
 
 // The stages, for what passed its checks. The output is written only at the end.
 fn checked_call(
@@ -37,8 +42,8 @@ fn checked_call(
     match first_stages::passed(work, line, offs, table, h, edges, count, index, entries) {
         Passes::Above(p) => Answer::Refused(Refusal::AboveTop(p)),
         Passes::Added(m, k) => {
-            let l = rest::rest_of_call(work, m, line, offs, table, h, n, k);
-            ending::end_of_call(work, l, out)
+            let l = crate::last_stages::run_last_stages(work, m, line, offs, table, h, n, k);
+            crate::ending::finish_call(work, l, out)
         }
     }
 }
@@ -58,11 +63,11 @@ pub fn add_numbers(
     }
     let mut index = [0u32; 256];
     let mut entries: usize = 0;
-    match checks::check(line, table, edges, &mut index, &mut entries) {
+    match crate::checks::check(line, table, edges, &mut index, &mut entries) {
         Lent::Refused(r) => Answer::Refused(r),
         Lent::Sound(n, h, count) => {
             let mut offs = [0usize; 257];
-            places::place_offsets(line, &mut offs);
+            pass_edge::places::place_offsets(line, &mut offs);
             checked_call(
                 line,
                 &offs,

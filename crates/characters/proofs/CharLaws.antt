@@ -1,4 +1,4 @@
--- The item of a character (specs/CharItem.antt) stands for the definition's edge, and is well made and small, where its record is legal. No contract cites this file.
+-- The item of a character (specs/CharStored.antt) stands for the definition's edge, and is well made and small, where its record is legal. No contract cites this file.
 -- In order: texts of one character; numbers that may be absent; the edge; the marks; the bounds.
 -- Assumes nothing.
 use mathlib.Core.Path.{_≡_, refl, sym, ap, _∙_}
@@ -22,18 +22,18 @@ use Rattle.text.specs.Text.{encodes, Scalars}
 use Rattle.text.proofs.BytesLaws.{same-refl, same-true}
 use Rattle.text.proofs.RowLaws.{and-true, or-true}
 use Rattle.text.proofs.TextLaws.{encodes-injective, scalars-at}
-use Rattle.dicts.specs.Table.{Text, Record}
-use Rattle.dicts.specs.Layout.{Is, bit, numbersIn, readRecord}
-use Rattle.dicts.specs.Check.{isDigitType, allOf, small, positive, legalDigit, digitRule, legalNumbers, legalTexts, legalCodePoint, legalRecord}
-use Rattle.dicts.specs.Answers.{optionally, partOf, recordOf}
-use Rattle.dicts.specs.declared.layout.NumProp.{NumProp}
+use Rattle.table.specs.Table.{Text, Record}
+use Rattle.table.specs.Layout.{Is, bit, numbersIn, readRecord}
+use Rattle.table.specs.Check.{isDigitType, allOf, small, positive, legalDigit, digitRule, legalNumbers, legalTexts, legalCodePoint, legalRecord}
+use Rattle.table.specs.Answers.{optionally, partOf, recordOf}
+use Rattle.table.specs.declared.layout.NumProp.{NumProp}
 use Rattle.passes.specs.NumEdge.{NumEdge, orZero, has}
 use Rattle.passes.specs.Characters.{charEdge}
 use Rattle.passes.specs.Passes as passes
 use Rattle.passes.specs.Passes.{digitEdge, isScript, cjk}
-use Rattle.pass_list.specs.Item.{Item, Small}
+use Rattle.pass_list.specs.StoredEdge.{StoredEdge, Small}
 use Rattle.pass_list.specs.Edges.{between, edgeOf, WellMade}
-use Rattle.characters.specs.CharItem.{numberIf, charItem}
+use Rattle.characters.specs.CharStored.{numberIf, charStored}
 
 -- ---- texts of one character
 encodes-one : (c : ℕ) → encodes (c ∷ []) ≡ encode c
@@ -117,15 +117,15 @@ legal-parts least r h = and-true (legalNumbers (numbersIn r)) (digitRule r) (and
 
 -- ---- one character: c stands at place i of the line w, and the record p that is read at the offset at of the table t is its record
 module _ (w t : List ℕ) (p : NumProp) (at i c : ℕ) where
-  abbrev item : Item
-  item = charItem t p at i c
+  abbrev item : StoredEdge
+  item = charStored t p at i c
 
   module _ (inside : i < length w) (here : getD w i 0 ≡ c) (reads : Is (recordOf t p) (p .next) ≡ readRecord t at) where
     here-text : between w i (i + 1) ≡ encode c
     here-text = between-one w i inside ∙ ap encode here
 
     pub char-edge-is : edgeOf w t item ≡ charEdge i c (recordOf t p)
-    unfolding edgeOf charItem charEdge recordOf
+    unfolding edgeOf charStored charEdge recordOf
     char-edge-is =
         rw (
           here-text,
@@ -138,7 +138,7 @@ module _ (w t : List ℕ) (p : NumProp) (at i c : ℕ) where
 
     -- ---- the marks
     digit-is : digitEdge (charEdge i c (recordOf t p)) ≡ item .digit
-    unfolding digitEdge charEdge charItem recordOf
+    unfolding digitEdge charEdge charStored recordOf
     digit-is =
         let one : eqb (suc i) (suc i) ≡ true = eq-eqb (suc i) (suc i) refl in
         rw (one, bool.and-true, has-number (bit (p .map) 1) (p .numbers .value), or-zero (bit (p .map) 1) (p .numbers .value))
@@ -148,21 +148,21 @@ module _ (w t : List ℕ) (p : NumProp) (at i c : ℕ) where
       here-scalar = rw here at (scalars-at i w scalars inside)
 
       gap-is : passes.gap (charEdge i c (recordOf t p)) ≡ item .gap
-      unfolding passes.gap charEdge charItem
+      unfolding passes.gap charEdge charStored
       gap-is = rw (same-encode c 0x96F6 here-scalar refl, same-encode c 0x3007 here-scalar refl)
 
       script-same : isScript (charEdge i c (recordOf t p) .script) cjk ≡ item .cjk
-      unfolding charEdge charItem recordOf
+      unfolding charEdge charStored recordOf
       script-same = script-is (bit (p .map) 5) (partOf t (p .script)) cjk
 
       digit-text : digitRule (recordOf t p) ≡ true → item .digit ≡ true → charEdge i c (recordOf t p) .txt ≡ padded (i + 1 - i) (item .value)
-      unfolding charEdge charItem recordOf digitRule
+      unfolding charEdge charStored recordOf digitRule
       digit-text legal d =
           let one : i + 1 - i ≡ 1 = omega arith in
           rw one (digit-txt (partOf t (p .«num_type»)) (bit (p .map) 1) (p .numbers .value) (optionally (bit (p .map) 0) (partOf t (p .rom))) (encode c) legal d)
 
       pub char-made : digitRule (recordOf t p) ≡ true → WellMade w t item
-      unfolding charItem
+      unfolding charStored
       char-made legal = record {
         ordered = omega arith;
         inside = omega arith;
@@ -176,12 +176,12 @@ module _ (w t : List ℕ) (p : NumProp) (at i c : ℕ) where
 
 -- ---- the bounds
 module _ (t : List ℕ) (p : NumProp) (at i c : ℕ) where
-  pub char-kind : charItem t p at i c .kind ≡ 0
-  unfolding charItem
+  pub char-kind : charStored t p at i c .kind ≡ 0
+  unfolding charStored
   char-kind = refl
 
-  pub char-small : legalNumbers (numbersIn (recordOf t p)) ≡ true → Small (charItem t p at i c)
-  unfolding legalNumbers recordOf charItem
+  pub char-small : legalNumbers (numbersIn (recordOf t p)) ≡ true → Small (charStored t p at i c)
+  unfolding legalNumbers recordOf charStored
   char-small h =
       let mult = and-true _ (allOf small (optionally (bit (p .map) 4) (p .numbers .mult))) h in
       let base = and-true _ (allOf positive (optionally (bit (p .map) 3) (p .numbers .base))) (mult .0) in

@@ -11,21 +11,21 @@ use lib.ListN.{length, getD, drop}
 use Rattle.text.specs.Text.{chars, Scalars}
 use Rattle.text.proofs.PlaceLaws.{Reached, reached-count}
 use Rattle.fields.specs.Fields.{leAt}
-use Rattle.dicts.specs.Table.{Record, find}
-use Rattle.dicts.specs.Layout.{numbersIn, recordsAt}
-use Rattle.dicts.specs.Check.{Fine, readTable, legalNumbers, digitRule}
-use Rattle.dicts.specs.Answers.{recordOf, tableOf}
-use Rattle.dicts.specs.declared.shape.Shape.{Shape}
-use Rattle.dicts.specs.declared.layout.NumProp.{NumProp}
-use Rattle.dicts.proofs.LookupLaws.{table-rises}
-use Rattle.char_index.specs.Index.{FoundAt, Whole}
-use Rattle.char_index.specs.declared.Rest.{Rest}
-use Rattle.pass_list.specs.Item.{Every, Small, nil, cons}
-use Rattle.pass_list.specs.Stored.{itemsAt}
-use Rattle.pass_edges.proofs.EveryLaws.{every-append}
-use Rattle.pass_edges.proofs.FirstItemsLaws.{first-items-none, first-items-skip, first-items-more}
-use Rattle.items.specs.Sound.{Rooted, Sound}
-use Rattle.characters.specs.CharItem.{charItem}
+use Rattle.table.specs.Table.{Record, find}
+use Rattle.table.specs.Layout.{numbersIn, recordsAt}
+use Rattle.table.specs.Check.{Fine, readTable, legalNumbers, digitRule}
+use Rattle.table.specs.Answers.{recordOf, tableOf}
+use Rattle.table.specs.declared.shape.Shape.{Shape}
+use Rattle.table.specs.declared.layout.NumProp.{NumProp}
+use Rattle.table.proofs.LookupLaws.{table-rises}
+use Rattle.table.specs.Index.{FoundAt, Whole}
+use Rattle.table.specs.declared.index.Rest.{Rest}
+use Rattle.pass_list.specs.StoredEdge.{Every, Small, nil, cons}
+use Rattle.pass_list.specs.Stored.{storedListAt}
+use Rattle.pass_list.proofs.in_turn.EveryLaws.{every-append}
+use Rattle.pass_list.proofs.in_turn.FirstItemsLaws.{first-items-none, first-items-skip, first-items-more}
+use Rattle.pass_edge.specs.Sound.{Rooted, Sound}
+use Rattle.characters.specs.CharStored.{charStored}
 use Rattle.characters.specs.Initial.{recordsIn, Records, SoFar, Initial}
 use Rattle.characters.proofs.CharLaws.{legal-parts, char-edge-is, char-made, char-kind, char-small}
 use Rattle.characters.proofs.LegalLaws.{Lawful, table-told, records-first, found-lawful}
@@ -58,14 +58,14 @@ module _ (t : List ℕ) (all : Rest) (ok : Records t all) where
     legal : (legalNumbers (numbersIn (recordOf t p)) ≡ true) × (digitRule (recordOf t p) ≡ true)
     legal = let l = found-lawful (recordsIn t all) c each-lawful (f .found) in legal-parts (l .0) (recordOf t p) (l .1)
 
-    found-rooted : (i : ℕ) → Rooted t (charItem t p at i c)
+    found-rooted : (i : ℕ) → Rooted t (charStored t p at i c)
     found-rooted i =
         let l = found-lawful (recordsIn t all) c each-lawful (f .found) in
         char-rooted t (recordsIn t all) c p at (l .0) f (l .1) (legal .0) i
 
   -- ---- c stands at place k of the line
   module _ (w : List ℕ) (scalars : Scalars w) (k c : ℕ) (inside : k < length w) (here : getD w k 0 ≡ c) where
-    pub found-sound : (p : NumProp) (at : ℕ) → FoundAt t (recordsIn t all) c p at → Sound w t (charItem t p at k c)
+    pub found-sound : (p : NumProp) (at : ℕ) → FoundAt t (recordsIn t all) c p at → Sound w t (charStored t p at k c)
     found-sound p at f = record { made = char-made w t p at k c inside here (f .reads) scalars (legal c p at f .1); small = char-small t p at k c (legal c p at f .0); rooted = found-rooted c p at f k }
 
     -- ---- a turn: s begins with the n items of the characters before place k
@@ -73,24 +73,24 @@ module _ (t : List ℕ) (all : Rest) (ok : Records t all) where
       pub so-far-skip : find (recordsIn t all) c ≡ none → SoFar w t (recordsIn t all) (k + 1) s n
       so-far-skip e =
           let few = so .few in
-          record { items = first-items-skip w t (recordsIn t all) k c (itemsAt s 0 n) inside here (so .items) e; few = omega arith; small = so .small; rooted = so .rooted }
+          record { items = first-items-skip w t (recordsIn t all) k c (storedListAt s 0 n) inside here (so .items) e; few = omega arith; small = so .small; rooted = so .rooted }
 
-      pub so-far-more : (p : NumProp) (at : ℕ) (u : List ℕ) → FoundAt t (recordsIn t all) c p at → itemsAt u 0 (n + 1) ≡ itemsAt s 0 n ++ (charItem t p at k c ∷ [])
+      pub so-far-more : (p : NumProp) (at : ℕ) (u : List ℕ) → FoundAt t (recordsIn t all) c p at → storedListAt u 0 (n + 1) ≡ storedListAt s 0 n ++ (charStored t p at k c ∷ [])
           → SoFar w t (recordsIn t all) (k + 1) u (n + 1)
       so-far-more p at u f put =
           let few = so .few in
-          let x = charItem t p at k c in
+          let x = charStored t p at k c in
           let sound = found-sound p at f in
           record {
-            items = rw put (first-items-more w t (recordsIn t all) k c (itemsAt s 0 n) inside here (so .items) (recordOf t p) x (f .found)
+            items = rw put (first-items-more w t (recordsIn t all) k c (storedListAt s 0 n) inside here (so .items) (recordOf t p) x (f .found)
                 (char-edge-is w t p at k c inside here (f .reads)) (sound .made) (char-kind t p at k c));
             few = omega arith;
-            small = rw put (every-append Small (itemsAt s 0 n) (x ∷ []) (so .small) (cons (sound .small) nil));
-            rooted = rw put (every-append (Rooted t) (itemsAt s 0 n) (x ∷ []) (so .rooted) (cons (sound .rooted) nil));
+            small = rw put (every-append Small (storedListAt s 0 n) (x ∷ []) (so .small) (cons (sound .small) nil));
+            rooted = rw put (every-append (Rooted t) (storedListAt s 0 n) (x ∷ []) (so .rooted) (cons (sound .rooted) nil));
           }
 
 pub so-far-none : (w t : List ℕ) (rs : List Record) (s : List ℕ) → SoFar w t rs 0 s 0
-unfolding itemsAt
+unfolding storedListAt
 so-far-none w t rs s = record { items = first-items-none w t rs; few = omega arith; small = nil; rooted = nil }
 
 -- the line ends at place k

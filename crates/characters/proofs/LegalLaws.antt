@@ -10,12 +10,12 @@ use native.Mathlib.Decide.{decLe}
 use lib.ListN.{length}
 use lib.Dec.{eqb}
 use Rattle.fields.specs.Fields.{leAt}
-use Rattle.dicts.specs.Table.{Text, Record, Table, find}
-use Rattle.dicts.specs.Layout.{Field, Is, Fault, onField, number, readRecord, manyAt, recordsAt}
-use Rattle.dicts.specs.Check.{Fine, Refused, item, legalRecord, readList, readRecords, readTable}
-use Rattle.dicts.proofs.LayoutLaws.{number-is, number-cut}
-use Rattle.dicts.proofs.LookupLaws.{then-fine}
-use Rattle.pass_list.specs.Item.{Every, nil, cons}
+use Rattle.table.specs.Table.{Text, Record, Table, find}
+use Rattle.table.specs.Layout.{Field, Is, Fault, onField, number, readRecord, manyAt, recordsAt}
+use Rattle.table.specs.Check.{Fine, Refused, item, legalRecord, readList, readRecords, readTable}
+use Rattle.table.proofs.LayoutLaws.{number-is, number-cut}
+use Rattle.table.proofs.LookupLaws.{then-fine}
+use Rattle.pass_list.specs.StoredEdge.{Every, nil, cons}
 
 abbrev pub Lawful : Record → Type 0
 Lawful r = (least : ℕ) × (legalRecord least r ≡ true)

@@ -12,15 +12,15 @@ use Rattle.fields.specs.Part.{part}
 use Rattle.fields.proofs.PartLaws.{length-part}
 use Rattle.text.specs.Text.{wellFormed}
 use Rattle.text.proofs.RowLaws.{and-true}
-use Rattle.dicts.specs.Table.{Text, Record}
-use Rattle.dicts.specs.Layout.{bit, numbersIn}
-use Rattle.dicts.specs.Check.{allOf, legalCodePoint, legalTexts, legalNumbers, legalRecord}
-use Rattle.dicts.specs.Answers.{recordOf}
-use Rattle.dicts.specs.declared.layout.NumProp.{NumProp}
-use Rattle.items.specs.Sound.{ScriptAt, Rooted}
-use Rattle.items.proofs.RecordLaws.{record-short, at-most}
-use Rattle.characters.specs.CharItem.{charItem}
-use Rattle.char_index.specs.Index.{FoundAt}
+use Rattle.table.specs.Table.{Text, Record}
+use Rattle.table.specs.Layout.{bit, numbersIn}
+use Rattle.table.specs.Check.{allOf, legalCodePoint, legalTexts, legalNumbers, legalRecord}
+use Rattle.table.specs.Answers.{recordOf}
+use Rattle.table.specs.declared.layout.NumProp.{NumProp}
+use Rattle.pass_edge.specs.Sound.{ScriptAt, Rooted}
+use Rattle.pass_edge.proofs.RecordLaws.{record-short, at-most}
+use Rattle.characters.specs.CharStored.{charStored}
+use Rattle.table.specs.Index.{FoundAt}
 
 -- ---- texts of a record that may stand
 legal-texts : (least : ℕ) (r : Record) → legalRecord least r ≡ true → legalTexts r ≡ true
@@ -46,8 +46,8 @@ module _ (t : List ℕ) (rs : List Record) (c : ℕ) (p : NumProp) (at least : �
       let m = at-most (record-short t at (sym (f .reads)) .script) e in
       record { within = w; short = omega arith; formed = script-formed (recordOf t p) _ (legal-texts least (recordOf t p) legal) e }
 
-  pub char-rooted : (i : ℕ) → Rooted t (charItem t p at i c)
-  unfolding charItem
+  pub char-rooted : (i : ℕ) → Rooted t (charStored t p at i c)
+  unfolding charStored
   char-rooted i =
       record {
         legal = λ z. record { prop = recordOf t p; next = p .next; reads = sym (f .reads); texts = legal-texts least (recordOf t p) legal; numbers = numbers };

@@ -9,16 +9,16 @@ use mathlib.Core.List.{List}
 use Prim.Native.Nat.{ℕ, _≤_}
 use lib.ListN.{length}
 use Rattle.text.specs.Text.{chars}
-use Rattle.dicts.specs.Table.{Record, Table}
-use Rattle.dicts.specs.Layout.{recordsAt}
-use Rattle.dicts.specs.Check.{Fine, readTable}
-use Rattle.dicts.specs.Answers.{tableOf}
-use Rattle.dicts.specs.declared.shape.Shape.{Shape}
-use Rattle.char_index.specs.declared.Rest.{Rest}
-use Rattle.pass_list.specs.Item.{Every, AllSmall}
-use Rattle.pass_list.specs.Stored.{itemsAt}
-use Rattle.pass_edges.specs.FirstItems.{FirstItems}
-use Rattle.items.specs.Sound.{Rooted}
+use Rattle.table.specs.Table.{Record, Table}
+use Rattle.table.specs.Layout.{recordsAt}
+use Rattle.table.specs.Check.{Fine, readTable}
+use Rattle.table.specs.Answers.{tableOf}
+use Rattle.table.specs.declared.shape.Shape.{Shape}
+use Rattle.table.specs.declared.index.Rest.{Rest}
+use Rattle.pass_list.specs.StoredEdge.{Every, AllSmall}
+use Rattle.pass_list.specs.Stored.{storedListAt}
+use Rattle.pass_list.specs.FirstStored.{FirstStored}
+use Rattle.pass_edge.specs.Sound.{Rooted}
 
 abbrev pub recordsIn : List ℕ → Rest → List Record
 recordsIn t all = recordsAt (all .left) t (all .at)
@@ -30,10 +30,10 @@ pub record Records (t : List ℕ) (all : Rest) : Type 0 where
   pub full : length (recordsIn t all) ≡ all .left
 
 pub record SoFar (w t : List ℕ) (rs : List Record) (k : ℕ) (s : List ℕ) (n : ℕ) : Type 0 where
-  pub items : FirstItems w t rs k (itemsAt s 0 n)
+  pub items : FirstStored w t rs k (storedListAt s 0 n)
   pub few : n ≤ k
-  pub small : AllSmall (itemsAt s 0 n)
-  pub rooted : Every (Rooted t) (itemsAt s 0 n)
+  pub small : AllSmall (storedListAt s 0 n)
+  pub rooted : Every (Rooted t) (storedListAt s 0 n)
 
 abbrev pub Initial : List ℕ → List ℕ → Shape → List ℕ → ℕ → Type 0
 Initial line t h s n = SoFar (chars line) t (tableOf t h .records) (length (chars line)) s n

@@ -1,3 +1,3 @@
 -- The definitions that the contracts of `characters` cite.
-pub mod CharItem
+pub mod CharStored
 pub mod Initial

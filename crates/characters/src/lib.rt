@@ -1,16 +1,20 @@
-// The edge of one character in the pass list, from its record in the table. The definition is charItem of specs/CharItem.antt.
+// The edge of a character.
+// The edge of one character in the pass list, from its record in the table. The definition is charStored of specs/CharStored.antt.
+pub mod fraction; // fraction.rt: the fraction of its record
+pub mod add; // add.rt: a character added to the lattice
+
 ghost use mathlib.Core.Path.{_≡_};
 ghost use Prim.Native.Nat.{_+_, _<_};
 ghost use Rattle.text.specs.Bytes.{same};
-ghost use Rattle.dicts.specs.Answers.{partOf, Within, Inside};
+ghost use Rattle.table.specs.Answers.{partOf, Within, Inside};
 ghost use Rattle.passes.specs.Passes.{cjk};
-ghost use Rattle.pass_list.specs.Item.{numData, Small, EdgeIs};
-ghost use Rattle.characters.specs.CharItem.{numberIf, charItem};
-use dicts::layout::NumProp;
-use dicts::layout::Part;
+ghost use Rattle.pass_list.specs.StoredEdge.{numData, Small, EdgeIs};
+ghost use Rattle.characters.specs.CharStored.{numberIf, charStored};
 use pass_list::record::NumData;
 use pass_list::record::PassEdge;
-use table_digit::is_digit_type;
+use table::digit::is_digit_type;
+use table::layout::NumProp;
+use table::layout::Part;
 use text::Offset;
 use text::Place;
 
@@ -31,8 +35,8 @@ fn is_cjk(table: &[u8], p: Part) -> bool
 }
 
 fn char_num(table: &[u8], p: NumProp, record_at: usize, place: usize, c: u32) -> NumData
-    requires { ⌜ Inside (now table) p × Small (charItem (now table) p «record_at» place c) ⌝ }
-    ensures { λ r. ⌜ r ≡ numData (charItem (now (table .entry)) p «record_at» place c) ⌝ }
+    requires { ⌜ Inside (now table) p × Small (charStored (now table) p «record_at» place c) ⌝ }
+    ensures { λ r. ⌜ r ≡ numData (charStored (now (table .entry)) p «record_at» place c) ⌝ }
 {
     let n = p.numbers;
     let num_type = p.num_type;
@@ -61,8 +65,8 @@ fn char_num(table: &[u8], p: NumProp, record_at: usize, place: usize, c: u32) ->
 
 // The edge of the code point c at a place of the line; its record p stands at record_at in the table.
 pub fn char_edge(table: &[u8], p: NumProp, record_at: usize, place: usize, c: u32) -> PassEdge
-    requires { ⌜ Inside (now table) p × Small (charItem (now table) p «record_at» place c) × (place + 1 < 65536) ⌝ }
-    ensures { λ r. ⌜ EdgeIs r (charItem (now (table .entry)) p «record_at» place c) ⌝ }
+    requires { ⌜ Inside (now table) p × Small (charStored (now table) p «record_at» place c) × (place + 1 < 65536) ⌝ }
+    ensures { λ r. ⌜ EdgeIs r (charStored (now (table .entry)) p «record_at» place c) ⌝ }
 {
     PassEdge {
         start: Place(place),

@@ -29,8 +29,8 @@ fn write_rows(s: &[u8]) {
         let end = vectors::until(s, at, b'\n');
         let line = &s[at..end];
         io::write_all(STDOUT_FILENO, line);
-        write_answer(digit_ends::begins_with_digit(line));
-        write_answer(digit_ends::ends_with_digit(line));
+        write_answer(digits::ends::begins_with_digit(line));
+        write_answer(digits::ends::ends_with_digit(line));
         io::write_all(STDOUT_FILENO, b"\n");
         at = end + 1;
     }

@@ -1,4 +1,11 @@
-// Edges in their listing (01, "Listing"): what is read of them and written, and the bits of a map. `edge_head`, `edge_fields` and `edge_next` read whatever stands there, `edge_check` refuses, `edge_write` writes.
+// Edges in their listing: reading one (the Rust's edge.rs).
+// Edges in their listing (01, "Listing"): what is read of them and written, and the bits of a map. `edge::head`, `edge::numeric` and `edge::next` read whatever stands there, `edge_check` refuses, `edge_write::numeric` writes.
+pub mod head; // head.rt: the head of an edge
+pub mod next; // next.rt: where the next edge begins
+pub mod numeric; // numeric.rt: the fields of a numeric edge
+pub mod data; // data.rt: numeric data as the fields that it is listed with
+pub mod theorems; // theorems.rt: what was listed is read back, an accepted listing is its edges' bytes (theorems)
+
 ghost use mathlib.Core.Path.{_≡_};
 ghost use Prim.Native.Nat.{_+_, _/_, _%_, _≤_, _<_};
 ghost use lib.Dec.{eqb};
@@ -54,7 +61,7 @@ pub enum ListingCheck {
     Refused(Offset),
 }
 
-// The answer of the writers of `edge_write`: the offset behind what was written, or that there is no room, the buffer then as it was.
+// The answer of the writers of `edge_write::numeric`: the offset behind what was written, or that there is no room, the buffer then as it was.
 pub enum Written {
     To(usize),
     NoRoom,

@@ -1,4 +1,7 @@
+// Refusal 6: the check of a listing.
 // Refusal 6 (01, "Listing"): whether bytes are a listing over a line, and where they are not.
+pub mod sound; // sound.rt: whether one edge may stand
+
 ghost use mathlib.Core.Path.{_≡_};
 ghost use Rattle.edge.specs.Check.{checkListing};
 use edge::ListingCheck;
@@ -15,8 +18,8 @@ pub fn check_listing(s: &[u8], chars: usize, given: bool) -> ListingCheck
     let mut left = count;
     let mut at = 2;
     while 0 < left {
-        let next = edge_next::next_at(s, at);
-        if !edge_sound::edge_good(s, at, next, chars, given) {
+        let next = edge::next::next_at(s, at);
+        if !crate::sound::edge_legal(s, at, next, chars, given) {
             return ListingCheck::Refused(Offset(at));
         }
         at = next;

@@ -23,16 +23,16 @@ use Rattle.text.proofs.PlaceLaws.{offset-drop, offset-le, offset-next}
 use Rattle.edge.specs.Edge.{Edge}
 use Rattle.edge.specs.Write.{regular}
 use Rattle.edge.specs.Check.{allowed, sound}
-use Rattle.edge_theorems.specs.Legal.{Legal}
-use Rattle.pass_list.specs.Item.{nil, cons}
-use Rattle.stages.specs.CallEdge.{Legals}
-use Rattle.stages.proofs.CallLaws.{add-all-legals}
+use Rattle.edge.specs.Legal.{Legal}
+use Rattle.pass_list.specs.StoredEdge.{nil, cons}
+use Rattle.numbers.specs.CallEdge.{Legals}
+use Rattle.numbers.proofs.stages.CallLaws.{add-all-legals}
 use Rattle.lattice.specs.declared.Lattice.{Lattice}
 use Rattle.lattice.specs.Lattice.{add, addAll}
 use Rattle.lattice.specs.Kept.{Holds, AddingIs}
 use Rattle.lattice.proofs.HoldsLaws.{add-all-append, add-nothing}
 use Rattle.numbers.specs.Fallback.{covered, numType, asciiDigit, fallback}
-use Rattle.digit_marks.specs.Marks.{anyDigit}
+use Rattle.fallback.specs.DigitMarks.{anyDigit}
 use Rattle.fallback.specs.Marks.{digitEdge, unmarked}
 
 -- ---- the edge of one character

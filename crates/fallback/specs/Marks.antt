@@ -1,4 +1,4 @@
--- The fallback by marks: one for each place that a numeric edge of one place covers (`digit_marks`). Definitions only.
+-- The fallback by marks: one for each place that a numeric edge of one place covers (`fallback::marks`). Definitions only.
 --     digitEdge c p m       the edge of the character c at place p, as a list: none if it is no ASCII digit or its place has a mark (m)
 --     unmarked marks p w    the edges of the characters w, the first of them at place p, by marks
 --     Assumes nothing.

@@ -1,4 +1,7 @@
+// The fallback for ASCII digits.
 // The fallback (01, "The rest of the call"): an ASCII digit without a numeric edge on its place adds a regular edge there. The last stage of the call.
+pub mod marks; // marks.rt: which places a numeric edge covers
+
 ghost use mathlib.Core.Path.{_≡_};
 ghost use mathlib.Core.List.{List};
 ghost use Prim.Native.Nat.{_≤_, _<_};
@@ -7,8 +10,8 @@ ghost use Rattle.text.specs.Text.{chars};
 ghost use Rattle.edge.specs.Edge.{Edge};
 ghost use Rattle.lattice.specs.Lattice.{addAll};
 ghost use Rattle.lattice.specs.Kept.{Holds};
-ghost use Rattle.stages.specs.Ready.{Offsets};
-ghost use Rattle.stages.specs.CallEdge.{Legals};
+ghost use Rattle.numbers.specs.Ready.{Offsets};
+ghost use Rattle.numbers.specs.CallEdge.{Legals};
 ghost use Rattle.numbers.specs.Fallback.{fallback};
 ghost use Rattle.fallback.specs.Marks.{digitEdge, unmarked};
 use lattice::Lattice;
@@ -23,7 +26,7 @@ fn add_digit(w: &mut [u8], l: Lattice, b: u8, place: usize, marked: bool) -> Lat
         return l;
     }
     let txt = [b];
-    lattice_regular::add_regular(w, l, Place(place), Place(place + 1), b"num", &txt)
+    lattice_add::regular::add_regular(w, l, Place(place), Place(place + 1), b"num", &txt)
 }
 
 // The edges of all digits whose places have no mark. One walk over the n characters of the line: ASCII digits, and no others, begin with the byte of one.
@@ -56,10 +59,10 @@ pub fn fallback(w: &mut [u8], l: Lattice, line: &[u8], offs: &[usize; 257], n: u
     if l.len == 0 {
         return l;
     }
-    if !digit_marks::any_digit(line) {
+    if !crate::marks::any_digit(line) {
         return l;
     }
     let mut marks = [false; 257];
-    digit_marks::mark_covered(w, l, &mut marks);
+    crate::marks::mark_covered(w, l, &mut marks);
     add_unmarked(w, l, line, offs, n, &marks)
 }

@@ -1,4 +1,8 @@
+// Little-endian numbers and copies of bytes in slices.
 // Little-endian numbers read in slices of bytes (01: "Multi-byte numbers are little-endian"): what stands at an offset is `leAt` of specs/Fields.antt.
+pub mod write; // write.rt: numbers written
+pub mod copy; // copy.rt: bytes copied in
+
 ghost use mathlib.Core.Path.{_≡_};
 ghost use Prim.Native.Nat.{_+_, _≤_};
 ghost use lib.ListN.{length};

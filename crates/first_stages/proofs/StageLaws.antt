@@ -8,15 +8,15 @@ use lib.ListN.{length, drop, getD}
 use Rattle.text.specs.declared.Place.{Place}
 use Rattle.text.specs.Text.{chars}
 use Rattle.text.proofs.TextLaws.{chars-scalars}
-use Rattle.dicts.specs.Answers.{tableOf}
-use Rattle.dicts.specs.Table.{Table}
-use Rattle.dicts.specs.declared.shape.Shape.{Shape}
+use Rattle.table.specs.Answers.{tableOf}
+use Rattle.table.specs.Table.{Table}
+use Rattle.table.specs.declared.shape.Shape.{Shape}
 use Rattle.passes.specs.NumEdge.{NumEdge}
 use Rattle.passes.specs.Characters.{firstList}
 use Rattle.passes.specs.Passes.{five, joinedEdges}
-use Rattle.pass_list.specs.Item.{Item, nil}
+use Rattle.pass_list.specs.StoredEdge.{StoredEdge, nil}
 use Rattle.pass_list.specs.Edges.{edgeOf}
-use Rattle.pass_edges.specs.InTurn.{addedBy}
+use Rattle.pass_list.specs.InTurn.{addedBy}
 use Rattle.edge.specs.Edge.{Edge}
 use Rattle.edge.specs.Layout.{listed}
 use Rattle.edge.specs.Check.{checkListing}
@@ -25,20 +25,20 @@ use Rattle.lattice.specs.declared.Lattice.{Lattice}
 use Rattle.lattice.specs.Lattice.{addAll}
 use Rattle.lattice.specs.Kept.{Holds}
 use Rattle.lattice.proofs.HoldsLaws.{add-all-append}
-use Rattle.stages.specs.Ready.{Ready}
-use Rattle.stages.specs.CallEdge.{CallEdges}
-use Rattle.stages.proofs.CallLaws.{add-all-call}
-use Rattle.items.specs.Sound.{Sounds}
-use Rattle.items_theorems.proofs.Theorems.{items-call}
+use Rattle.numbers.specs.Ready.{Ready}
+use Rattle.numbers.specs.CallEdge.{CallEdges}
+use Rattle.numbers.proofs.stages.CallLaws.{add-all-call}
+use Rattle.pass_edge.specs.Sound.{Sounds}
+use Rattle.pass_edge.proofs.theorems.Theorems.{items-call}
 use Rattle.characters.specs.Initial.{Initial}
 use Rattle.characters.proofs.Theorems.{initial-five}
-use Rattle.given.proofs.GivenLaws.{given-call}
-use Rattle.five.specs.declared.Passes.{Passes}
-use Rattle.five.specs.declared.Passes.the-variants.{Added, Above}
-use Rattle.five.specs.Five.{listedItems, behind, FiveIs}
+use Rattle.first_stages.proofs.given.GivenLaws.{given-call}
+use Rattle.first_stages.specs.declared.five_passes.Passes.{Passes}
+use Rattle.first_stages.specs.declared.five_passes.Passes.the-variants.{Added, Above}
+use Rattle.first_stages.specs.Five.{listedStored, behind, FiveIs}
 use Rattle.numbers.specs.Listed.{listedEdge}
 use Rattle.numbers.specs.Call.{afterPasses}
-use Rattle.char_stage.specs.declared.First.{First}
+use Rattle.first_stages.specs.declared.chars.First.{First}
 use Rattle.first_stages.specs.Stages.{CallPassed}
 
 module _ (line t : List ℕ) (h : Shape) (given : List ℕ) {n count : ℕ} (ready : Ready line t h n) (legal : checkListing true n given ≡ Edges count) (bytes : (j : ℕ) → getD given j 0 < 256) (s : List ℕ) (r : First) (i : Initial line t h (drop 39424 s) (r .count)) where
@@ -48,7 +48,7 @@ module _ (line t : List ℕ) (h : Shape) (given : List ℕ) {n count : ℕ} (rea
   abbrev table : Table
   table = tableOf t h
 
-  abbrev first : List Item
+  abbrev first : List StoredEdge
   first = behind s (r .count)
 
   few-chars : length w ≤ 256
@@ -59,10 +59,10 @@ module _ (line t : List ℕ) (h : Shape) (given : List ℕ) {n count : ℕ} (rea
   call-above u p f = sym (initial-five line t h (drop 39424 s) (r .count) i .above) ∙ f
 
   -- the edges of the characters, then the joined ones
-  in-a-row : (es : List Edge) → addAll (addAll es (listedItems w t first)) (listedItems w t (addedBy five first)) ≡ addAll es (map listedEdge (firstList table w ++ joinedEdges table w))
+  in-a-row : (es : List Edge) → addAll (addAll es (listedStored w t first)) (listedStored w t (addedBy five first)) ≡ addAll es (map listedEdge (firstList table w ++ joinedEdges table w))
   in-a-row es =
       let f = initial-five line t h (drop 39424 s) (r .count) i in
-      sym (add-all-append es (listedItems w t first) (listedItems w t (addedBy five first)))
+      sym (add-all-append es (listedStored w t first) (listedStored w t (addedBy five first)))
       ∙ ap (addAll es) (sym (map-append listedEdge (map (edgeOf w t) first) (map (edgeOf w t) (addedBy five first))))
       ∙ ap (λ (es' : List NumEdge). addAll es (map listedEdge (es' ++ map (edgeOf w t) (addedBy five first)))) (f .first)
       ∙ ap (λ (es' : List NumEdge). addAll es (map listedEdge (firstList table w ++ es'))) (f .joined)
@@ -70,7 +70,7 @@ module _ (line t : List ℕ) (h : Shape) (given : List ℕ) {n count : ℕ} (rea
   given-edges : CallEdges (length w) (listed given)
   given-edges = rw (ready .count) (given-call n given bytes count legal)
 
-  pub call-done : (u : List ℕ) (m : Lattice) (k : ℕ) → Holds s (r .lattice) (addAll (addAll [] (listed given)) (listedItems w t first)) → Sounds w t first
+  pub call-done : (u : List ℕ) (m : Lattice) (k : ℕ) → Holds s (r .lattice) (addAll (addAll [] (listed given)) (listedStored w t first)) → Sounds w t first
       → FiveIs w t s (r .lattice) (r .count) u (Added m k) → CallPassed line t h given u (Added m k)
   unfolding FiveIs CallPassed afterPasses
   call-done u m k q sounds f =
@@ -78,7 +78,7 @@ module _ (line t : List ℕ) (h : Shape) (given : List ℕ) {n count : ℕ} (rea
       let e = in-a-row (addAll [] (listed given)) in
       record {
         above = sym (a .above) ∙ f .below;
-        holds = subst (Holds u m) e (f .holds (addAll (addAll [] (listed given)) (listedItems w t first)) q);
+        holds = subst (Holds u m) e (f .holds (addAll (addAll [] (listed given)) (listedStored w t first)) q);
         call = subst (CallEdges (length w)) e
             (add-all-call (add-all-call (add-all-call nil given-edges) (items-call w t (chars-scalars line) few-chars first sounds)) (items-call w t (chars-scalars line) few-chars (addedBy five first) (f .joined)));
         fifth = ap (map (edgeOf w t)) (f .list) ∙ a .fifth;
@@ -86,7 +86,7 @@ module _ (line t : List ℕ) (h : Shape) (given : List ℕ) {n count : ℕ} (rea
         few = f .few;
       }
 
-  pub call-passed : (u : List ℕ) (x : Passes) → Holds s (r .lattice) (addAll (addAll [] (listed given)) (listedItems w t first)) → Sounds w t first
+  pub call-passed : (u : List ℕ) (x : Passes) → Holds s (r .lattice) (addAll (addAll [] (listed given)) (listedStored w t first)) → Sounds w t first
       → FiveIs w t s (r .lattice) (r .count) u x → CallPassed line t h given u x
   call-passed u (Above p) q sounds f = call-above u p f
   call-passed u (Added m k) q sounds f = call-done u m k q sounds f

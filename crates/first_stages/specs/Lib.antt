@@ -1,2 +1,7 @@
--- What the stages leave up to the five passes.
+-- The definitions of `first_stages`.
+-- The crate itself: What the stages leave up to the five passes.
 pub mod Stages
+-- five_passes: The passes in the work space.
+pub mod Five
+-- chars: What the stage of the line's characters leaves.
+pub mod CharStage

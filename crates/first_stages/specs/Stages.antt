@@ -8,18 +8,18 @@ use mathlib.Core.Option.{none, some}
 use Prim.Native.Nat.{ℕ, _≤_}
 use lib.ListN.{length}
 use Rattle.text.specs.Text.{chars}
-use Rattle.dicts.specs.Answers.{tableOf}
-use Rattle.dicts.specs.declared.shape.Shape.{Shape}
+use Rattle.table.specs.Answers.{tableOf}
+use Rattle.table.specs.declared.shape.Shape.{Shape}
 use Rattle.passes.specs.Passes.{fifthList, aboveAt}
 use Rattle.pass_list.specs.Edges.{edgeOf}
 use Rattle.edge.specs.Layout.{listed}
 use Rattle.lattice.specs.declared.Lattice.{Lattice}
 use Rattle.lattice.specs.Kept.{Holds}
-use Rattle.stages.specs.CallEdge.{CallEdges}
-use Rattle.items.specs.Sound.{Sounds}
-use Rattle.five.specs.declared.Passes.{Passes}
-use Rattle.five.specs.declared.Passes.the-variants.{Added, Above}
-use Rattle.five.specs.Five.{behind}
+use Rattle.numbers.specs.CallEdge.{CallEdges}
+use Rattle.pass_edge.specs.Sound.{Sounds}
+use Rattle.first_stages.specs.declared.five_passes.Passes.{Passes}
+use Rattle.first_stages.specs.declared.five_passes.Passes.the-variants.{Added, Above}
+use Rattle.first_stages.specs.Five.{behind}
 use Rattle.numbers.specs.Call.{afterPasses}
 
 pub record CallDone (line t : List ℕ) (h : Shape) (given u : List ℕ) (m : Lattice) (k : ℕ) : Type 0 where

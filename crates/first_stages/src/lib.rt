@@ -1,4 +1,9 @@
+// The stages up to the five passes.
 // The stages of the call up to the five passes: the given edges, those of the characters, and those that the passes join.
+pub mod given; // given.rt: the given edges
+pub mod five_passes; // five_passes.rt: the five passes, and their joined edges
+pub mod chars; // chars.rt: the characters of the line
+
 ghost use mathlib.Core.Path.{_≡_};
 ghost use mathlib.Core.Bool.{true};
 ghost use Prim.Native.Nat.{ℕ, _≤_};
@@ -6,10 +11,10 @@ ghost use lib.ListN.{length};
 ghost use Rattle.edge.specs.Check.{checkListing};
 ghost use Rattle.edge.specs.declared.ListingCheck.the-variants.{Edges};
 ghost use Rattle.table_check.specs.Indexed.{RecordIndex};
-ghost use Rattle.stages.specs.Ready.{Ready, Offsets};
+ghost use Rattle.numbers.specs.Ready.{Ready, Offsets};
 ghost use Rattle.first_stages.specs.Stages.{CallPassed};
-use dicts::shape::Shape;
-use five::Passes;
+use crate::five_passes::Passes;
+use table::shape::Shape;
 
 // The given edges, those of the characters, and those that the five passes join.
 pub fn passed(
@@ -26,9 +31,9 @@ pub fn passed(
     requires { ⌜ Offsets (now line) (now offs) × (65536 ≤ length (now w)) × ((n : ℕ) × Ready (now line) (now table) h n × (checkListing true n (now edges) ≡ Edges count)) × RecordIndex (now table) h (now index) entries ⌝ }
     ensures { λ r. ⌜ CallPassed (now (line .entry)) (now (table .entry)) h (now (edges .entry)) (now (w .exit)) r ⌝ }
 {
-    let none = lattice_ends::empty(w);
-    let given = given::add_all_given(w, none, edges, count);
-    let first = char_stage::initialize_num_edges(w, given, line, offs, table, h, index, entries);
+    let none = lattice::ends::empty(w);
+    let given = crate::given::add_all_given(w, none, edges, count);
+    let first = crate::chars::initialize_num_edges(w, given, line, offs, table, h, index, entries);
     let l = first.lattice;
-    five::five_passes(w, l, line, offs, table, first.count)
+    crate::five_passes::five_passes(w, l, line, offs, table, first.count)
 }

@@ -10,14 +10,14 @@ use lib.ListN.{length}
 use lib.Dec.{leb, eqb}
 use borrow.Author.Tests.{ne-eqb}
 use Rattle.text.specs.Text.{chars}
-use Rattle.dicts.specs.Table.{Text, Table}
+use Rattle.table.specs.Table.{Text, Table}
 use Rattle.edge.specs.Edge.{Edge}
 use Rattle.lattice.specs.Lattice.{addAll, turnOff}
-use Rattle.pass_list.specs.Item.{nil, cons}
+use Rattle.pass_list.specs.StoredEdge.{nil, cons}
 use Rattle.markers.specs.Marks.{standsFrom, anyStands, marked}
 use Rattle.markers.proofs.MarkLaws.{larger-le, larger-lt, Legal, legal-count, Marks}
 use Rattle.numbers.specs.Fractions as numbers
-use Rattle.numbers.specs.Fractions.{standsAt, larger, longest, longer, nothing, markerAt, byMarker, madeAt, madeFrom, newEdges, usedEdges, fractions}
+use Rattle.numbers.specs.Fractions.{standsAt, larger, longest, longer, nothing, markerAt, byMarker, outcomeAt, outcomesFrom, newEdges, usedEdges, fractions}
 use Rattle.fractions.specs.AnyMarker.{isMarker, markerFrom, anyMarker}
 
 -- ---- tests
@@ -96,8 +96,8 @@ module _ (t : Table) (w : List ℕ) (es : List Edge) where
   nothing-at p (numbers.connector n) e = absurd (true≢false e)
   nothing-at p numbers.noMarker e = (refl, e)
 
-  nothing-made : (p k : ℕ) → markerFrom t w p k ≡ false → (newEdges (madeFrom t w es p k) ≡ []) × (usedEdges (madeFrom t w es p k) ≡ [])
-  unfolding markerFrom madeFrom madeAt newEdges usedEdges
+  nothing-made : (p k : ℕ) → markerFrom t w p k ≡ false → (newEdges (outcomesFrom t w es p k) ≡ []) × (usedEdges (outcomesFrom t w es p k) ≡ [])
+  unfolding markerFrom outcomesFrom outcomeAt newEdges usedEdges
   nothing-made p zero e = (refl, refl)
   nothing-made p (suc k) e = let r = nothing-at p (markerAt t w p) e in rw (r .0) (nothing-made (suc p) k (r .1))
 

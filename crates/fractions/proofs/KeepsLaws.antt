@@ -1,4 +1,4 @@
--- Edges that get others behind them stay what a choice uses of them, and a choice makes the same of them (`turned_off` has those that turn inactive). No contract cites this file.
+-- Edges that get others behind them stay what a choice uses of them, and a choice makes the same of them (`fractions::deactivate` has those that turn inactive). No contract cites this file.
 -- In order: edges behind; what a choice makes of them. Assumes nothing.
 use mathlib.Core.Path.{_≡_, refl, sym, ap, _∙_}
 use mathlib.Core.Bool.{Bool, true, false, cond}
@@ -11,10 +11,10 @@ use Rattle.edge.specs.Edge.{Text, Edge}
 use Rattle.lattice.specs.Lattice.{has, add, addAll}
 use Rattle.lattice.specs.Kept.{noEdge}
 use Rattle.numbers.specs.Fractions.{made, fractionEdge, percentEdge}
-use Rattle.made.specs.declared.Choice.{Choice}
-use Rattle.new_edges.proofs.FractionLaws.{fraction-is}
-use Rattle.turned_off.proofs.KeepsLaws.{Same, same-refl, Keeps}
-use Rattle.made.specs.Choice.{madeOf, formed, numberOr, valueOr, Valid}
+use Rattle.fraction_choices.specs.declared.decision.Choice.{Choice}
+use Rattle.fractions.proofs.new_edge.FractionLaws.{fraction-is}
+use Rattle.fractions.proofs.deactivate.KeepsLaws.{Same, same-refl, Keeps}
+use Rattle.fraction_choices.specs.Choice.{outcomeOf, formed, numberOr, valueOr, Valid}
 
 -- ---- edges behind
 pub behind : (es ds : List Edge) → Keeps es (es ++ ds)
@@ -51,8 +51,8 @@ txt-same : (p j : ℕ) {r s : Edge} → Same r s → made (percentEdge p (s .end
 txt-same p j b = txt-parts p (j ∷ []) (b .end) (b .txt)
 
 module _ {es fs : List Edge} (k : Keeps es fs) (p : ℕ) {c : Choice} (v : Valid es c) where
-  pub made-keeps : madeOf fs p c ≡ madeOf es p c
-  unfolding madeOf
+  pub made-keeps : outcomeOf fs p c ≡ outcomeOf es p c
+  unfolding outcomeOf
   made-keeps = go (c .form) refl
     where
       i : ℕ

@@ -18,23 +18,23 @@ use Rattle.text.proofs.TextLaws.{left-nil, encodes-well-formed}
 use Rattle.whole.specs.Whole.{TOP}
 use Rattle.whole.specs.Decimal.{decimal}
 use Rattle.whole.proofs.DecimalLaws.{decimal-one, decimal-more, decimal-ind, length-decimal-top}
-use Rattle.dicts.specs.Table.{Table}
+use Rattle.table.specs.Table.{Table}
 use Rattle.passes.specs.Characters.{lowest}
-use Rattle.ratio.proofs.RatioLaws.{lowest-at-most, lowest-positive}
+use Rattle.passes.proofs.ratio.RatioLaws.{lowest-at-most, lowest-positive}
 use Rattle.edge.specs.Edge.{Text, Edge, Numeric, NumericFits}
 use Rattle.edge.specs.Check.{each, soundFraction, soundNumbers, soundNumeric, sound}
 use Rattle.paths.specs.declared.Query.the-variants.{Right, Left}
 use Rattle.paths.specs.Best.{Best, asked, score, best, numbered, leftNeighbor, rightNeighbor}
 use Rattle.paths.proofs.BestLaws.{Each, Holds, best-holds, best-positive, score-asks, right-start}
 use Rattle.lattice.specs.Lattice.{addAll, turnOff}
-use Rattle.pass_list.specs.Item.{Every, nil, cons}
-use Rattle.stages.specs.CallEdge.{Short, CallEdge, CallEdges}
-use Rattle.stages.proofs.SoundLaws.{Sound, sound-of, formed-append}
-use Rattle.stages.proofs.CallLaws.{allowed-map, add-all-call, turn-off-call}
+use Rattle.pass_list.specs.StoredEdge.{Every, nil, cons}
+use Rattle.numbers.specs.CallEdge.{Short, CallEdge, CallEdges}
+use Rattle.numbers.proofs.stages.SoundLaws.{Sound, sound-of, formed-append}
+use Rattle.numbers.proofs.stages.CallLaws.{allowed-map, add-all-call, turn-off-call}
 use Rattle.numbers.specs.Listed.{wholeValue}
-use Rattle.numbers.specs.Fractions.{Marker, percentage, connector, noMarker, Made, made, nothing, percentageType, fractionType, scriptOf, fractionEdge, percentEdge, isNumeric, otherwise, both, withValues, between, marked, byMarker, markerAt, madeAt, madeFrom, newEdges, usedEdges, fractions}
-use Rattle.made.specs.Choice.{numberOr}
-use Rattle.made_parts.proofs.EdgeLaws.{some-inj, none-some, txt-short, value-is}
+use Rattle.numbers.specs.Fractions.{Marker, percentage, connector, noMarker, Outcome, made, nothing, percentageType, fractionType, scriptOf, fractionEdge, percentEdge, isNumeric, otherwise, both, withValues, between, marked, byMarker, markerAt, outcomeAt, outcomesFrom, newEdges, usedEdges, fractions}
+use Rattle.fraction_choices.specs.Choice.{numberOr}
+use Rattle.fractions.proofs.parts.EdgeLaws.{some-inj, none-some, txt-short, value-is}
 
 -- ---- texts
 formed-byte : (c : ℕ) → c < 128 → wellFormed (c ∷ []) ≡ true
@@ -71,7 +71,7 @@ unfolding sound
 sound-is n e q = and-both (and-both (and-both (lt-ltb (e .start) (e .end) (q .rises)) (le-leb (e .end) n (q .within))) (and-both (q .type) (q .txt))) (q .num)
 
 -- ---- what a place leads to, as an edge of the call
-abbrev MadeCall : ℕ → Made → Type 0
+abbrev MadeCall : ℕ → Outcome → Type 0
 MadeCall n (made e is) = CallEdge n e
 MadeCall n nothing = Unit {0}
 
@@ -172,7 +172,7 @@ module _ {n : ℕ} (few : n ≤ 256) where
       percent-call p (r .end) (r .txt) (omega arith) (q .within) (q .txt) (omega arith))
       (λ t. tt)
 
-  module _ (percent : Bool) (other : Made) (ok : MadeCall n other) (i : ℕ) (l : Edge) (j : ℕ) (r : Edge) (c : CallEdge n l) (d : CallEdge n r) (touch : l .end ≤ r .start) where
+  module _ (percent : Bool) (other : Outcome) (ok : MadeCall n other) (i : ℕ) (l : Edge) (j : ℕ) (r : Edge) (c : CallEdge n l) (d : CallEdge n r) (touch : l .end ≤ r .start) where
     both-call : (lv rv : ℕ) → lv ≤ TOP → rv ≤ TOP → MadeCall n (both percent other i l lv j r rv)
     both-call lv rv h k =
         let q = sound-of n r (d .legal .content) in
@@ -191,7 +191,7 @@ module _ {n : ℕ} (few : n ≤ 256) where
     values-call (some lv) none p q = ok
     values-call (some lv) (some rv) p q = both-call lv rv (value-small l c lv p) (value-small r d rv q)
 
-  between-call : (percent : Bool) (other : Made) → MadeCall n other → (p k : ℕ) (b z : Best) → Holds (λ x. CallEdge n (x .1) × (x .1 .end ≡ p)) b → Holds (λ x. CallEdge n (x .1) × (p ≤ x .1 .start)) z
+  between-call : (percent : Bool) (other : Outcome) → MadeCall n other → (p k : ℕ) (b z : Best) → Holds (λ x. CallEdge n (x .1) × (x .1 .end ≡ p)) b → Holds (λ x. CallEdge n (x .1) × (p ≤ x .1 .start)) z
       → MadeCall n (between percent other b z)
   between-call percent other ok p k none z h g = ok
   between-call percent other ok p k (some l) none h g = ok
@@ -239,23 +239,23 @@ module _ {n : ℕ} (es : List Edge) (c : CallEdges n es) (p : ℕ) where
   by-marker-call few (connector k) = marked-call few false k
   by-marker-call few noMarker = tt
 
-  made-call : n ≤ 256 → (t : Table) (w : List ℕ) → MadeCall n (madeAt t w es p)
-  unfolding madeAt
+  made-call : n ≤ 256 → (t : Table) (w : List ℕ) → MadeCall n (outcomeAt t w es p)
+  unfolding outcomeAt
   made-call few t w = by-marker-call few (markerAt t w p)
 
 -- ---- the stage
-one-new : {n : ℕ} (m : Made) (ms : List Made) → MadeCall n m → CallEdges n (newEdges ms) → CallEdges n (newEdges (m ∷ ms))
+one-new : {n : ℕ} (m : Outcome) (ms : List Outcome) → MadeCall n m → CallEdges n (newEdges ms) → CallEdges n (newEdges (m ∷ ms))
 unfolding newEdges
 one-new (made e is) ms c h = cons c h
 one-new nothing ms c h = h
 
-pub new-call : {n : ℕ} (t : Table) (w : List ℕ) (es : List Edge) → n ≤ 256 → CallEdges n es → (p k : ℕ) → CallEdges n (newEdges (madeFrom t w es p k))
-unfolding madeFrom newEdges
+pub new-call : {n : ℕ} (t : Table) (w : List ℕ) (es : List Edge) → n ≤ 256 → CallEdges n es → (p k : ℕ) → CallEdges n (newEdges (outcomesFrom t w es p k))
+unfolding outcomesFrom newEdges
 new-call t w es few c p zero = nil
-new-call t w es few c p (suc k) = one-new (madeAt t w es p) (madeFrom t w es (suc p) k) (made-call es c p few t w) (new-call t w es few c (suc p) k)
+new-call t w es few c p (suc k) = one-new (outcomeAt t w es p) (outcomesFrom t w es (suc p) k) (made-call es c p few t w) (new-call t w es few c (suc p) k)
 
 pub fractions-call : {n : ℕ} (t : Table) (w : List ℕ) (es : List Edge) → n ≤ 256 → CallEdges n es → CallEdges n (fractions t w es)
 unfolding fractions
 fractions-call t w es few c =
-    let ms = madeFrom t w es 0 (length w) in
+    let ms = outcomesFrom t w es 0 (length w) in
     add-all-call (turn-off-call (usedEdges ms) c) (new-call t w es few c 0 (length w))

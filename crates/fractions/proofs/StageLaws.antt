@@ -4,21 +4,21 @@ use mathlib.Core.Path.{_≡_, sym, ap, _∙_, subst}
 use mathlib.Core.List.{List}
 use Prim.Native.Nat.{ℕ, _≤_}
 use lib.ListN.{length}
-use Rattle.dicts.specs.Table.{Table}
+use Rattle.table.specs.Table.{Table}
 use Rattle.edge.specs.Edge.{Edge}
 use Rattle.lattice.specs.declared.Lattice.{Lattice}
 use Rattle.lattice.specs.Lattice.{addAll, turnOff}
 use Rattle.lattice.specs.Kept.{Holds}
 use Rattle.lattice.proofs.HoldsLaws.{over-of}
-use Rattle.stages.specs.CallEdge.{CallEdges}
-use Rattle.stages.proofs.OverLaws.{holds-full, over-add-all, over-turn-off}
-use Rattle.stages.proofs.CallLaws.{turn-off-call}
-use Rattle.numbers.specs.Fractions.{Made, madeFrom, newEdges, usedEdges, fractions}
-use Rattle.made.specs.Around.{Keeps}
-use Rattle.choices.specs.Choices.{Decided}
-use Rattle.turned_off.specs.Mades.{madesOf, AllValid}
+use Rattle.numbers.specs.CallEdge.{CallEdges}
+use Rattle.numbers.proofs.stages.OverLaws.{holds-full, over-add-all, over-turn-off}
+use Rattle.numbers.proofs.stages.CallLaws.{turn-off-call}
+use Rattle.numbers.specs.Fractions.{Outcome, outcomesFrom, newEdges, usedEdges, fractions}
+use Rattle.fraction_choices.specs.Around.{Keeps}
+use Rattle.fraction_choices.specs.Choices.{Decided}
+use Rattle.fractions.specs.Outcomes.{outcomesOf, AllValid}
 use Rattle.fractions.specs.Planned.{Planned}
-use Rattle.turned_off.proofs.KeepsLaws.{keeps-turn-off, valid-keeps}
+use Rattle.fractions.proofs.deactivate.KeepsLaws.{keeps-turn-off, valid-keeps}
 use Rattle.fractions.proofs.MadesLaws.{mades-all, mades-keep}
 use Rattle.fractions.proofs.NewLaws.{new-call}
 
@@ -26,7 +26,7 @@ use Rattle.fractions.proofs.NewLaws.{new-call}
 pub full-stage : (t : Table) (c : List ℕ) {w : List ℕ} {l : Lattice} {es : List Edge} → Holds w l es → l .len ≡ 0 → Holds w l (fractions t c es)
 unfolding fractions
 full-stage t c {es = es} q f =
-    let ms = madeFrom t c es 0 (length c) in
+    let ms = outcomesFrom t c es 0 (length c) in
     holds-full q f (over-add-all (turnOff es (usedEdges ms)) (newEdges ms) (over-turn-off es (usedEdges ms) ∙ over-of q f))
 
 -- what `choose` asks for
@@ -38,28 +38,28 @@ module _ (t : Table) (c : List ℕ) {n : ℕ} (es : List Edge) (fs ls rs : List 
   pub all-valid : AllValid es fs ls rs n
   all-valid p h = d p h .1
 
-  same-mades : madesOf (turnOff es (usedEdges (madesOf es fs ls rs 0 n))) fs ls rs 0 n ≡ madesOf es fs ls rs 0 n
-  same-mades = mades-keep (keeps-turn-off es (usedEdges (madesOf es fs ls rs 0 n))) fs ls rs n all-valid
+  same-mades : outcomesOf (turnOff es (usedEdges (outcomesOf es fs ls rs 0 n))) fs ls rs 0 n ≡ outcomesOf es fs ls rs 0 n
+  same-mades = mades-keep (keeps-turn-off es (usedEdges (outcomesOf es fs ls rs 0 n))) fs ls rs n all-valid
 
-  are-mades : madesOf es fs ls rs 0 n ≡ madeFrom t c es 0 n
+  are-mades : outcomesOf es fs ls rs 0 n ≡ outcomesFrom t c es 0 n
   are-mades = mades-all es fs ls rs t c n (λ q x. d q x .0)
 
   -- ---- what the last loop asks for
-  pub planned : n ≤ 256 → CallEdges n es → {w : List ℕ} {l : Lattice} → Holds w l (turnOff es (usedEdges (madesOf es fs ls rs 0 n))) → Planned n w l (turnOff es (usedEdges (madesOf es fs ls rs 0 n))) fs ls rs
+  pub planned : n ≤ 256 → CallEdges n es → {w : List ℕ} {l : Lattice} → Holds w l (turnOff es (usedEdges (outcomesOf es fs ls rs 0 n))) → Planned n w l (turnOff es (usedEdges (outcomesOf es fs ls rs 0 n))) fs ls rs
   planned few call q = record {
-    has = record { holds = q; call = turn-off-call (usedEdges (madesOf es fs ls rs 0 n)) call };
-    valid = λ p h. valid-keeps (keeps-turn-off es (usedEdges (madesOf es fs ls rs 0 n))) (d p h .1);
-    new = subst (λ (ms : List Made). CallEdges n (newEdges ms)) (sym (same-mades ∙ are-mades)) (new-call t c es few call 0 n);
+    has = record { holds = q; call = turn-off-call (usedEdges (outcomesOf es fs ls rs 0 n)) call };
+    valid = λ p h. valid-keeps (keeps-turn-off es (usedEdges (outcomesOf es fs ls rs 0 n))) (d p h .1);
+    new = subst (λ (ms : List Outcome). CallEdges n (newEdges ms)) (sym (same-mades ∙ are-mades)) (new-call t c es few call 0 n);
   }
 
   -- ---- what it leaves
-  stage-is : length c ≡ n → addAll (turnOff es (usedEdges (madesOf es fs ls rs 0 n))) (newEdges (madesOf (turnOff es (usedEdges (madesOf es fs ls rs 0 n))) fs ls rs 0 n)) ≡ fractions t c es
+  stage-is : length c ≡ n → addAll (turnOff es (usedEdges (outcomesOf es fs ls rs 0 n))) (newEdges (outcomesOf (turnOff es (usedEdges (outcomesOf es fs ls rs 0 n))) fs ls rs 0 n)) ≡ fractions t c es
   unfolding fractions
   stage-is e =
-      ap (λ (ms : List Made). addAll (turnOff es (usedEdges (madesOf es fs ls rs 0 n))) (newEdges ms)) same-mades
-      ∙ ap (λ (ms : List Made). addAll (turnOff es (usedEdges ms)) (newEdges ms)) (are-mades ∙ ap (madeFrom t c es 0) (sym e))
+      ap (λ (ms : List Outcome). addAll (turnOff es (usedEdges (outcomesOf es fs ls rs 0 n))) (newEdges ms)) same-mades
+      ∙ ap (λ (ms : List Outcome). addAll (turnOff es (usedEdges ms)) (newEdges ms)) (are-mades ∙ ap (outcomesFrom t c es 0) (sym e))
 
   -- w, l: after the second loop, u, k: after the third
-  pub stage-holds : length c ≡ n → n ≤ 256 → CallEdges n es → {w u : List ℕ} {l k : Lattice} → Holds w l (turnOff es (usedEdges (madesOf es fs ls rs 0 n)))
-      → ((ds : List Edge) → Planned n w l ds fs ls rs → Holds u k (addAll ds (newEdges (madesOf ds fs ls rs 0 n)))) → Holds u k (fractions t c es)
+  pub stage-holds : length c ≡ n → n ≤ 256 → CallEdges n es → {w u : List ℕ} {l k : Lattice} → Holds w l (turnOff es (usedEdges (outcomesOf es fs ls rs 0 n)))
+      → ((ds : List Edge) → Planned n w l ds fs ls rs → Holds u k (addAll ds (newEdges (outcomesOf ds fs ls rs 0 n)))) → Holds u k (fractions t c es)
   stage-holds e few call {u = u} {k = k} q f = subst (Holds u k) (stage-is e) (f _ (planned few call q))

@@ -7,7 +7,7 @@ use mathlib.Core.Bool.{Bool, true, false, _||_}
 use mathlib.Core.List.{List}
 use Prim.Native.Nat.{ℕ, zero, suc}
 use lib.ListN.{length}
-use Rattle.dicts.specs.Table.{Table}
+use Rattle.table.specs.Table.{Table}
 use Rattle.numbers.specs.Fractions.{Marker, percentage, connector, noMarker, markerAt}
 
 abbrev pub isMarker : Marker → Bool

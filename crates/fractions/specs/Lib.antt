@@ -1,3 +1,12 @@
--- The definitions that the contracts of `fractions` cite.
+-- The definitions of `fractions`.
+-- The crate itself: The definitions that the contracts of `fractions` cite.
 pub mod Planned
 pub mod AnyMarker
+-- deactivate: The definitions that the contracts of `fractions::deactivate` cite.
+pub mod Outcomes
+-- texts: The definition that the contracts of `fractions::texts` cite.
+pub mod MadeTexts
+-- parts: The definitions that the contracts of `fractions::parts` cite.
+pub mod MadeParts
+-- new_edge: The definitions that the contracts of `fractions::new_edge` cite.
+pub mod NewEdge

@@ -5,12 +5,12 @@ use mathlib.Core.List.{List}
 use Prim.Native.Nat.{ℕ}
 use Rattle.edge.specs.Edge.{Edge}
 use Rattle.lattice.specs.declared.Lattice.{Lattice}
-use Rattle.stages.specs.CallEdge.{CallEdges}
+use Rattle.numbers.specs.CallEdge.{CallEdges}
 use Rattle.numbers.specs.Fractions.{newEdges}
-use Rattle.made_parts.specs.MadeParts.{Has}
-use Rattle.turned_off.specs.Mades.{madesOf, AllValid}
+use Rattle.fractions.specs.MadeParts.{Has}
+use Rattle.fractions.specs.Outcomes.{outcomesOf, AllValid}
 
 pub record Planned (n : ℕ) (w : List ℕ) (l : Lattice) (es : List Edge) (fs ls rs : List ℕ) : Type 0 where
   pub has : Has n w l es
   pub valid : AllValid es fs ls rs n
-  pub new : CallEdges n (newEdges (madesOf es fs ls rs 0 n))
+  pub new : CallEdges n (newEdges (outcomesOf es fs ls rs 0 n))

@@ -1,22 +1,28 @@
+// The stage of fractions and percentages.
 // The stage of fractions and percentages (01, "The rest of the call"): every place is decided before an edge changes; then the used edges turn
 // inactive, and the new ones are added.
+pub mod deactivate; // deactivate.rt: the used edges turn inactive
+pub mod texts; // texts.rt: the texts of the new edges
+pub mod parts; // parts.rt: their fields, and what they take from the used edges
+pub mod new_edge; // new_edge.rt: the edge of a choice, added
+
 ghost use mathlib.Core.Path.{_≡_};
 ghost use mathlib.Core.List.{List};
 ghost use Prim.Native.Nat.{_≤_, _<_};
 ghost use lib.ListN.{drop};
 ghost use Rattle.text.specs.Text.{chars};
-ghost use Rattle.dicts.specs.Answers.{tableOf};
+ghost use Rattle.table.specs.Answers.{tableOf};
 ghost use Rattle.edge.specs.Edge.{Edge};
 ghost use Rattle.lattice.specs.Lattice.{addAll};
 ghost use Rattle.lattice.specs.Kept.{Holds};
-ghost use Rattle.stages.specs.Ready.{Ready, Offsets};
-ghost use Rattle.stages.specs.CallEdge.{CallEdges};
+ghost use Rattle.numbers.specs.Ready.{Ready, Offsets};
+ghost use Rattle.numbers.specs.CallEdge.{CallEdges};
 ghost use Rattle.numbers.specs.Fractions.{newEdges, fractions};
-ghost use Rattle.turned_off.specs.Mades.{madesOf};
+ghost use Rattle.fractions.specs.Outcomes.{outcomesOf};
 ghost use Rattle.fractions.specs.Planned.{Planned};
-use dicts::shape::Shape;
+use fraction_choices::decision::Choice;
 use lattice::Lattice;
-use made::Choice;
+use table::shape::Shape;
 
 // The edges that the choices of n places make are added.
 fn add_all(
@@ -28,7 +34,7 @@ fn add_all(
     n: usize,
 ) -> Lattice
     requires { ⌜ ((es : List Edge) × Planned n (now w) l es (now forms) (now lefts) (now rights)) × (n ≤ 256) ⌝ }
-    ensures { λ r. ⌜ (drop 39424 (now (w .exit)) ≡ drop 39424 (now (w .entry))) × ((es : List Edge) → Planned n (now (w .entry)) l es (now (forms .entry)) (now (lefts .entry)) (now (rights .entry)) → Holds (now (w .exit)) r (addAll es (newEdges (madesOf es (now (forms .entry)) (now (lefts .entry)) (now (rights .entry)) 0 n)))) ⌝ }
+    ensures { λ r. ⌜ (drop 39424 (now (w .exit)) ≡ drop 39424 (now (w .entry))) × ((es : List Edge) → Planned n (now (w .entry)) l es (now (forms .entry)) (now (lefts .entry)) (now (rights .entry)) → Holds (now (w .exit)) r (addAll es (newEdges (outcomesOf es (now (forms .entry)) (now (lefts .entry)) (now (rights .entry)) 0 n)))) ⌝ }
 {
     let mut grown = l;
     let mut p = 0;
@@ -38,7 +44,7 @@ fn add_all(
             left: lefts[p],
             right: rights[p],
         };
-        grown = new_edges::add_choice(w, grown, p, c);
+        grown = crate::new_edge::add_choice(w, grown, p, c);
         p += 1;
     }
     grown
@@ -60,13 +66,13 @@ pub fn fractions(
     if l.len == 0 {
         return l;
     }
-    if !marker_any::any_marker(line, offs, table, h, n) {
+    if !markers::any::any_marker(line, offs, table, h, n) {
         return l;
     }
     let mut forms = [0usize; 256];
     let mut lefts = [0usize; 256];
     let mut rights = [0usize; 256];
-    choices::choose(
+    fraction_choices::choose(
         w,
         l,
         line,
@@ -78,6 +84,6 @@ pub fn fractions(
         &mut lefts,
         &mut rights,
     );
-    turned_off::turn_off_all(w, l, &forms, &lefts, &rights, n);
+    crate::deactivate::turn_off_all(w, l, &forms, &lefts, &rights, n);
     add_all(w, l, &forms, &lefts, &rights, n)
 }

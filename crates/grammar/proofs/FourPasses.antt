@@ -10,7 +10,7 @@ use native.Mathlib.Omega.{arith}
 use native.Mathlib.Nat.{zero-add}
 use lib.Dec.{leb, ltb, eqb}
 use lib.ListN.{length, length-append}
-use Rattle.dicts.specs.Table.{Text}
+use Rattle.table.specs.Table.{Text}
 use Rattle.text.specs.Sequence.{encode}
 use Rattle.text.specs.Bytes.{same}
 use Rattle.passes.specs.NumEdge.{NumEdge}

@@ -7,7 +7,7 @@ use mathlib.Core.Path.{_≡_, refl}
 use mathlib.Core.List.{List, [], _∷_, _++_, map}
 use lib.ListN.{replicate}
 use mathlib.Core.Option.{Option, none, some}
-use Rattle.dicts.specs.Table.{find}
+use Rattle.table.specs.Table.{find}
 use Rattle.text.specs.Text.{chars, decode, encodes}
 use Rattle.text.specs.Sequence.{seq, encode}
 use Rattle.whole.specs.Decimal.{decimal, decimalWithin}

@@ -4,7 +4,7 @@ use mathlib.Core.Path.{_≡_, refl}
 use mathlib.Core.Bool.{true}
 use mathlib.Core.List.{List, [], _∷_, map}
 use mathlib.Core.Option.{none, some}
-use Rattle.dicts.specs.Table.{find}
+use Rattle.table.specs.Table.{find}
 use Rattle.text.specs.Text.{Scalars}
 use Rattle.text.specs.Sequence.{encode, scalar}
 use Rattle.whole.specs.Decimal.{decimal}

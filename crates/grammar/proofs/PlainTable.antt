@@ -7,9 +7,9 @@ use Rattle.text.specs.Text.{decode, left}
 use Rattle.whole.specs.Decimal.{decimal, decimalWithin}
 use Rattle.fields.specs.Fields.{le, leAt, bytesOf}
 use Rattle.fields.specs.Part.{part}
-use Rattle.dicts.specs.Layout.{number, textOf, text, fraction, optional, readNumbers, readFields, readRecord}
-use Rattle.dicts.specs.Check.{Fine, item, allOf, legalMark, legalDigit, legalCodePoint, legalTexts, legalNumbers, digitRule, legalRecord, readTexts, readList, readRecords, readTable}
-use Rattle.table_bytes.specs.TableBytes.{string, inRow, list, mapOf, recordBytes, tableBytes}
+use Rattle.table.specs.Layout.{number, textOf, text, fraction, optional, readNumbers, readFields, readRecord}
+use Rattle.table.specs.Check.{Fine, item, allOf, legalMark, legalDigit, legalCodePoint, legalTexts, legalNumbers, digitRule, legalRecord, readTexts, readList, readRecords, readTable}
+use Rattle.table.specs.TableBytes.{string, inRow, list, mapOf, recordBytes, tableBytes}
 use Rattle.grammar.specs.Plain.{plain, plainRecords, plainRecord}
 use Rattle.grammar.specs.PlainBytes.{plainBytes}
 

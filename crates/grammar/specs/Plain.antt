@@ -9,7 +9,7 @@ use Prim.Native.Nat.{ℕ}
 use mathlib.Core.Bool.{Bool, true, false}
 use mathlib.Core.List.{List, [], _∷_, _++_, map}
 use mathlib.Core.Option.{none, some}
-use Rattle.dicts.specs.Table.{Text, Record, Table}
+use Rattle.table.specs.Table.{Text, Record, Table}
 use Rattle.passes.specs.Passes.{digitType, cjk}
 use Rattle.text.specs.Sequence.{encode}
 use Rattle.whole.specs.Decimal.{decimal}

@@ -3,7 +3,7 @@
 --     Assumes nothing.
 use Prim.Native.Nat.{ℕ}
 use mathlib.Core.List.{List}
-use Rattle.table_bytes.specs.TableBytes.{tableBytes}
+use Rattle.table.specs.TableBytes.{tableBytes}
 use Rattle.grammar.specs.Plain.{plain}
 
 unfoldable pub plainBytes : List ℕ

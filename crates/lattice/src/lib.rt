@@ -1,7 +1,12 @@
+// The lattice in lent work space: empty, searched, finished (the Rust's lattice/mod.rs).
 // The lattice, kept in lent work space: edges are added once (01: "edges equal in start, end, txt and type are one, the first"),
 // turned inactive, and written to the output in the order of their first addition. The layout of the work space is in specs/Kept.antt.
-// Here are the types, and what reads an edge's offset or turns an edge inactive. `lattice_ends` makes an empty lattice and writes the listing,
-// `lattice_find` looks for an edge, `lattice_add`, `lattice_regular` and `lattice_write` add one.
+// Here are the types, and what reads an edge's offset or turns an edge inactive. `lattice::ends` makes an empty lattice and writes the listing,
+// `lattice::find` looks for an edge, `lattice_add`, `lattice_add::regular` and `lattice_add::numeric` add one.
+pub mod ends; // ends.rt: the lattice without edges, and its listing in the output
+pub mod find; // find.rt: whether it has an edge already, or room for it
+pub mod link; // link.rt: its cells with one edge more
+
 ghost use mathlib.Core.Path.{_≡_};
 ghost use mathlib.Core.Bool.{false};
 ghost use mathlib.Core.List.{List};
@@ -55,5 +60,5 @@ pub fn turn_off(w: &mut [u8], l: Lattice, i: usize)
 {
     let at = offset_at(w, l, i);
     let map = inactive_map(fields::u16_at(w, at));
-    fields_write::put_u16(w, at, map);
+    fields::write::put_u16(w, at, map);
 }

@@ -16,7 +16,7 @@ use Rattle.lattice.specs.Kept.{Stands, END, linked, Holds, AddingIs}
 use Rattle.lattice.specs.declared.Lattice.{Lattice}
 use Rattle.lattice.specs.declared.Adding.the-variants.{TooMuch, Into}
 use Rattle.lattice.proofs.HoldsLaws.{kept-of, holds-beside, add-new}
-use Rattle.lattice_find.proofs.BucketLaws.{bucket-lt}
+use Rattle.lattice.proofs.find.BucketLaws.{bucket-lt}
 use Rattle.lattice_add.proofs.GrowLaws.{link-frame, grown}
 
 -- ---- what the stores ask for

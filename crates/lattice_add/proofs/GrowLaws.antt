@@ -18,7 +18,7 @@ use Rattle.fields.proofs.FieldsLaws.{length-bytesOf}
 use Rattle.fields.proofs.PartLaws.{part-add, part-sets, part-sets-other, drop-sets}
 use Rattle.edge.specs.Edge.{Edge, edgeBytes, edgesBytes}
 use Rattle.lattice.specs.Kept.{END, OFFSETS, NEXTS, HEADS, cell, linked, Fits, Kept, Stands, noEdge, offset, lastIn, bucket}
-use Rattle.lattice_find.proofs.BucketLaws.{bucket-lt, last-le, last-more}
+use Rattle.lattice.proofs.find.BucketLaws.{bucket-lt, last-le, last-more}
 use Rattle.lattice.proofs.HoldsLaws.{length-snoc}
 use Rattle.lattice.proofs.KeptLaws.{edges-snoc, length-edges-snoc, length-listing, kept-size, kept-bytes, listing-of, cell-same, cell-other}
 

@@ -1,4 +1,10 @@
-// An edge that is composed behind the lattice's listing is added where it is new and has room. `lattice_given` adds one of the caller's listing.
+// The ways in which an edge comes into the lattice.
+// An edge that is composed behind the lattice's listing is added where it is new and has room. `lattice_add::given` adds one of the caller's listing.
+pub mod given; // given.rt: an edge of the caller's listing
+pub mod regular; // regular.rt: a new regular edge
+pub mod numeric; // numeric.rt: a new numeric edge
+pub mod copy; // copy.rt: a copy of an edge, with a text before its txt
+
 ghost use mathlib.Core.Path.{_≡_};
 ghost use mathlib.Core.List.{List};
 ghost use Prim.Native.Nat.{_+_};
@@ -16,11 +22,11 @@ pub fn add_edge(w: &mut [u8], l: Lattice, n: usize, to: usize) -> Lattice
 {
     let count = l.count;
     let len = l.len;
-    match lattice_find::how_to_add(w, l, w, len, n, to) {
+    match lattice::find::how_to_add(w, l, w, len, n, to) {
         Adding::Nothing => l,
         Adding::TooMuch => Lattice { count, len: 0 },
         Adding::Into(bucket) => {
-            lattice_link::link(w, count, len, bucket);
+            lattice::link::link(w, count, len, bucket);
             Lattice {
                 count: count + 1,
                 len: to,

@@ -12,7 +12,7 @@ fn print_all(s: &[u8]) {
     let mut from = 0;
     let mut k = 1;
     while from < s.len() {
-        let end = read_line::line_end(s, from);
+        let end = print_line::read::line_end(s, from);
         head(k);
         print_line::print_rows(&s[from..end]);
         from = end + 1;

@@ -13,12 +13,12 @@ use lib.Dec.{eqb}
 use borrow.Author.Tests.{eqb-false, not-true}
 use Rattle.text.specs.Text.{wellFormed}
 use Rattle.text.proofs.BytesLaws.{same-true}
-use Rattle.dicts.specs.Table.{Text}
-use Rattle.dicts.specs.Layout.{Is, Fault, text, textsAt, listAt}
-use Rattle.dicts.specs.Answers.{tableOf}
-use Rattle.dicts.specs.declared.shape.Shape.{Shape}
-use Rattle.dicts.proofs.LayoutLaws.{many-nil, many-fault, many-cons, list-texts, number-cut}
-use Rattle.pass_list.specs.Item.{cons}
+use Rattle.table.specs.Table.{Text}
+use Rattle.table.specs.Layout.{Is, Fault, text, textsAt, listAt}
+use Rattle.table.specs.Answers.{tableOf}
+use Rattle.table.specs.declared.shape.Shape.{Shape}
+use Rattle.table.proofs.LayoutLaws.{many-nil, many-fault, many-cons, list-texts, number-cut}
+use Rattle.pass_list.specs.StoredEdge.{cons}
 use Rattle.numbers.specs.Fractions.{standsAt}
 use Rattle.markers.specs.Marks.{bytesAt, NotBefore, standsFrom, anyStands, marked, Formed}
 

@@ -14,21 +14,21 @@ use Rattle.fields.specs.Part.{part}
 use Rattle.text.specs.Bytes.{same}
 use Rattle.text.specs.Line.{walked}
 use Rattle.text.specs.declared.Walked.{Walked}
-use Rattle.text_line.proofs.LineLaws.{count-whole}
+use Rattle.text.proofs.line.LineLaws.{count-whole}
 use Rattle.text.specs.Text.{chars, left, wellFormed, encodes, offsetOf}
 use Rattle.text.proofs.BytesLaws.{same-refl, same-true, same-lengths}
 use Rattle.text.proofs.RowLaws.{and-true}
 use Rattle.text.proofs.TextLaws.{text-split, well-formed-split, chars-append, encodes-append}
 use Rattle.text.proofs.PlaceLaws.{offset-part, reached-place}
-use Rattle.dicts.specs.Table.{Text, Table}
-use Rattle.dicts.specs.Layout.{Field, Is, Fault, number, text, textsAt, listAt}
-use Rattle.dicts.specs.Check.{Fine, Refused, item, legalMark, readTexts, readList, readRecords, readTable}
-use Rattle.dicts.proofs.LookupLaws.{then-fine}
-use Rattle.pass_list.specs.Item.{Every, nil, cons}
-use Rattle.dicts.specs.Answers.{tableOf}
-use Rattle.dicts.specs.declared.shape.Shape.{Shape}
-use Rattle.dicts.proofs.LayoutLaws.{many-nil, many-fault, many-cons, list-texts, number-cut}
-use Rattle.stages.specs.Ready.{Ready}
+use Rattle.table.specs.Table.{Text, Table}
+use Rattle.table.specs.Layout.{Field, Is, Fault, number, text, textsAt, listAt}
+use Rattle.table.specs.Check.{Fine, Refused, item, legalMark, readTexts, readList, readRecords, readTable}
+use Rattle.table.proofs.LookupLaws.{then-fine}
+use Rattle.pass_list.specs.StoredEdge.{Every, nil, cons}
+use Rattle.table.specs.Answers.{tableOf}
+use Rattle.table.specs.declared.shape.Shape.{Shape}
+use Rattle.table.proofs.LayoutLaws.{many-nil, many-fault, many-cons, list-texts, number-cut}
+use Rattle.numbers.specs.Ready.{Ready}
 use Rattle.numbers.specs.Fractions.{standsAt, larger, longest, longer, markerAt}
 use Rattle.numbers.specs.Fractions as numbers
 use Rattle.numbers.specs.Signs.{endsAt}

@@ -17,8 +17,8 @@ use mathlib.Core.List.{List, [], _∷_}
 use lib.ListN.{length, take, drop}
 use Rattle.text.specs.Bytes.{same}
 use Rattle.text.specs.Text.{chars, wellFormed}
-use Rattle.dicts.specs.Table.{Text, Table}
-use Rattle.pass_list.specs.Item.{Every}
+use Rattle.table.specs.Table.{Text, Table}
+use Rattle.pass_list.specs.StoredEdge.{Every}
 use Rattle.numbers.specs.Fractions.{larger, standsAt}
 use Rattle.numbers.specs.Fractions as numbers
 use Rattle.numbers.specs.Signs.{endsAt}

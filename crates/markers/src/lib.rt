@@ -1,12 +1,16 @@
+// Markers and signs of the table in the line.
 // Texts of the table in the line (01, "The rest of the call"): whether one stands at an offset, and the sign before a place. What a marker at a place is, for
-// `marker_find`; `marker_any` asks whether there is any.
+// `markers::find`; `markers::any` asks whether there is any.
+pub mod find; // find.rt: the marker that counts at a place
+pub mod any; // any.rt: whether a line has a marker at all
+
 use text::Place;
 ghost use mathlib.Core.Path.{_≡_};
 ghost use mathlib.Core.Bool.{true};
 ghost use Prim.Native.Nat.{_≤_};
 ghost use lib.ListN.{length};
 ghost use Rattle.text.specs.Text.{chars, wellFormed};
-ghost use Rattle.stages.specs.Ready.{Offsets};
+ghost use Rattle.numbers.specs.Ready.{Offsets};
 ghost use Rattle.markers.specs.Marks.{bytesAt, NotBefore, signOf};
 
 // The marker that counts at a place, with its length in characters.
@@ -57,7 +61,7 @@ fn counted_back(line: &[u8], offs: &[usize; 257], p: Place, m: &[u8]) -> Sign
     ensures { λ r. ⌜ r ≡ signOf (chars (now (line .entry))) (p .0) (now (m .entry)) ⌝ }
 {
     let place = p.0;
-    let w = text_line::walk(m, m.len());
+    let w = text::line::walk(m, m.len());
     let size = w.count;
     if place < size {
         return Sign::NoSign;

@@ -14,9 +14,9 @@ use Rattle.fields.specs.Fields.{le, leAt, bytesOf}
 use Rattle.fields.specs.Part.{part}
 use Rattle.digits.specs.Digits.{isDigit, inRuns, starts}
 use Rattle.digits.specs.TextEnds.{firstIsDigit, lastIsDigit}
-use Rattle.dicts.specs.Table.{find}
-use Rattle.dicts.specs.Layout.{number}
-use Rattle.dicts.specs.Check.{item, readTexts, readList, readRecords, readTable}
+use Rattle.table.specs.Table.{find}
+use Rattle.table.specs.Layout.{number}
+use Rattle.table.specs.Check.{item, readTexts, readList, readRecords, readTable}
 use Rattle.passes.specs.Chains.{from, chains}
 use Rattle.passes.specs.NumEdge.{firstAbove}
 use Rattle.passes.specs.Characters.{charEdges, charEdge, lowest, gcd, gcdWithin}
@@ -28,7 +28,7 @@ use Rattle.lattice.specs.Lattice.{sameKey, has, add, addAll, inactive, turnOffA
 use Rattle.paths.specs.Best.{startsWith, regularClass, class, asked, score, bestFrom, numbered}
 use Rattle.grammar.specs.Plain.{plain, plainRecords, plainRecord}
 use Rattle.numbers.specs.Listed.{listedEdge, wholeValue}
-use Rattle.numbers.specs.Fractions.{standsAt, longest, markerAt, fractionEdge, marked, madeAt, madeFrom, newEdges, usedEdges, fractions}
+use Rattle.numbers.specs.Fractions.{standsAt, longest, markerAt, fractionEdge, marked, outcomeAt, outcomesFrom, newEdges, usedEdges, fractions}
 use Rattle.numbers.specs.Signs.{signed, signs}
 use Rattle.numbers.specs.Separators.{endsBefore, apart, copyOf, copies, separate}
 use Rattle.numbers.specs.Fallback.{covered, fallback}
@@ -43,7 +43,7 @@ pub example : map row (latticeOf plain (0x767E ∷ 0x5206 ∷ 0x4E4B ∷ 0x4E94 
     ≡ (0, 1, 98 ∷ 97 ∷ 115 ∷ 101 ∷ [], 49 ∷ 48 ∷ 48 ∷ [], some false)
     ∷ (3, 4, 100 ∷ 105 ∷ 103 ∷ 105 ∷ 116 ∷ [], 53 ∷ [], some false)
     ∷ (0, 4, 112 ∷ 101 ∷ 114 ∷ 99 ∷ 101 ∷ 110 ∷ 116 ∷ 97 ∷ 103 ∷ 101 ∷ [], 53 ∷ 37 ∷ [], none) ∷ []
-unfolding latticeOf afterPasses afterSigns fractions madeFrom madeAt marked markerAt longest standsAt newEdges usedEdges fractionEdge signs signed separate copies copyOf apart endsBefore fallback covered f64Bits listedEdge wholeValue startsWith regularClass class asked score bestFrom numbered sameKey has add addAll inactive turnOffAt turnOff plain plainRecords plainRecord through addedBy after added chainsOf joinedOf next joined over overDigits d1Rule g1Rule g2Rule g3Rule g4Rule digitEdge gap nearest begin longer retags countedValue countedBase powerOfTen powerWithin charEdges charEdge lowest gcd gcdWithin from chains firstIsDigit lastIsDigit isDigit inRuns starts decimal decimalWithin ofNat seq encode chars decode encodes same find toBits ofBits ofInt toUnsigned
+unfolding latticeOf afterPasses afterSigns fractions outcomesFrom outcomeAt marked markerAt longest standsAt newEdges usedEdges fractionEdge signs signed separate copies copyOf apart endsBefore fallback covered f64Bits listedEdge wholeValue startsWith regularClass class asked score bestFrom numbered sameKey has add addAll inactive turnOffAt turnOff plain plainRecords plainRecord through addedBy after added chainsOf joinedOf next joined over overDigits d1Rule g1Rule g2Rule g3Rule g4Rule digitEdge gap nearest begin longer retags countedValue countedBase powerOfTen powerWithin charEdges charEdge lowest gcd gcdWithin from chains firstIsDigit lastIsDigit isDigit inRuns starts decimal decimalWithin ofNat seq encode chars decode encodes same find toBits ofBits ofInt toUnsigned
 example = refl
 
 -- the empty table
@@ -58,5 +58,5 @@ pub order :
     × (addNumbers (49 ∷ []) empty (1 ∷ 0 ∷ []) 65536 0 ≡ refused 6 2)
     × (addNumbers (49 ∷ []) empty (0 ∷ 0 ∷ []) 65536 15 ≡ refused 8 0)
     × (addNumbers (49 ∷ []) empty (0 ∷ 0 ∷ []) 65536 16 ≡ listing (1 ∷ 0 ∷ 0 ∷ 0 ∷ 0 ∷ 0 ∷ 1 ∷ 0 ∷ 3 ∷ 0 ∷ 110 ∷ 117 ∷ 109 ∷ 1 ∷ 0 ∷ 49 ∷ []))
-unfolding addNumbers withAll latticeOf afterPasses afterSigns fractions madeFrom madeAt markerAt longest newEdges usedEdges signs separate copies fallback covered addAll add has turnOff overfull str headBytes edgeBytes edgesBytes listingBytes through addedBy after added chainsOf joinedOf charEdges from chains firstAbove checkListing checkEdges good nextAt stringEnd edgesAt le leAt bytesOf part readTable readRecords readList readTexts item number seq chars decode left find
+unfolding addNumbers withAll latticeOf afterPasses afterSigns fractions outcomesFrom outcomeAt markerAt longest newEdges usedEdges signs separate copies fallback covered addAll add has turnOff overfull str headBytes edgeBytes edgesBytes listingBytes through addedBy after added chainsOf joinedOf charEdges from chains firstAbove checkListing checkEdges good nextAt stringEnd edgesAt le leAt bytesOf part readTable readRecords readList readTexts item number seq chars decode left find
 order = (refl, refl, refl, refl, refl, refl)

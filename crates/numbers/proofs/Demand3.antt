@@ -13,7 +13,7 @@ use Rattle.text.specs.declared.LineCheck.the-variants.{Chars, IllFormed, TooLon
 use Rattle.text.specs.declared.Offset.{Offset}
 use Rattle.text.specs.Text.{chars, wellFormed, offsetOf, illAt}
 use Rattle.text.specs.Line.{lineCheck, maxChars}
-use Rattle.dicts.specs.Check.{readTable}
+use Rattle.table.specs.Check.{readTable}
 use Rattle.edge.specs.Edge.{Numeric, f64Bits}
 use Rattle.edge.specs.Check.{checkListing}
 use Rattle.edge.specs.declared.ListingCheck.{ListingCheck}

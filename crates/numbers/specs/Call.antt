@@ -14,8 +14,8 @@ use Rattle.text.specs.declared.LineCheck.{LineCheck}
 use Rattle.text.specs.declared.LineCheck.the-variants.{Chars, IllFormed, TooLong}
 use Rattle.text.specs.Text.{chars}
 use Rattle.text.specs.Line.{lineCheck}
-use Rattle.dicts.specs.Table.{Table}
-use Rattle.dicts.specs.Check.{Checked, Fine, Refused, readTable}
+use Rattle.table.specs.Table.{Table}
+use Rattle.table.specs.Check.{Checked, Fine, Refused, readTable}
 use Rattle.passes.specs.Characters.{firstList}
 use Rattle.passes.specs.Passes.{fifthList, joinedEdges, aboveAt}
 use Rattle.edge.specs.Edge.{Edge, listingBytes}

@@ -2,8 +2,8 @@
 --     standsAt w p m      the marker or sign m stands in the line at place p
 --     longest w p ms      how many characters the longest of the markers ms has that stand at place p; 0 where none does
 --     Marker, markerAt    the marker that counts at a place: its kind and its length in characters
---     Made                what a marker leads to: a new edge, with the indices of the edges that it uses
---     madeAt t w es p     what the marker at place p leads to
+--     Outcome                what a marker leads to: a new edge, with the indices of the edges that it uses
+--     outcomeAt t w es p     what the marker at place p leads to
 --     fractions t w es    the lattice with the used edges inactive, then the new ones added
 --     Assumes nothing.
 use Prim.Native.Nat.{ℕ, zero, suc, _+_}
@@ -15,7 +15,7 @@ use lib.Dec.{eqb, leb}
 use Rattle.text.specs.Bytes.{same}
 use Rattle.text.specs.Text.{chars}
 use Rattle.whole.specs.Decimal.{decimal}
-use Rattle.dicts.specs.Table.{Text, Table}
+use Rattle.table.specs.Table.{Text, Table}
 use Rattle.passes.specs.Characters.{lowest}
 use Rattle.edge.specs.Edge.{Edge, Numeric}
 use Rattle.paths.specs.Best.{Best, leftNeighbor, rightNeighbor}
@@ -46,9 +46,9 @@ longer p c = cond (eqb (larger p c) 0) noMarker (cond (leb c p) (percentage p) (
 unfoldable pub markerAt : Table → List ℕ → ℕ → Marker
 markerAt t w p = longer (longest w p (t .percentage-markers)) (longest w p (t .fraction-connectors))
 
-pub data Made : Type 0 where
-  made : Edge → List ℕ → Made
-  nothing : Made
+pub data Outcome : Type 0 where
+  made : Edge → List ℕ → Outcome
+  nothing : Outcome
 
 -- the types "percentage" and "fraction"
 abbrev pub percentageType : Text
@@ -89,52 +89,52 @@ abbrev pub isNumeric : Edge → Bool
 isNumeric e = elim (e .num) [ none ↦ false | some n ↦ true ]
 
 -- "Otherwise a percentage marker with a numeric right neighbour gives its txt and "%", from the marker on"
-abbrev pub otherwise : Bool → ℕ → Best → Made
+abbrev pub otherwise : Bool → ℕ → Best → Outcome
 otherwise percent p none = nothing
 otherwise percent p (some (i, r)) = cond (percent && isNumeric r) (made (percentEdge p (r .end) (r .txt)) (i ∷ [])) nothing
 
 -- "left 100 gives txt "right%"; else a connector with left not 0 gives .."
-abbrev pub both : Bool → Made → ℕ → Edge → ℕ → ℕ → Edge → ℕ → Made
+abbrev pub both : Bool → Outcome → ℕ → Edge → ℕ → ℕ → Edge → ℕ → Outcome
 both percent other i l lv j r rv =
     cond (eqb lv 100) (made (percentEdge (l .start) (r .end) (decimal rv)) (i ∷ j ∷ []))
     (cond (not percent && not (eqb lv 0)) (made (fractionEdge l lv r rv) (i ∷ j ∷ []))
     other)
 
 -- "With whole left and right values the new edge spans all three"
-abbrev pub withValues : Bool → Made → ℕ → Edge → Option ℕ → ℕ → Edge → Option ℕ → Made
+abbrev pub withValues : Bool → Outcome → ℕ → Edge → Option ℕ → ℕ → Edge → Option ℕ → Outcome
 withValues percent other i l none j r v = other
 withValues percent other i l (some lv) j r none = other
 withValues percent other i l (some lv) j r (some rv) = both percent other i l lv j r rv
 
-abbrev pub between : Bool → Made → Best → Best → Made
+abbrev pub between : Bool → Outcome → Best → Best → Outcome
 between percent other none r = other
 between percent other (some l) none = other
 between percent other (some (i, l)) (some (j, r)) = withValues percent other i l (wholeValue l) j r (wholeValue r)
 
 -- a marker of n characters at place p, by its neighbours
-unfoldable pub marked : Bool → List Edge → ℕ → ℕ → Made
+unfoldable pub marked : Bool → List Edge → ℕ → ℕ → Outcome
 marked percent es p n =
     between percent (otherwise percent p (rightNeighbor false es (p + n))) (leftNeighbor false es p) (rightNeighbor false es (p + n))
 
-abbrev pub byMarker : List Edge → ℕ → Marker → Made
+abbrev pub byMarker : List Edge → ℕ → Marker → Outcome
 byMarker es p (percentage n) = marked true es p n
 byMarker es p (connector n) = marked false es p n
 byMarker es p noMarker = nothing
 
-unfoldable pub madeAt : Table → List ℕ → List Edge → ℕ → Made
-madeAt t w es p = byMarker es p (markerAt t w p)
+unfoldable pub outcomeAt : Table → List ℕ → List Edge → ℕ → Outcome
+outcomeAt t w es p = byMarker es p (markerAt t w p)
 
 -- what the k places from p on lead to
-unfoldable pub madeFrom : Table → List ℕ → List Edge → ℕ → ℕ → List Made
-madeFrom t w es p zero = []
-madeFrom t w es p (suc k) = madeAt t w es p ∷ madeFrom t w es (suc p) k
+unfoldable pub outcomesFrom : Table → List ℕ → List Edge → ℕ → ℕ → List Outcome
+outcomesFrom t w es p zero = []
+outcomesFrom t w es p (suc k) = outcomeAt t w es p ∷ outcomesFrom t w es (suc p) k
 
-unfoldable pub newEdges : List Made → List Edge
+unfoldable pub newEdges : List Outcome → List Edge
 newEdges [] = []
 newEdges (made e is ∷ ms) = e ∷ newEdges ms
 newEdges (nothing ∷ ms) = newEdges ms
 
-unfoldable pub usedEdges : List Made → List ℕ
+unfoldable pub usedEdges : List Outcome → List ℕ
 usedEdges [] = []
 usedEdges (made e is ∷ ms) = is ++ usedEdges ms
 usedEdges (nothing ∷ ms) = usedEdges ms
@@ -142,5 +142,5 @@ usedEdges (nothing ∷ ms) = usedEdges ms
 -- "Used edges turn inactive after the last place, then the new ones are added."
 unfoldable pub fractions : Table → List ℕ → List Edge → List Edge
 fractions t w es =
-    let ms = madeFrom t w es 0 (length w) in
+    let ms = outcomesFrom t w es 0 (length w) in
     addAll (turnOff es (usedEdges ms)) (newEdges ms)

@@ -9,7 +9,7 @@ use mathlib.Core.Option.{Option, none, some}
 use lib.ListN.{length}
 use lib.Dec.{leb}
 use Rattle.text.specs.Text.{chars}
-use Rattle.dicts.specs.Table.{Text, Table}
+use Rattle.table.specs.Table.{Text, Table}
 use Rattle.passes.specs.NumEdge.{NumEdge, has}
 use Rattle.edge.specs.Edge.{Edge}
 use Rattle.edge.specs.Write.{regular}

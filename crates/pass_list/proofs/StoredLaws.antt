@@ -16,8 +16,8 @@ use Rattle.fields.specs.Fields.{le, leAt, bytesOf}
 use Rattle.fields.specs.Part.{part}
 use Rattle.fields.proofs.FieldsLaws.{le-bytesOf}
 use Rattle.fields.proofs.PartLaws.{part-sets, part-sets-other, drop-sets}
-use Rattle.pass_list.specs.Item.{Item, numData, Small, cons, AllSmall, Fits}
-use Rattle.pass_list.specs.Stored.{digitOf, mapOf, numBytes, recordBytes, itemOf, itemAt, itemsAt}
+use Rattle.pass_list.specs.StoredEdge.{StoredEdge, numData, Small, cons, AllSmall, Fits}
+use Rattle.pass_list.specs.Stored.{digitOf, mapOf, numBytes, recordBytes, storedOf, storedAt, storedListAt}
 
 -- ---- what was written is read
 digit-small : (b : Bool) → digitOf b ≤ 1
@@ -28,7 +28,7 @@ digit-back : (b : Bool) → eqb (digitOf b) 1 ≡ b
 digit-back true = refl
 digit-back false = refl
 
-record Marks (x : Item) : Type 0 where
+record Marks (x : StoredEdge) : Type 0 where
   has-value : digitOf (x .has-value) ≤ 1
   has-base : digitOf (x .has-base) ≤ 1
   has-mult : digitOf (x .has-mult) ≤ 1
@@ -38,7 +38,7 @@ record Marks (x : Item) : Type 0 where
   gap : digitOf (x .gap) ≤ 1
   cjk : digitOf (x .cjk) ≤ 1
 
-record MapBits (x : Item) : Type 0 where
+record MapBits (x : StoredEdge) : Type 0 where
   has-value : mapOf (numData x) / 2 % 2 ≡ digitOf (x .has-value)
   has-base : mapOf (numData x) / 8 % 2 ≡ digitOf (x .has-base)
   has-mult : mapOf (numData x) / 16 % 2 ≡ digitOf (x .has-mult)
@@ -49,7 +49,7 @@ record MapBits (x : Item) : Type 0 where
   cjk : mapOf (numData x) / 1024 % 2 ≡ digitOf (x .cjk)
 
 -- each mark is its own bit of the map
-module _ (x : Item) where
+module _ (x : StoredEdge) where
   marks-small : Marks x
   marks-small = record {
     has-value = digit-small (x .has-value);
@@ -80,7 +80,7 @@ module _ (x : Item) where
   map-small = let m = marks-small in omega arith
 
 -- the numbers of a record's bytes
-record Back (x : Item) : Type 0 where
+record Back (x : StoredEdge) : Type 0 where
   start : leAt (recordBytes x) 0 2 ≡ x .start
   end : leAt (recordBytes x) 2 2 ≡ x .end
   kind : leAt (recordBytes x) 4 2 ≡ x .kind
@@ -92,7 +92,7 @@ record Back (x : Item) : Type 0 where
   script-at : leAt (recordBytes x) 40 8 ≡ x .script-at
   script-len : leAt (recordBytes x) 48 8 ≡ x .script-len
 
-numbers-back : (x : Item) → Fits x → Back x
+numbers-back : (x : StoredEdge) → Fits x → Back x
 unfolding leAt le part bytesOf recordBytes numBytes
 numbers-back x f =
     let small = f .small in
@@ -109,8 +109,8 @@ numbers-back x f =
       script-len = le-bytesOf 8 (x .script-len) (f .script-len);
     }
 
-record-back : (x : Item) → Fits x → itemOf (recordBytes x) ≡ x
-unfolding itemOf
+record-back : (x : StoredEdge) → Fits x → storedOf (recordBytes x) ≡ x
+unfolding storedOf
 record-back x f =
     let b = numbers-back x f in
     let m = map-bits x in
@@ -143,58 +143,58 @@ record-back x f =
       digit-back (x .cjk),
     )
 
-pub length-record : (x : Item) → length (recordBytes x) ≡ 56
+pub length-record : (x : StoredEdge) → length (recordBytes x) ≡ 56
 unfolding recordBytes numBytes bytesOf
 length-record x = refl
 
-pub item-same : (s : List ℕ) (at : ℕ) (x : Item) → Fits x → at + 56 ≤ length s → itemAt (sets s at (recordBytes x)) at ≡ x
-unfolding itemAt
-item-same s at x f h = ap itemOf (part-sets s at (recordBytes x) 56 (length-record x) h) ∙ record-back x f
+pub item-same : (s : List ℕ) (at : ℕ) (x : StoredEdge) → Fits x → at + 56 ≤ length s → storedAt (sets s at (recordBytes x)) at ≡ x
+unfolding storedAt
+item-same s at x f h = ap storedOf (part-sets s at (recordBytes x) 56 (length-record x) h) ∙ record-back x f
 
 -- ---- lists of records
 -- what lies behind k records is read as before
-pub item-behind : (s t : List ℕ) (at : ℕ) → drop at t ≡ drop at s → itemAt t at ≡ itemAt s at
-unfolding itemAt part
-item-behind s t at e = ap (λ (l : List ℕ). itemOf (take 56 l)) e
+pub item-behind : (s t : List ℕ) (at : ℕ) → drop at t ≡ drop at s → storedAt t at ≡ storedAt s at
+unfolding storedAt part
+item-behind s t at e = ap (λ (l : List ℕ). storedOf (take 56 l)) e
 
-pub items-cons : (s : List ℕ) (i n : ℕ) → i < n → itemsAt s i (n - i) ≡ itemAt s (i * 56) ∷ itemsAt s (i + 1) (n - (i + 1))
-unfolding itemsAt
+pub items-cons : (s : List ℕ) (i n : ℕ) → i < n → storedListAt s i (n - i) ≡ storedAt s (i * 56) ∷ storedListAt s (i + 1) (n - (i + 1))
+unfolding storedListAt
 items-cons s i n h = let e : n - i ≡ suc (n - suc i) = omega arith in rw (add-one i, e)
 
-pub items-none : (s : List ℕ) (i n : ℕ) → n ≤ i → itemsAt s i (n - i) ≡ []
-unfolding itemsAt
+pub items-none : (s : List ℕ) (i n : ℕ) → n ≤ i → storedListAt s i (n - i) ≡ []
+unfolding storedListAt
 items-none s i n h = let e : n - i ≡ 0 = omega arith in rw e
 
-pub length-items : (s : List ℕ) (i n : ℕ) → length (itemsAt s i n) ≡ n
-unfolding itemsAt
+pub length-items : (s : List ℕ) (i n : ℕ) → length (storedListAt s i n) ≡ n
+unfolding storedListAt
 length-items s i zero = refl
 length-items s i (suc n) = ap suc (length-items s (suc i) n)
 
-pub items-other : (s : List ℕ) (at : ℕ) (bs : List ℕ) (i n : ℕ) → (i + n) * 56 ≤ at → itemsAt (sets s at bs) i n ≡ itemsAt s i n
-unfolding itemsAt itemAt
+pub items-other : (s : List ℕ) (at : ℕ) (bs : List ℕ) (i n : ℕ) → (i + n) * 56 ≤ at → storedListAt (sets s at bs) i n ≡ storedListAt s i n
+unfolding storedListAt storedAt
 items-other s at bs i zero h = refl
 items-other s at bs i (suc n) h = rw (part-sets-other s at bs (i * 56) 56 (inr (omega arith)), items-other s at bs (suc i) n (omega arith))
 
-pub items-snoc : (s : List ℕ) (i n : ℕ) → itemsAt s i (n + 1) ≡ itemsAt s i n ++ (itemAt s ((i + n) * 56) ∷ [])
-unfolding itemsAt
+pub items-snoc : (s : List ℕ) (i n : ℕ) → storedListAt s i (n + 1) ≡ storedListAt s i n ++ (storedAt s ((i + n) * 56) ∷ [])
+unfolding storedListAt
 items-snoc s i zero = rw add-zero
-items-snoc s i (suc n) = let e : i + suc n ≡ suc i + n = omega arith in rw (suc-add n 1, e) (ap (λ (l : List Item). itemAt s (i * 56) ∷ l) (items-snoc s (suc i) n))
+items-snoc s i (suc n) = let e : i + suc n ≡ suc i + n = omega arith in rw (suc-add n 1, e) (ap (λ (l : List StoredEdge). storedAt s (i * 56) ∷ l) (items-snoc s (suc i) n))
 
 -- one more record, written right behind n of them
-pub items-put : (s : List ℕ) (n : ℕ) (x : Item) → Fits x → n * 56 + 56 ≤ length s → itemsAt (sets s (n * 56) (recordBytes x)) 0 (n + 1) ≡ itemsAt s 0 n ++ (x ∷ [])
+pub items-put : (s : List ℕ) (n : ℕ) (x : StoredEdge) → Fits x → n * 56 + 56 ≤ length s → storedListAt (sets s (n * 56) (recordBytes x)) 0 (n + 1) ≡ storedListAt s 0 n ++ (x ∷ [])
 items-put s n x f h =
     let e : (0 + n) * 56 ≡ n * 56 = omega arith in
     items-snoc (sets s (n * 56) (recordBytes x)) 0 n
     ∙ rw (e, items-other s (n * 56) (recordBytes x) 0 n (omega arith), item-same s (n * 56) x f h)
 
-small-at : (s : List ℕ) (i n j : ℕ) → AllSmall (itemsAt s i n) → j < n → Small (itemAt s ((i + j) * 56))
-unfolding itemsAt
+small-at : (s : List ℕ) (i n j : ℕ) → AllSmall (storedListAt s i n) → j < n → Small (storedAt s ((i + j) * 56))
+unfolding storedListAt
 small-at s i zero j a h = absurd (omega arith)
 small-at s i (suc n) zero (cons x a) h = rw add-zero x
 small-at s i (suc n) (suc j) (cons x a) h = let e : i + suc j ≡ suc i + j = omega arith in rw e (small-at s (suc i) n j a (omega arith))
 
 -- the bytes behind the i-th record stay as they are where earlier ones are written
-pub behind-put : (s t : List ℕ) (i k : ℕ) (x : Item) → k < i → drop (i * 56) t ≡ drop (i * 56) s → drop (i * 56) (sets t (k * 56) (recordBytes x)) ≡ drop (i * 56) s
+pub behind-put : (s t : List ℕ) (i k : ℕ) (x : StoredEdge) → k < i → drop (i * 56) t ≡ drop (i * 56) s → drop (i * 56) (sets t (k * 56) (recordBytes x)) ≡ drop (i * 56) s
 behind-put s t i k x h e = let l = length-record x in drop-sets t (k * 56) (recordBytes x) (i * 56) (omega arith) ∙ e
 
 pub behind-next : (s t : List ℕ) (i : ℕ) → drop (i * 56) t ≡ drop (i * 56) s → drop ((i + 1) * 56) t ≡ drop ((i + 1) * 56) s

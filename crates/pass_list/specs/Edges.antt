@@ -16,15 +16,15 @@ use lib.Dec.{eqb}
 use Rattle.fields.specs.Part.{part}
 use Rattle.whole.specs.Decimal.{decimal, padded}
 use Rattle.text.specs.Text.{encodes}
-use Rattle.dicts.specs.Table.{Text, Record}
-use Rattle.dicts.specs.Layout.{onField, readRecord}
-use Rattle.dicts.specs.Answers.{optionally}
+use Rattle.table.specs.Table.{Text, Record}
+use Rattle.table.specs.Layout.{onField, readRecord}
+use Rattle.table.specs.Answers.{optionally}
 use Rattle.passes.specs.NumEdge.{NumEdge}
 use Rattle.passes.specs.Characters.{lowest}
 use Rattle.passes.specs.Passes as passes
 use Rattle.passes.specs.Passes.{passName, D1, G1, G2, G3, G4, digitEdge, isScript, cjk}
-use Rattle.pass_list.specs.Item.{Item}
-use Rattle.pass_list.specs.ItemPass.{ItemChain}
+use Rattle.pass_list.specs.StoredEdge.{StoredEdge}
+use Rattle.pass_list.specs.StoredPass.{StoredChain}
 
 unfoldable pub between : List ℕ → ℕ → ℕ → Text
 between w a b = encodes (take (b - a) (drop a w))
@@ -37,12 +37,12 @@ abbrev pub kindName : ℕ → Text
 kindName k = cond (eqb k 1) (passName D1) (cond (eqb k 2) (passName G1) (cond (eqb k 3) (passName G2) (cond (eqb k 4) (passName G3) (passName G4))))
 
 -- an edge joined by D1 has its digits for txt and value_s, the others their value; a character's is rom, or else the character
-abbrev pub txtOf : List ℕ → List ℕ → Item → Text
+abbrev pub txtOf : List ℕ → List ℕ → StoredEdge → Text
 txtOf w t x =
     cond (eqb (x .kind) 0) (ofRecord t (x .record-at) (λ r. Option·getD (r .rom) (between w (x .start) (x .end))) [])
     (cond (eqb (x .kind) 1) (padded (x .end - x .start) (x .value)) (decimal (x .value)))
 
-unfoldable pub edgeOf : List ℕ → List ℕ → Item → NumEdge
+unfoldable pub edgeOf : List ℕ → List ℕ → StoredEdge → NumEdge
 edgeOf w t x = record {
   start = x .start;
   end = x .end;
@@ -59,10 +59,10 @@ edgeOf w t x = record {
   value-s = cond (eqb (x .kind) 1) (some (padded (x .end - x .start) (x .value))) none;
 }
 
-unfoldable pub chainOf : List ℕ → List ℕ → ItemChain → passes.Chain
+unfoldable pub chainOf : List ℕ → List ℕ → StoredChain → passes.Chain
 chainOf w t c = record { edge = edgeOf w t (c .edge); more = c .more; near = optionally (c .has-near) (c .near) }
 
-pub record WellMade (w t : List ℕ) (x : Item) : Type 0 where
+pub record WellMade (w t : List ℕ) (x : StoredEdge) : Type 0 where
   pub ordered : x .start < x .end
   pub inside : x .end ≤ length w
   pub value-absent : x .has-value ≡ false → x .value ≡ 0

@@ -1,6 +1,10 @@
--- The definitions that the contracts of `pass_list` and of the crates over it cite.
-pub mod Item
+-- The definitions of `pass_list`.
+-- The crate itself: The definitions that the contracts of `pass_list` and of the crates over it cite.
+pub mod StoredEdge
 pub mod Stored
-pub mod ItemPass
+pub mod StoredPass
 pub mod Answers
 pub mod Edges
+-- in_turn: The passes in turn on items, and the items of a line's characters.
+pub mod InTurn
+pub mod FirstStored

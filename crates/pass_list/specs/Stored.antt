@@ -4,9 +4,9 @@
 --     mapOf n          the marks of n in one number: the listing's bits for the fields (1 value, 3 base, 4 mult, 5 script, 6 large power), 8 to 10 for
 --                      digit, gap and cjk
 --     recordBytes x    the bytes of x
---     itemOf bs        what the bytes bs say
---     itemAt s at      what the 56 bytes of s from the offset at on say
---     itemsAt s i n    n edges of the list s from the i-th on
+--     storedOf bs        what the bytes bs say
+--     storedAt s at      what the 56 bytes of s from the offset at on say
+--     storedListAt s i n    n edges of the list s from the i-th on
 -- Assumes nothing.
 use mathlib.Core.Bool.{Bool, true, false}
 use mathlib.Core.List.{List, [], _∷_, _++_}
@@ -15,7 +15,7 @@ use lib.Dec.{eqb}
 use Rattle.fields.specs.Fields.{leAt, bytesOf}
 use Rattle.fields.specs.Part.{part}
 use Rattle.pass_list.specs.declared.record.NumData.{NumData}
-use Rattle.pass_list.specs.Item.{Item, numData}
+use Rattle.pass_list.specs.StoredEdge.{StoredEdge, numData}
 
 abbrev pub digitOf : Bool → ℕ
 digitOf true = 1
@@ -29,15 +29,15 @@ mapOf n =
     2 * digitOf (n .«has_value») + 8 * digitOf (n .«has_base») + 16 * digitOf (n .«has_mult») + 32 * digitOf (n .«has_script»)
     + 64 * digitOf (n .«large_power») + 256 * digitOf (n .digit) + 512 * digitOf (n .gap) + 1024 * digitOf (n .cjk)
 
-unfoldable pub numBytes : Item → List ℕ
+unfoldable pub numBytes : StoredEdge → List ℕ
 numBytes x =
     bytesOf 8 (x .value) ++ (bytesOf 8 (x .base) ++ (bytesOf 8 (x .mult) ++ (bytesOf 8 (x .record-at) ++ (bytesOf 8 (x .script-at) ++ bytesOf 8 (x .script-len)))))
 
-unfoldable pub recordBytes : Item → List ℕ
+unfoldable pub recordBytes : StoredEdge → List ℕ
 recordBytes x = bytesOf 2 (x .start) ++ (bytesOf 2 (x .end) ++ (bytesOf 2 (x .kind) ++ (bytesOf 2 (mapOf (numData x)) ++ numBytes x)))
 
-unfoldable pub itemOf : List ℕ → Item
-itemOf bs = record {
+unfoldable pub storedOf : List ℕ → StoredEdge
+storedOf bs = record {
   start = leAt bs 0 2;
   end = leAt bs 2 2;
   kind = leAt bs 4 2;
@@ -57,9 +57,9 @@ itemOf bs = record {
   cjk = bit (leAt bs 6 2) 1024;
 }
 
-unfoldable pub itemAt : List ℕ → ℕ → Item
-itemAt s at = itemOf (part s at 56)
+unfoldable pub storedAt : List ℕ → ℕ → StoredEdge
+storedAt s at = storedOf (part s at 56)
 
-unfoldable pub itemsAt : List ℕ → ℕ → ℕ → List Item
-itemsAt s i zero = []
-itemsAt s i (suc n) = itemAt s (i * 56) ∷ itemsAt s (suc i) n
+unfoldable pub storedListAt : List ℕ → ℕ → ℕ → List StoredEdge
+storedListAt s i zero = []
+storedListAt s i (suc n) = storedAt s (i * 56) ∷ storedListAt s (suc i) n

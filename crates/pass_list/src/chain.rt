@@ -1,8 +1,8 @@
 // A chain of touching edges, as far as a pass's rule goes (01: "a chain state with sum and last base takes the next atom by a method with mut self and hands
-// itself back"): how it begins and takes an edge in. What the next edge does to it is the question of `pass_chain`. The definitions are in specs/ItemPass.antt.
+// itself back"): how it begins and takes an edge in. What the next edge does to it is the question of `pass_rules::chain`. The definitions are in specs/StoredPass.antt.
 ghost use mathlib.Core.Path.{_≡_};
-ghost use Rattle.pass_list.specs.Item.{Item, passEdge};
-ghost use Rattle.pass_list.specs.ItemPass.{ItemChain, begin, taken};
+ghost use Rattle.pass_list.specs.StoredEdge.{StoredEdge, passEdge};
+ghost use Rattle.pass_list.specs.StoredPass.{StoredChain, begin, taken};
 ghost use Rattle.pass_list.specs.Answers.{passChain};
 use crate::record::PassEdge;
 
@@ -27,7 +27,7 @@ pub struct Chain {
 impl Chain {
     // The chain that an edge begins.
     pub fn begin(e: PassEdge) -> Self
-        ensures { λ r. ⌜ ((y : Item) → e ≡ passEdge y → r ≡ passChain (begin y)) ⌝ }
+        ensures { λ r. ⌜ ((y : StoredEdge) → e ≡ passEdge y → r ≡ passChain (begin y)) ⌝ }
     {
         if e.num.gap {
             return Chain {
@@ -47,7 +47,7 @@ impl Chain {
 
     // The chain with the next edge e taken in: `edge` is the edge over both.
     pub fn take(mut self, edge: PassEdge, e: PassEdge) -> Self
-        ensures { λ r. ⌜ ((x : ItemChain) (o y : Item) → self ≡ passChain x → edge ≡ passEdge o → e ≡ passEdge y → r ≡ passChain (taken x o y)) ⌝ }
+        ensures { λ r. ⌜ ((x : StoredChain) (o y : StoredEdge) → self ≡ passChain x → edge ≡ passEdge o → e ≡ passEdge y → r ≡ passChain (taken x o y)) ⌝ }
     {
         self.edge = edge;
         self.more = true;

@@ -1,4 +1,4 @@
-// An edge of the pass list. The definitions are in specs/Item.antt and specs/Stored.antt; `pass_record` reads it, and `pass_put` stores it.
+// An edge of the pass list. The definitions are in specs/StoredEdge.antt and specs/Stored.antt; `pass_list::read` reads it, and `pass_list::write` stores it.
 use text::Offset;
 use text::Place;
 

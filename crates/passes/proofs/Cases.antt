@@ -6,7 +6,7 @@ use mathlib.Core.Path.{_≡_, refl}
 use mathlib.Core.Bool.{Bool, true, false}
 use mathlib.Core.List.{List, [], _∷_, map}
 use mathlib.Core.Option.{Option, none, some}
-use Rattle.dicts.specs.Table.{Text}
+use Rattle.table.specs.Table.{Text}
 use Rattle.text.specs.Sequence.{encode}
 use Rattle.whole.specs.Decimal.{decimal, decimalWithin}
 use Rattle.whole.specs.Whole.{TOP}

@@ -9,7 +9,7 @@ use mathlib.Core.Bool.{true, false}
 use mathlib.Core.List.{List, [], _∷_}
 use mathlib.Core.Option.{Option, none, some, Option·getD, Option·map}
 use lib.Dec.{eqb}
-use Rattle.dicts.specs.Table.{Record, Table, find}
+use Rattle.table.specs.Table.{Record, Table, find}
 use Rattle.text.specs.Sequence.{encode}
 use Rattle.passes.specs.NumEdge.{NumEdge}
 

@@ -10,7 +10,7 @@ use mathlib.Core.Bool.{Bool, true, false, cond}
 use mathlib.Core.List.{List, [], _∷_}
 use mathlib.Core.Option.{Option, none, some}
 use lib.Dec.{ltb}
-use Rattle.dicts.specs.Table.{Text}
+use Rattle.table.specs.Table.{Text}
 use Rattle.whole.specs.Whole.{TOP}
 
 pub record NumEdge : Type 0 where

@@ -17,7 +17,7 @@ use mathlib.Core.Bool.{Bool, true, false, _&&_, not, cond, _||_}
 use mathlib.Core.List.{List, [], _∷_, _++_, map}
 use mathlib.Core.Option.{Option, none, some}
 use lib.Dec.{leb, ltb, eqb}
-use Rattle.dicts.specs.Table.{Text, Table}
+use Rattle.table.specs.Table.{Text, Table}
 use Rattle.text.specs.Sequence.{encode}
 use Rattle.whole.specs.Decimal.{decimal}
 use Rattle.text.specs.Bytes.{same}

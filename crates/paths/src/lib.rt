@@ -1,5 +1,13 @@
-// Reading a finished listing (01, "The rest of the call"): what is asked for and what is answered. The checks are in crates `path_check` and `path_refusals`, the score of
-// an edge in `path_score`, the best of many in `path_best`; the best edge and the neighbours in `queries`, the path in `path_listing`, the text shown in `shown`.
+// Best edges, neighbours and paths over a listing (the Rust's lattice/paths.rs).
+// Reading a finished listing (01, "The rest of the call"): what is asked for and what is answered. The checks are in modules `paths::check` and `paths::inside`, the score of
+// an edge in `paths::score`, the best of many in `paths::best`; the best edge and the neighbours in `queries`, the path in `queries::path`, the text shown in `shown`.
+pub mod inside; // inside.rt: refusal 9
+pub mod score; // score.rt: the score of an edge
+pub mod best; // best.rt: the best of many edges
+pub mod walk; // walk.rt: the walk along a path
+pub mod check; // check.rt: the checks of a call that reads a listing
+pub mod theorems; // theorems.rt: a path's listing, read again, is the path (theorems)
+
 use edge::Part;
 use text::Offset;
 use text::Place;

@@ -24,7 +24,7 @@ fn show(word: &[u8], t: Told) {
 fn ask(line: &[u8], listing: &[u8], q: Query, skip: bool) {
     show(
         b"at ",
-        statuses::answer_told(queries::best_edge(line, listing, q, skip)),
+        answers::reading::answer_told(queries::best_edge(line, listing, q, skip)),
     );
     io::write_all(1, b"\n");
 }
@@ -51,7 +51,7 @@ fn show_part(w: Shown) {
             io::write_all(1, b"line ");
         }
         Shown::Refused(_) => {
-            let t = statuses::shown_told(w);
+            let t = answers::reading::shown_told(w);
             show(
                 b"",
                 Told {
@@ -64,15 +64,15 @@ fn show_part(w: Shown) {
 }
 
 fn shown<'a>(line: &'a [u8], listing: &'a [u8], place: usize) {
-    let w = shown::shown_text(line, listing, Place(place));
+    let w = queries::shown::shown_text(line, listing, Place(place));
     show_part(w);
-    io::write_all(1, shown_bytes::shown_part(line, listing, w));
+    io::write_all(1, queries::shown_part::shown_part(line, listing, w));
     io::write_all(1, b"\n");
 }
 
 fn path(line: &[u8], listing: &[u8], start: usize, end: usize, skip: bool, out: &mut [u8]) {
-    let w = path_listing::path(line, listing, Place(start), Place(end), skip, out);
-    show(b"bytes ", statuses::written_told(w));
+    let w = queries::path::path(line, listing, Place(start), Place(end), skip, out);
+    show(b"bytes ", answers::reading::written_told(w));
     io::write_all(1, b"\n");
 }
 

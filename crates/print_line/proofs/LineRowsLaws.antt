@@ -14,8 +14,8 @@ use Rattle.text.specs.Text.{chars}
 use Rattle.text.specs.Line.{lineCheck}
 use Rattle.text.specs.declared.LineCheck.{LineCheck}
 use Rattle.text.specs.declared.LineCheck.the-variants as LineCheck
-use Rattle.dicts.specs.Table.{Table}
-use Rattle.dicts.specs.Check.{Checked, Fine, Refused, readTable}
+use Rattle.table.specs.Table.{Table}
+use Rattle.table.specs.Check.{Checked, Fine, Refused, readTable}
 use Rattle.fields.specs.Fields.{bytesOf}
 use Rattle.fields.proofs.FieldsLaws.{length-bytesOf}
 use Rattle.passes.specs.Passes.{aboveAt}
@@ -26,14 +26,14 @@ use Rattle.edge.specs.declared.ListingCheck.{ListingCheck}
 use Rattle.edge.specs.declared.ListingCheck.the-variants as ListingCheck
 use Rattle.edge.specs.declared.Written.{Written}
 use Rattle.lattice.specs.Lattice.{overfull}
-use Rattle.listing_rows.specs.ListingRows.{rowsBytes, RowsAre}
+use Rattle.rows.specs.ListingRows.{rowsBytes, RowsAre}
 use Rattle.numbers.specs.Call.{Answer, listing, refused, finished, latticeOf, unlessAbove, withAll, withGiven, withTable, withLine, addNumbers}
 use Rattle.answers.specs.declared.Answer.{Answer as Code}
 use Rattle.answers.specs.declared.Answer.the-variants as Code
 use Rattle.answers.specs.declared.Refusal.{Refusal}
 use Rattle.answers.specs.Answers.{number, place, answerOf}
-use Rattle.ending.specs.Answers.{AnswerIs}
-use Rattle.refusal_row.specs.Printed.{TextIs}
+use Rattle.call.specs.Answers.{AnswerIs}
+use Rattle.rows.specs.Printed.{TextIs}
 use Rattle.grammar.specs.PlainBytes.{plainBytes}
 use Rattle.print_line.specs.LineRows.{noEdges, plainAnswer}
 

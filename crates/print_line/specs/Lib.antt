@@ -1,2 +1,5 @@
--- The definitions that the contracts of `print_line` cite.
+-- The definitions of `print_line`.
+-- The crate itself: The definitions that the contracts of `print_line` cite.
 pub mod LineRows
+-- read: The definitions that the contracts of `read_line` cite.
+pub mod Line

@@ -1,13 +1,16 @@
+// What the program does: one line in, its rows out.
 // The program of 01: reads one line from standard input and prints its rows with the plain table. What fails is said on standard error, and
 // then no line is taken for read and no row for printed: a program of the kit has no exit status of its own. The words of the
 // contracts are in specs/LineRows.antt.
+pub mod read; // read.rt: a line from standard input
+
 ghost use lib.ListN.{length};
 ghost use Rattle.numbers.specs.Call.{addNumbers};
-ghost use Rattle.refusal_row.specs.Printed.{TextIs};
+ghost use Rattle.rows.specs.Printed.{TextIs};
 ghost use Rattle.print_line.specs.LineRows.{noEdges, plainAnswer};
+use crate::read::Got;
 use call::Answer;
 use edge::Written;
-use read_line::Got;
 
 // The text of a line with a table and no given edges.
 fn answer_line(
@@ -20,8 +23,8 @@ fn answer_line(
     ensures { λ r. ⌜ TextIs (now (text .entry)) (now (text .exit)) r (addNumbers (now (line .entry)) (now (table .entry)) noEdges (length (now (work .entry))) (length (now (out .entry)))) ⌝ }
 {
     match call::add_numbers(line, table, b"\x00\x00", work, out) {
-        Answer::Listing(n) => listing_rows::put_rows(text, &out[..n]),
-        Answer::Refused(r) => refusal_row::put_refusal(text, r),
+        Answer::Listing(n) => rows::listing::put_rows(text, &out[..n]),
+        Answer::Refused(r) => rows::refusal::put_refusal(text, r),
     }
 }
 
@@ -29,7 +32,7 @@ fn answer_line(
 fn plain_rows(line: &[u8], text: &mut [u8]) -> Written
     ensures { λ r. ⌜ TextIs (now (text .entry)) (now (text .exit)) r (plainAnswer (now (line .entry))) ⌝ }
 {
-    let table = plain_table::plain_table();
+    let table = grammar::plain_table::plain_table();
     let mut work = [0u8; 65536];
     let mut out = [0u8; 32768];
     answer_line(line, &table, &mut work, &mut out, text)
@@ -53,7 +56,7 @@ pub fn print_rows(line: &[u8]) {
 }
 
 fn answer_into(buf: &mut [u8]) {
-    match read_line::read_line(buf) {
+    match crate::read::read_line(buf) {
         Got::Line(n) => print_rows(&buf[..n]),
         Got::Failed => os::fail(b"standard input"),
     }

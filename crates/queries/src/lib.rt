@@ -1,4 +1,9 @@
+// The calls that read a finished listing.
 // The best edge of a span and the neighbours of a place in a finished listing (01, "The rest of the call").
+pub mod path; // path.rt: the path, as a listing
+pub mod shown; // shown.rt: which text is shown at a place
+pub mod shown_part; // shown_part.rt: its bytes
+
 ghost use mathlib.Core.Path.{_≡_};
 ghost use Rattle.paths.specs.Reading.{answer};
 use paths::Answer;
@@ -10,13 +15,13 @@ use paths::Refusal;
 pub fn best_edge(line: &[u8], listing: &[u8], q: Query, skip: bool) -> Answer
     ensures { λ r. ⌜ r ≡ answer (now (line .entry)) (now (listing .entry)) q skip ⌝ }
 {
-    match path_check::check(line, listing) {
+    match paths::check::check(line, listing) {
         Checked::Refused(r) => Answer::Refused(r),
         Checked::Readable(chars, count) => {
-            if !path_refusals::is_inside(chars, q) {
+            if !paths::inside::is_inside(chars, q) {
                 return Answer::Refused(Refusal::BadPlace);
             }
-            Answer::Best(path_best::best_of(listing, 2, count, q, skip))
+            Answer::Best(paths::best::best_of(listing, 2, count, q, skip))
         }
     }
 }

@@ -9,7 +9,7 @@ use Rattle.text.specs.declared.Place.{Place}
 use Rattle.numbers.specs.Call as numbers
 use Rattle.answers.specs.declared.Told.{Told}
 use Rattle.answers.specs.Answers.{told}
-use Rattle.ending.specs.Answers.{brief}
+use Rattle.call.specs.Answers.{brief}
 
 abbrev pub callTold : numbers.Answer → Told
 callTold a = told (brief a)

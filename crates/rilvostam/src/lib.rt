@@ -7,7 +7,7 @@ ghost use Rattle.paths.specs.declared.Query.the-variants.{Span, Right, Left};
 ghost use Rattle.paths.specs.Reading.{answer};
 ghost use Rattle.paths.specs.Shown.{shown};
 ghost use Rattle.paths.specs.Path.{pathOut, written, after};
-ghost use Rattle.statuses.specs.Statuses.{answerTold, writtenTold, shownTold};
+ghost use Rattle.answers.specs.Statuses.{answerTold, writtenTold, shownTold};
 ghost use Rattle.rilvostam.specs.Exported.{placeOf, isSet, callTold};
 use paths::Query;
 use text::Place;
@@ -45,7 +45,7 @@ pub extern "C" fn rilvostam_best_edge(
     ensures place { λ _. ⌜ now (at .exit) ≡ answerTold (answer (now (line .entry)) (now (listing .entry)) (Span (placeOf start) (placeOf end)) (isSet skip)) .at ⌝ }
 {
     let q = Query::Span(Place(start as usize), Place(end as usize));
-    let best = statuses::answer_told(queries::best_edge(line, listing, q, skip != 0));
+    let best = answers::reading::answer_told(queries::best_edge(line, listing, q, skip != 0));
     *at = best.at;
     best.status
 }
@@ -63,7 +63,7 @@ pub extern "C" fn rilvostam_right_neighbor(
     ensures place { λ _. ⌜ now (at .exit) ≡ answerTold (answer (now (line .entry)) (now (listing .entry)) (Right (placeOf place)) (isSet skip)) .at ⌝ }
 {
     let q = Query::Right(Place(place as usize));
-    let right = statuses::answer_told(queries::best_edge(line, listing, q, skip != 0));
+    let right = answers::reading::answer_told(queries::best_edge(line, listing, q, skip != 0));
     *at = right.at;
     right.status
 }
@@ -81,7 +81,7 @@ pub extern "C" fn rilvostam_left_neighbor(
     ensures place { λ _. ⌜ now (at .exit) ≡ answerTold (answer (now (line .entry)) (now (listing .entry)) (Left (placeOf place)) (isSet skip)) .at ⌝ }
 {
     let q = Query::Left(Place(place as usize));
-    let left = statuses::answer_told(queries::best_edge(line, listing, q, skip != 0));
+    let left = answers::reading::answer_told(queries::best_edge(line, listing, q, skip != 0));
     *at = left.at;
     left.status
 }
@@ -103,7 +103,14 @@ pub extern "C" fn rilvostam_path(
 {
     let from = Place(start as usize);
     let to = Place(end as usize);
-    let path = statuses::written_told(path_listing::path(line, listing, from, to, skip != 0, out));
+    let path = answers::reading::written_told(queries::path::path(
+        line,
+        listing,
+        from,
+        to,
+        skip != 0,
+        out,
+    ));
     *at = path.at;
     path.status
 }
@@ -123,7 +130,11 @@ pub extern "C" fn rilvostam_shown_text(
     ensures len { λ _. ⌜ now (len .exit) ≡ shownTold (shown (now (line .entry)) (now (listing .entry)) (placeOf place)) .len ⌝ }
     ensures within { λ _. ⌜ now (within .exit) ≡ shownTold (shown (now (line .entry)) (now (listing .entry)) (placeOf place)) .in_listing ⌝ }
 {
-    let text = statuses::shown_told(shown::shown_text(line, listing, Place(place as usize)));
+    let text = answers::reading::shown_told(queries::shown::shown_text(
+        line,
+        listing,
+        Place(place as usize),
+    ));
     *at = text.at;
     *len = text.len;
     *within = text.in_listing;

@@ -20,7 +20,7 @@ use Rattle.edge.specs.View.{textOf, viewAt}
 use Rattle.edge.specs.Write.{written, writtenTo, Put}
 use Rattle.edge.proofs.CheckLaws.{head-within, type-within, txt-within}
 use Rattle.edge.proofs.WriteLaws.{put-then, no-room, put-there}
-use Rattle.columns.specs.Columns.{ended}
+use Rattle.rows.specs.Columns.{ended}
 use Rattle.rows.specs.Rows.{mark, row, rowBytes, viewMark, viewRow}
 
 -- ---- one column

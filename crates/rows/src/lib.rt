@@ -1,11 +1,16 @@
+// The rows that the program prints.
 // The rows that the program prints for the edges of a listing, as text in a lent buffer. The words of the contracts are in specs/Rows.antt.
+pub mod columns; // columns.rt: a column of a row
+pub mod listing; // listing.rt: the rows of a listing
+pub mod refusal; // refusal.rt: the row of a refusal
+
 ghost use mathlib.Core.Path.{_≡_};
 ghost use Prim.Native.Nat.{_+_, _≤_};
 ghost use lib.ListN.{length};
 ghost use Rattle.edge.specs.Layout.{nextAt, edgeAt};
 ghost use Rattle.edge.specs.View.{textOf};
 ghost use Rattle.edge.specs.Write.{written, writtenTo, Put};
-ghost use Rattle.columns.specs.Columns.{ended};
+ghost use Rattle.rows.specs.Columns.{ended};
 ghost use Rattle.rows.specs.Rows.{rowBytes, viewMark, viewRow};
 use edge::EdgeView;
 use edge::Part;
@@ -18,7 +23,7 @@ fn put_part(out: &mut [u8], at: usize, s: &[u8], t: Part, by: u8) -> usize
 {
     let from = t.at;
     let to = from + t.len;
-    columns::put_text(out, at, &s[from..to], by)
+    crate::columns::put_text(out, at, &s[from..to], by)
 }
 
 // 1, 0 or - for a map: active, inactive, regular.
@@ -36,12 +41,12 @@ fn put_columns(out: &mut [u8], at: usize, s: &[u8], e: EdgeView) -> usize
     requires { ⌜ (at + length (viewRow (now s) e) ≤ length (now out)) × (e .ty .at + e .ty .len ≤ length (now s)) × (e .txt .at + e .txt .len ≤ length (now s)) ⌝ }
     ensures { λ r. ⌜ Put (now (out .entry)) (now (out .exit)) at r (viewRow (now (s .entry)) e) ⌝ }
 {
-    let end = columns::put_number(out, at, e.start.0 as u64, b'\t');
-    let ty = columns::put_number(out, end, e.end.0 as u64, b'\t');
+    let end = crate::columns::put_number(out, at, e.start.0 as u64, b'\t');
+    let ty = crate::columns::put_number(out, end, e.end.0 as u64, b'\t');
     let txt = put_part(out, ty, s, e.ty, b'\t');
     let last = put_part(out, txt, s, e.txt, b'\t');
     let word = [mark(e.map)];
-    columns::put_text(out, last, &word, b'\n')
+    crate::columns::put_text(out, last, &word, b'\n')
 }
 
 // The row of the edge at an offset of a listing.
@@ -50,9 +55,10 @@ pub fn put_row(out: &mut [u8], at: usize, listing: &[u8], from: usize) -> Writte
     ensures answer { λ r. ⌜ r ≡ written (now (out .entry)) at (rowBytes (edgeAt (now (listing .entry)) from)) ⌝ }
     ensures bytes { λ _. ⌜ now (out .exit) ≡ writtenTo (now (out .entry)) at (rowBytes (edgeAt (now (listing .entry)) from)) ⌝ }
 {
-    let e = edge_head::edge_at(listing, from);
+    let e = edge::head::edge_at(listing, from);
     let room = out.len() - at;
-    let numbers = columns::number_len(e.start.0 as u64) + columns::number_len(e.end.0 as u64);
+    let numbers = crate::columns::number_len(e.start.0 as u64)
+        + crate::columns::number_len(e.end.0 as u64);
     if room < numbers + e.ty.len + e.txt.len + 4 {
         return Written::NoRoom;
     }

@@ -13,9 +13,9 @@ use Rattle.edge.specs.Edge.{Edge}
 use Rattle.lattice.specs.Lattice.{sameKey, has, add, addAll, inactive, turnOffAt}
 use Rattle.lattice.specs.Kept.{noEdge}
 use Rattle.lattice.proofs.TurnOffLaws.{length-turned}
-use Rattle.pass_list.specs.Item.{nil, cons}
-use Rattle.stages.specs.CallEdge.{Legals}
-use Rattle.stages.proofs.SoundLaws.{sound-of}
+use Rattle.pass_list.specs.StoredEdge.{nil, cons}
+use Rattle.numbers.specs.CallEdge.{Legals}
+use Rattle.numbers.proofs.stages.SoundLaws.{sound-of}
 use Rattle.numbers.specs.Separators.{endsBefore, apart, copyOf, copies, separate}
 use Rattle.separators.specs.Marks.{apartBy, setApart, allApart}
 

@@ -13,12 +13,12 @@ use Rattle.text.proofs.RowLaws.{and-true}
 use Rattle.text.proofs.TextLaws.{encodes-well-formed}
 use Rattle.digits.specs.TextEnds.{firstIsDigit}
 use Rattle.edge.specs.Edge.{Edge, Numeric}
-use Rattle.edge_theorems.specs.Legal.{Legal}
-use Rattle.pass_list.specs.Item.{nil, cons}
-use Rattle.stages.specs.CallEdge.{Legals, CallEdge, CallEdges}
-use Rattle.stages.proofs.ReadLaws.{call-legals}
-use Rattle.stages.proofs.CallLaws.{allowed-map, add-all-legals, map-inactive-call}
-use Rattle.stages.proofs.SoundLaws.{sound-of, sound-is, formed-append}
+use Rattle.edge.specs.Legal.{Legal}
+use Rattle.pass_list.specs.StoredEdge.{nil, cons}
+use Rattle.numbers.specs.CallEdge.{Legals, CallEdge, CallEdges}
+use Rattle.numbers.proofs.stages.ReadLaws.{call-legals}
+use Rattle.numbers.proofs.stages.CallLaws.{allowed-map, add-all-legals, map-inactive-call}
+use Rattle.numbers.proofs.stages.SoundLaws.{sound-of, sound-is, formed-append}
 use Rattle.numbers.specs.Fractions.{isNumeric}
 use Rattle.numbers.specs.Separators.{endsBefore, apart, hasFraction, separator, copyOf, copies, separate}
 

@@ -15,14 +15,14 @@ use Rattle.edge.specs.Edge.{Edge, Numeric}
 use Rattle.edge.specs.Layout.{stands, only, mapAt, edgeAt}
 use Rattle.edge.specs.View.{viewAt}
 use Rattle.paths.specs.Reading.{Spanned}
-use Rattle.pass_list.specs.Item.{nil, cons}
-use Rattle.stages.specs.CallEdge.{Legals}
-use Rattle.stages.specs.Marks.{anyAt}
-use Rattle.stages.proofs.SoundLaws.{sound-of}
+use Rattle.pass_list.specs.StoredEdge.{nil, cons}
+use Rattle.numbers.specs.CallEdge.{Legals}
+use Rattle.numbers.specs.Marks.{anyAt}
+use Rattle.numbers.proofs.stages.SoundLaws.{sound-of}
 use Rattle.numbers.specs.Fractions.{isNumeric}
 use Rattle.numbers.specs.Separators.{endsBefore}
-use Rattle.end_marks.specs.Marks.{digitEnds}
-use Rattle.end_marks.proofs.MarkLaws.{txt-read}
+use Rattle.separators.specs.EndMarks.{digitEnds}
+use Rattle.separators.proofs.marks.MarkLaws.{txt-read}
 use Rattle.separators.specs.Marks.{apartBy}
 
 -- ---- the edge that is read

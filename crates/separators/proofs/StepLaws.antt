@@ -15,19 +15,19 @@ use Rattle.fields.proofs.FieldsLaws.{length-bytesOf}
 use Rattle.edge.specs.Edge.{Edge, Text, Numeric, there, mapOf, str, opt, fractionBytes, numericBytes, edgeBytes}
 use Rattle.edge.specs.Layout.{stands, mapAt, edgeAt}
 use Rattle.edge.proofs.WriteLaws.{length-str}
-use Rattle.edge_theorems.proofs.ReadBackLaws.{map-bits}
+use Rattle.edge.proofs.theorems.ReadBackLaws.{map-bits}
 use Rattle.paths.specs.Reading.{Spanned}
 use Rattle.lattice.specs.declared.Lattice.{Lattice}
 use Rattle.lattice.specs.Lattice.{add, turnOffAt, turnOff, overfull}
 use Rattle.lattice.specs.Kept.{noEdge, offset, Holds}
 use Rattle.lattice.proofs.KeptLaws.{fieldsBytes, edge-stands, offset-in}
 use Rattle.lattice.proofs.HoldsLaws.{kept-of, over-of, over-add}
-use Rattle.copies.specs.Copy.{prefixed, Source}
-use Rattle.copies.proofs.CopyLaws.{length-by-txt, map-is}
-use Rattle.stages.specs.CallEdge.{Short, CallEdge, CallEdges}
-use Rattle.stages.proofs.ReadLaws.{offset-next, edge-of-one, every-at}
-use Rattle.stages.proofs.OverLaws.{holds-full, over-add-all, over-turn-off, over-map-inactive}
-use Rattle.stages.proofs.SoundLaws.{one-spanned}
+use Rattle.lattice_add.specs.Copy.{prefixed, Source}
+use Rattle.lattice_add.proofs.copy.CopyLaws.{length-by-txt, map-is}
+use Rattle.numbers.specs.CallEdge.{Short, CallEdge, CallEdges}
+use Rattle.numbers.proofs.stages.ReadLaws.{offset-next, edge-of-one, every-at}
+use Rattle.numbers.proofs.stages.OverLaws.{holds-full, over-add-all, over-turn-off, over-map-inactive}
+use Rattle.numbers.proofs.stages.SoundLaws.{one-spanned}
 use Rattle.numbers.specs.Fractions.{isNumeric}
 use Rattle.numbers.specs.Separators.{apart, hasFraction, copyOf, copies, separate}
 use Rattle.separators.specs.Marks.{apartBy, setApart, allApart}

@@ -1,5 +1,8 @@
+// The stage of separators, F1.
 // F1 (01, "The rest of the call"): a numeric edge whose txt begins with a digit, right after an edge whose txt ends with one, turns inactive, and its copy
-// with a separator before its txt is added. One walk marks the places where such edges end (`end_marks`), one walk over the edges that were there adds the copies.
+// with a separator before its txt is added. One walk marks the places where such edges end (`separators::marks`), one walk over the edges that were there adds the copies.
+pub mod marks; // marks.rt: where edges end whose txt ends with a digit
+
 ghost use mathlib.Core.Path.{_≡_};
 ghost use mathlib.Core.Bool.{false};
 ghost use mathlib.Core.List.{List};
@@ -10,8 +13,8 @@ ghost use Rattle.edge.specs.Layout.{edgeAt};
 ghost use Rattle.lattice.specs.Lattice.{add};
 ghost use Rattle.lattice.specs.Kept.{Holds, noEdge};
 ghost use Rattle.paths.specs.Reading.{Spanned};
-ghost use Rattle.copies.specs.Copy.{Source};
-ghost use Rattle.stages.specs.CallEdge.{CallEdge, CallEdges};
+ghost use Rattle.lattice_add.specs.Copy.{Source};
+ghost use Rattle.numbers.specs.CallEdge.{CallEdge, CallEdges};
 ghost use Rattle.numbers.specs.Separators.{copyOf, separate};
 ghost use Rattle.separators.specs.Marks.{apartBy, setApart, allApart};
 use lattice::Lattice;
@@ -21,7 +24,7 @@ fn is_apart(s: &[u8], at: usize, marks: &[bool; 257]) -> bool
     requires { ⌜ Spanned 256 (now s) at ⌝ }
     ensures { λ r. ⌜ r ≡ apartBy (now (marks .entry)) (edgeAt (now (s .entry)) at) ⌝ }
 {
-    let e = edge_head::edge_at(s, at);
+    let e = edge::head::edge_at(s, at);
     let txt = e.txt;
     let start = e.start;
     let from = txt.at;
@@ -30,7 +33,7 @@ fn is_apart(s: &[u8], at: usize, marks: &[bool; 257]) -> bool
     if !(edge::bit(e.map, 1) & marks[place]) {
         return false;
     }
-    digit_ends::begins_with_digit(&s[from..to])
+    digits::ends::begins_with_digit(&s[from..to])
 }
 
 // The copy of an edge that stands in the listing is added, with its separator: a space if it has a fraction, else "·".
@@ -40,9 +43,9 @@ fn add_separated(w: &mut [u8], l: Lattice, at: usize, next: usize) -> Lattice
 {
     let map = fields::u16_at(w, at);
     if edge::bit(map, 4) {
-        return copies::add_copy(w, l, at, next, b" ");
+        return lattice_add::copy::add_copy(w, l, at, next, b" ");
     }
-    copies::add_copy(w, l, at, next, b"\xC2\xB7")
+    lattice_add::copy::add_copy(w, l, at, next, b"\xC2\xB7")
 }
 
 // The i-th edge is set apart, if the marks say so. The copy is made before its original turns inactive: it is active as that was.
@@ -57,7 +60,7 @@ fn set_apart(w: &mut [u8], l: Lattice, i: usize, marks: &[bool; 257]) -> Lattice
     if !is_apart(w, at, marks) {
         return l;
     }
-    let next = end_marks::end_of(w, l, i);
+    let next = crate::marks::end_of(w, l, i);
     let added = add_separated(w, l, at, next);
     if added.len == 0 {
         return added;
@@ -90,6 +93,6 @@ pub fn separate(w: &mut [u8], l: Lattice) -> Lattice
         return l;
     }
     let mut marks = [false; 257];
-    end_marks::mark_ends(w, l, &mut marks);
+    crate::marks::mark_ends(w, l, &mut marks);
     set_all_apart(w, l, &marks)
 }

@@ -13,14 +13,14 @@ use Rattle.text.specs.Sequence.{encode}
 use Rattle.text.specs.Text.{chars, isNil, wellFormed, encodes}
 use Rattle.text.proofs.RowLaws.{and-true}
 use Rattle.text.proofs.TextLaws.{left-append, encodes-well-formed}
-use Rattle.dicts.specs.Table.{Text, Table}
+use Rattle.table.specs.Table.{Text, Table}
 use Rattle.passes.specs.NumEdge.{NumEdge, has}
 use Rattle.edge.specs.Edge.{Edge, Numeric}
 use Rattle.edge.specs.Check.{allowed, each, soundNumeric, sound}
 use Rattle.lattice.specs.Lattice.{addAll}
-use Rattle.pass_list.specs.Item.{nil, cons}
-use Rattle.stages.specs.CallEdge.{CallEdge, CallEdges}
-use Rattle.stages.proofs.CallLaws.{add-all-call}
+use Rattle.pass_list.specs.StoredEdge.{nil, cons}
+use Rattle.numbers.specs.CallEdge.{CallEdge, CallEdges}
+use Rattle.numbers.proofs.stages.CallLaws.{add-all-call}
 use Rattle.numbers.specs.Listed.{listedEdge}
 use Rattle.numbers.specs.Signs.{endsAt, signEdge, signed, signs}
 

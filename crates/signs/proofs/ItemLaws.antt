@@ -5,14 +5,14 @@ use mathlib.Core.Bool.{Bool, true, false, cond}
 use mathlib.Core.List.{List, [], _∷_, _++_, map}
 use Prim.Native.Nat.{ℕ, _+_, _-_, _*_, _≤_, _<_}
 use native.Mathlib.Nat.{sub-zero}
-use Rattle.dicts.specs.Table.{Table}
-use Rattle.dicts.specs.Layout.{listAt}
-use Rattle.dicts.specs.Answers.{tableOf}
-use Rattle.dicts.specs.declared.shape.Shape.{Shape}
+use Rattle.table.specs.Table.{Table}
+use Rattle.table.specs.Layout.{listAt}
+use Rattle.table.specs.Answers.{tableOf}
+use Rattle.table.specs.declared.shape.Shape.{Shape}
 use Rattle.passes.specs.NumEdge.{has}
 use Rattle.pass_list.specs.declared.record.PassEdge.{PassEdge}
-use Rattle.pass_list.specs.Item.{Item, EdgeIs, cons}
-use Rattle.pass_list.specs.Stored.{itemAt, itemsAt}
+use Rattle.pass_list.specs.StoredEdge.{StoredEdge, EdgeIs, cons}
+use Rattle.pass_list.specs.Stored.{storedAt, storedListAt}
 use Rattle.pass_list.specs.Edges.{edgeOf}
 use Rattle.pass_list.proofs.StoredLaws.{items-cons, items-none}
 use Rattle.edge.specs.Edge.{Edge}
@@ -20,14 +20,14 @@ use Rattle.lattice.specs.declared.Lattice.{Lattice}
 use Rattle.lattice.specs.Lattice.{addAll}
 use Rattle.lattice.specs.Kept.{Holds}
 use Rattle.lattice.proofs.HoldsLaws.{add-all-append}
-use Rattle.items.specs.Sound.{Sound, Sounds}
+use Rattle.pass_edge.specs.Sound.{Sound, Sounds}
 use Rattle.numbers.specs.Signs.{signed, signs}
-use Rattle.signs.specs.SignEdges.{signsOf}
+use Rattle.signs.specs.SignsOf.{signsOf}
 use Rattle.markers.proofs.MarkLaws.{Marks}
-use Rattle.sign_edges.proofs.SignLaws.{signs-first}
+use Rattle.signs.proofs.edges.SignLaws.{signs-first}
 
 -- ---- both lists, where the item has a value
-module _ (w table : List ℕ) (h : Shape) {x : PassEdge} {i : Item} (e : EdgeIs x i) where
+module _ (w table : List ℕ) (h : Shape) {x : PassEdge} {i : StoredEdge} (e : EdgeIs x i) where
   flag-is : x .num .«has_value» ≡ i .has-value
   flag-is = ap (λ (y : PassEdge). y .num .«has_value») (e .is)
 
@@ -65,13 +65,13 @@ module _ (w table : List ℕ) (h : Shape) {x : PassEdge} {i : Item} (e : EdgeIs 
 module _ (t : Table) (w table s : List ℕ) (n : ℕ) where
   -- G6's edges for the items from the i-th on
   abbrev pub rest : ℕ → List Edge
-  rest i = signs t w (map (edgeOf w table) (itemsAt s i (n - i)))
+  rest i = signs t w (map (edgeOf w table) (storedListAt s i (n - i)))
 
-  pub rest-start : rest 0 ≡ signs t w (map (edgeOf w table) (itemsAt s 0 n))
+  pub rest-start : rest 0 ≡ signs t w (map (edgeOf w table) (storedListAt s 0 n))
   rest-start = rw (sub-zero n)
 
   module _ (i : ℕ) where
-    pub rest-next : i < n → rest i ≡ signsOf t w (edgeOf w table (itemAt s (i * 56))) ++ rest (i + 1)
+    pub rest-next : i < n → rest i ≡ signsOf t w (edgeOf w table (storedAt s (i * 56))) ++ rest (i + 1)
     unfolding signs signsOf
     rest-next h = rw (items-cons s i n h)
 
@@ -79,12 +79,12 @@ module _ (t : Table) (w table s : List ℕ) (n : ℕ) where
     unfolding signs
     rest-end h = rw (items-none s i n h)
 
-sounds-parts : {w table : List ℕ} {x : Item} {l : List Item} → Sounds w table (x ∷ l) → Sound w table x × Sounds w table l
+sounds-parts : {w table : List ℕ} {x : StoredEdge} {l : List StoredEdge} → Sounds w table (x ∷ l) → Sound w table x × Sounds w table l
 sounds-parts (cons p q) = (p, q)
 
 module _ (w table s : List ℕ) (n : ℕ) where
-  pub sounds-start : Sounds w table (itemsAt s 0 n) → Sounds w table (itemsAt s 0 (n - 0))
+  pub sounds-start : Sounds w table (storedListAt s 0 n) → Sounds w table (storedListAt s 0 (n - 0))
   sounds-start h = rw (sub-zero n) h
 
-  pub sounds-next : (i : ℕ) → i < n → Sounds w table (itemsAt s i (n - i)) → Sound w table (itemAt s (i * 56)) × Sounds w table (itemsAt s (i + 1) (n - (i + 1)))
+  pub sounds-next : (i : ℕ) → i < n → Sounds w table (storedListAt s i (n - i)) → Sound w table (storedAt s (i * 56)) × Sounds w table (storedListAt s (i + 1) (n - (i + 1)))
   sounds-next i h k = sounds-parts (rw (items-cons s i n h) at k)

@@ -1,23 +1,26 @@
+// The stage of signs, G6.
 // G6: signs directly before a number (01, "The rest of the call"): a regular edge from each sign on, minus before plus, in the table's order.
-use dicts::shape::Shape;
+pub mod edges; // edges.rt: the edges for the signs before one edge
+
 use lattice::Lattice;
 use pass_list::record::PassEdge;
+use table::shape::Shape;
 ghost use mathlib.Core.Path.{_≡_};
 ghost use mathlib.Core.List.{List, map};
 ghost use Prim.Native.Nat.{ℕ, _+_, _*_, _≤_};
 ghost use lib.ListN.{length, drop};
 ghost use Rattle.text.specs.Text.{chars};
-ghost use Rattle.dicts.specs.Answers.{tableOf};
+ghost use Rattle.table.specs.Answers.{tableOf};
 ghost use Rattle.edge.specs.Edge.{Edge};
 ghost use Rattle.lattice.specs.Lattice.{addAll};
 ghost use Rattle.lattice.specs.Kept.{Holds};
-ghost use Rattle.pass_list.specs.Item.{Item, EdgeIs};
-ghost use Rattle.pass_list.specs.Stored.{itemsAt};
+ghost use Rattle.pass_list.specs.StoredEdge.{StoredEdge, EdgeIs};
+ghost use Rattle.pass_list.specs.Stored.{storedListAt};
 ghost use Rattle.pass_list.specs.Edges.{edgeOf};
-ghost use Rattle.stages.specs.Ready.{Ready, Offsets};
-ghost use Rattle.items.specs.Sound.{Sounds, ItemIs};
+ghost use Rattle.numbers.specs.Ready.{Ready, Offsets};
+ghost use Rattle.pass_edge.specs.Sound.{Sounds, StoredIs};
 ghost use Rattle.numbers.specs.Signs.{signs};
-ghost use Rattle.signs.specs.SignEdges.{signsOf};
+ghost use Rattle.signs.specs.SignsOf.{signsOf};
 
 // Where the pass list stands in the work space.
 const LIST: usize = 39424;
@@ -32,15 +35,15 @@ fn add_item_signs(
     h: Shape,
     x: PassEdge,
 ) -> Lattice
-    requires { ⌜ ((es : List Edge) × Holds (now w) l es) × Offsets (now line) (now offs) × ((i : Item) × ItemIs (now line) (now table) x i) × ((n : ℕ) × Ready (now line) (now table) h n) ⌝ }
-    ensures { λ r. ⌜ (drop 39424 (now (w .exit)) ≡ drop 39424 (now (w .entry))) × ((es : List Edge) (i : Item) → Holds (now (w .entry)) l es → EdgeIs x i → Holds (now (w .exit)) r (addAll es (signsOf (tableOf (now (table .entry)) h) (chars (now (line .entry))) (edgeOf (chars (now (line .entry))) (now (table .entry)) i)))) ⌝ }
+    requires { ⌜ ((es : List Edge) × Holds (now w) l es) × Offsets (now line) (now offs) × ((i : StoredEdge) × StoredIs (now line) (now table) x i) × ((n : ℕ) × Ready (now line) (now table) h n) ⌝ }
+    ensures { λ r. ⌜ (drop 39424 (now (w .exit)) ≡ drop 39424 (now (w .entry))) × ((es : List Edge) (i : StoredEdge) → Holds (now (w .entry)) l es → EdgeIs x i → Holds (now (w .exit)) r (addAll es (signsOf (tableOf (now (table .entry)) h) (chars (now (line .entry))) (edgeOf (chars (now (line .entry))) (now (table .entry)) i)))) ⌝ }
 {
     if x.start.0 == 0 {
         return l;
     }
     if x.num.has_value {
-        let minus = sign_edges::add_signs_of(w, l, line, offs, table, h.minus, x, b'-');
-        return sign_edges::add_signs_of(w, minus, line, offs, table, h.plus, x, b'+');
+        let minus = crate::edges::add_signs_of(w, l, line, offs, table, h.minus, x, b'-');
+        return crate::edges::add_signs_of(w, minus, line, offs, table, h.plus, x, b'+');
     }
     l
 }
@@ -55,14 +58,14 @@ pub fn add_signs(
     h: Shape,
     n: usize,
 ) -> Lattice
-    requires { ⌜ ((es : List Edge) × Holds (now w) l es) × Offsets (now line) (now offs) × ((m : ℕ) × Ready (now line) (now table) h m) × Sounds (chars (now line)) (now table) (itemsAt (drop 39424 (now w)) 0 n) × (39424 + n * 56 ≤ length (now w)) ⌝ }
-    ensures { λ r. ⌜ (drop 39424 (now (w .exit)) ≡ drop 39424 (now (w .entry))) × ((es : List Edge) → Holds (now (w .entry)) l es → Holds (now (w .exit)) r (addAll es (signs (tableOf (now (table .entry)) h) (chars (now (line .entry))) (map (edgeOf (chars (now (line .entry))) (now (table .entry))) (itemsAt (drop 39424 (now (w .entry))) 0 n))))) ⌝ }
+    requires { ⌜ ((es : List Edge) × Holds (now w) l es) × Offsets (now line) (now offs) × ((m : ℕ) × Ready (now line) (now table) h m) × Sounds (chars (now line)) (now table) (storedListAt (drop 39424 (now w)) 0 n) × (39424 + n * 56 ≤ length (now w)) ⌝ }
+    ensures { λ r. ⌜ (drop 39424 (now (w .exit)) ≡ drop 39424 (now (w .entry))) × ((es : List Edge) → Holds (now (w .entry)) l es → Holds (now (w .exit)) r (addAll es (signs (tableOf (now (table .entry)) h) (chars (now (line .entry))) (map (edgeOf (chars (now (line .entry))) (now (table .entry))) (storedListAt (drop 39424 (now (w .entry))) 0 n))))) ⌝ }
 {
     let list = LIST;
     let mut grown = l;
     let mut i = 0;
     while i < n {
-        let x = pass_record::get(&w[list..], i * 56);
+        let x = pass_list::read::get(&w[list..], i * 56);
         grown = add_item_signs(w, grown, line, offs, table, h, x);
         i += 1;
     }

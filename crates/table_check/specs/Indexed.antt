@@ -5,10 +5,10 @@
 use mathlib.Core.List.{List}
 use Prim.Native.Nat.{ℕ}
 use Rattle.fields.specs.Fields.{leAt}
-use Rattle.dicts.specs.declared.shape.Shape.{Shape}
-use Rattle.dicts.specs.declared.shape.TableCheck.{TableCheck}
-use Rattle.dicts.specs.declared.shape.TableCheck.the-variants.{Table, Refused}
-use Rattle.char_index.specs.Index.{IndexIf}
+use Rattle.table.specs.declared.shape.Shape.{Shape}
+use Rattle.table.specs.declared.shape.TableCheck.{TableCheck}
+use Rattle.table.specs.declared.shape.TableCheck.the-variants.{Table, Refused}
+use Rattle.table.specs.Index.{IndexIf}
 
 -- the table begins with the count of its records
 abbrev pub RecordIndex : List ℕ → Shape → List ℕ → ℕ → Type 0

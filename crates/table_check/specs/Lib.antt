@@ -1,2 +1,2 @@
--- The definitions that the contracts of `table_check` cite besides those of `dicts`.
+-- The definitions that the contracts of `table_check` cite besides those of `table`.
 pub mod Indexed

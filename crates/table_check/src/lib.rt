@@ -1,13 +1,16 @@
+// Refusals 4 and 5: the check of a table, item by item.
 // The whole table: the first faulty item decides, its layout (4) before its content (5).
+pub mod items; // items.rt: the strings of a list, and the records, whose index is made on the way
+
 ghost use mathlib.Core.Path.{_≡_};
-ghost use Rattle.dicts.specs.Check.{readTable};
-ghost use Rattle.dicts.specs.Answers.{tableAnswer};
+ghost use Rattle.table.specs.Check.{readTable};
+ghost use Rattle.table.specs.Answers.{tableAnswer};
 ghost use Rattle.table_check.specs.Indexed.{TableIndexed};
-use dicts::shape::Items;
-use dicts::shape::Shape;
-use dicts::shape::TableCheck;
-use table_items::list_end;
-use table_items::records_end;
+use crate::items::list_end;
+use crate::items::records_end;
+use table::shape::Items;
+use table::shape::Shape;
+use table::shape::TableCheck;
 
 // The table that the bytes are, or why they are none. The index over its records is left in offs, with so many entries.
 pub fn check_table(s: &[u8], offs: &mut [u32; 256], entries: &mut usize) -> TableCheck

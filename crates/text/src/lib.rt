@@ -1,4 +1,11 @@
-// Text as bytes: equality of bytes, and the types of one UTF-8 sequence (`text_seq`) and of what a line's functions answer (`text_line`, `line_check`).
+// Text as bytes and as characters: UTF-8 by Unicode table 3-7, places and offsets, a line.
+// Text as bytes: equality of bytes, and the types of one UTF-8 sequence (`text::sequence`) and of what a line's functions answer (`text::line`, `text::check`).
+pub mod lead_byte; // lead_byte.rt: the row of table 3-7 for a lead byte
+pub mod sequence; // sequence.rt: one sequence in any bytes
+pub mod known; // known.rt: a character of a text that is known to be well-formed
+pub mod line; // line.rt: a text as characters, the offset of a place
+pub mod check; // check.rt: refusals 2 and 3 of a line
+
 ghost use mathlib.Core.Path.{_≡_};
 ghost use Rattle.text.specs.Bytes.{same};
 

@@ -40,7 +40,7 @@ fn take_apart(digits: &[u8], bytes: &mut [u8]) {
 }
 
 fn show(line: &[u8]) {
-    match line_check::check_line(line) {
+    match text::check::check_line(line) {
         LineCheck::Chars(n) => {
             say(b"chars ", n);
             each(line, n);
@@ -59,7 +59,7 @@ fn say(word: &[u8], n: usize) {
 fn show_char(line: &[u8], at: Offset) {
     say(b" ", at.0);
     io::write_all(1, b":");
-    if let Seq::Char(c, _) = text_seq::seq_at(line, at) {
+    if let Seq::Char(c, _) = text::sequence::seq_at(line, at) {
         io::print_hex(1, c as u64, 1);
     }
 }
@@ -67,7 +67,7 @@ fn show_char(line: &[u8], at: Offset) {
 fn each(line: &[u8], n: usize) {
     let mut p = 0;
     while p < n {
-        show_char(line, text_line::offset_of(line, Place(p)));
+        show_char(line, text::line::offset_of(line, Place(p)));
         p += 1;
     }
 }

@@ -18,10 +18,10 @@ use Rattle.edge.specs.Layout.{stands, only, textAt, nextAt, numericAt, edgeAt, 
 use Rattle.edge.specs.Check.{good, checkEdges, checkListing}
 use Rattle.edge.specs.View.{textOf, viewAt}
 use Rattle.edge.proofs.CheckLaws.{good-whole}
-use Rattle.walk_steps.specs.declared.Here.{Here}
-use Rattle.walk_steps.specs.declared.Here.the-variants.{Edge, End}
-use Rattle.walk_steps.specs.Walk.{whole, hereAt, behind, onward}
-use Rattle.walk_steps.proofs.WalkLaws.{next-past, here-edge, here-end, behind-edge, behind-end}
+use Rattle.walker.specs.declared.steps.Here.{Here}
+use Rattle.walker.specs.declared.steps.Here.the-variants.{Edge, End}
+use Rattle.walker.specs.Walk.{whole, hereAt, behind, onward}
+use Rattle.walker.proofs.steps.WalkLaws.{next-past, here-edge, here-end, behind-edge, behind-end}
 
 -- the head v says the edge e of the listing s
 pub record Says (s : List ℕ) (v : EdgeView) (e : E.Edge) : Type 0 where

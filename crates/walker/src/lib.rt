@@ -1,8 +1,11 @@
+// A walk over a listing, edge by edge.
 // A walk over a listing, edge by edge from its front (01, "A form for each place"): a walker holds the listing and an offset.
-// Its functions are thin: the work is in the functions of `walk_steps`.
+// Its functions are thin: the work is in the functions of `walker::steps`.
+pub mod steps; // steps.rt: its steps, by a slice and an offset
+
 ghost use mathlib.Core.Path.{_≡_};
-ghost use Rattle.walk_steps.specs.Walk.{hereAt, behind, onward};
-use walk_steps::Here;
+ghost use Rattle.walker.specs.Walk.{hereAt, behind, onward};
+use crate::steps::Here;
 
 // A walker: a listing, and the offset where the walk stands.
 pub struct Walker<'a> {
@@ -16,7 +19,7 @@ pub fn start<'a>(listing: &'a [u8]) -> Walker<'a>
 {
     Walker {
         listing,
-        at: walk_steps::FIRST,
+        at: crate::steps::FIRST,
     }
 }
 
@@ -24,7 +27,7 @@ pub fn start<'a>(listing: &'a [u8]) -> Walker<'a>
 pub fn edge_here<'a>(w: Walker<'a>) -> Here
     ensures { λ r. ⌜ r ≡ hereAt (now (w .entry .listing)) (w .entry .at) ⌝ }
 {
-    walk_steps::here_at(w.listing, w.at)
+    crate::steps::here_at(w.listing, w.at)
 }
 
 // The walker at the next edge.
@@ -33,7 +36,7 @@ pub fn next<'a>(w: Walker<'a>) -> Walker<'a>
 {
     Walker {
         listing: w.listing,
-        at: walk_steps::behind(w.listing, w.at),
+        at: crate::steps::behind(w.listing, w.at),
     }
 }
 
@@ -43,7 +46,7 @@ fn start_at<'a>(listing: &'a [u8], i: usize) -> Walker<'a>
 {
     Walker {
         listing,
-        at: walk_steps::onward(listing, i),
+        at: crate::steps::onward(listing, i),
     }
 }
 

@@ -1,4 +1,7 @@
+// Whole numbers: f64 values up to TOP, decimal text.
 // f64 values that are whole numbers up to TOP: what the Rust has `f64` for. Whole numbers are `ofNat` of specs/Whole.antt.
+pub mod decimal; // decimal.rt: a whole number in decimal
+
 ghost use mathlib.Core.Path.{_≡_};
 ghost use Prim.Native.Nat.{ℕ, _+_, _*_, _≤_};
 ghost use Rattle.whole.specs.Whole.{TOP, ofNat};

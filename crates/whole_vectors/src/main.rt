@@ -2,7 +2,7 @@
 // The decimal text of n, and the newline that the line is filled with.
 fn show(n: u64) {
     let mut line = [10u8; 21];
-    let end = decimal::put_decimal(&mut line, 0, n);
+    let end = whole::decimal::put_decimal(&mut line, 0, n);
     io::write_all(1, &line[..end + 1]);
 }
 

@@ -156,7 +156,7 @@ mod tests {
 
     /// The byte string of `plain_table`, whose contract says that it is the plain table of the proof.
     fn proved_bytes() -> Vec<u8> {
-        let source = include_str!("../../../crates/plain_table/src/lib.rt");
+        let source = include_str!("../../../crates/grammar/src/plain_table.rt");
         let literal = source.split("*b\"").nth(1).unwrap().split('"').next().unwrap();
         let mut parts = literal.split('\\');
         let mut out = parts.next().unwrap().as_bytes().to_vec();

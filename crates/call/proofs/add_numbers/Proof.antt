@@ -4,9 +4,9 @@ use mathlib.Core.Path.{_≡_, subst}
 use native.Mathlib.Omega.{arith}
 use lib.ListN.{length, length-replicate}
 use Prim.Native.Nat.{ℕ}
-use Rattle.checks.specs.declared.Lent.{Lent}
+use Rattle.call.specs.declared.checks.Lent.{Lent}
 use Rattle.table_check.specs.Indexed.{RecordIndex}
-use Rattle.checks.specs.Checks.{Sound, LentIs, LentIndexed}
+use Rattle.call.specs.Checks.{Sound, LentIs, LentIndexed}
 use Rattle.call.proofs.AnswerLaws.{answer-short, answer-refused, answer-sound}
 use Rattle.call.proofs.add_numbers.Statement.{statement}
 use Rattle.call.proofs.add_numbers.Tie as tie

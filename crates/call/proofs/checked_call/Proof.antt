@@ -7,19 +7,19 @@ use native.Mathlib.Omega.{arith}
 use lib.ListN.{length}
 use Rattle.text.specs.Text.{chars}
 use Rattle.text.proofs.TextLaws.{chars-scalars}
-use Rattle.dicts.specs.Table.{Table}
-use Rattle.dicts.specs.Answers.{tableOf}
+use Rattle.table.specs.Table.{Table}
+use Rattle.table.specs.Answers.{tableOf}
 use Rattle.passes.specs.NumEdge.{NumEdge}
 use Rattle.edge.specs.Edge.{Edge}
 use Rattle.edge.specs.Layout.{listed}
 use Rattle.lattice.specs.Kept.{Holds}
-use Rattle.stages.specs.CallEdge.{CallEdges}
-use Rattle.items_theorems.proofs.Theorems.{items-call}
-use Rattle.five.specs.Five.{listedItems, behind}
-use Rattle.five.specs.declared.Passes.{Passes}
+use Rattle.numbers.specs.CallEdge.{CallEdges}
+use Rattle.pass_edge.proofs.theorems.Theorems.{items-call}
+use Rattle.first_stages.specs.Five.{listedStored, behind}
+use Rattle.first_stages.specs.declared.five_passes.Passes.{Passes}
 use Rattle.numbers.specs.Call.{afterPasses, latticeOf}
-use Rattle.rest.specs.Rest.{restOf}
-use Rattle.rest.proofs.RestLaws.{rest-is}
+use Rattle.call.specs.Rest.{restOf}
+use Rattle.call.proofs.last_stages.RestLaws.{rest-is}
 use Rattle.first_stages.specs.Stages.{CallDone, CallPassed}
 use Rattle.call.proofs.AnswerLaws.{answer-above, answer-below}
 use Rattle.call.proofs.checked_call.Statement.{statement}
@@ -31,7 +31,7 @@ start p = p .before .before .before .before .before .before .before
 abbrev T : tie.Start → Table
 T s = tableOf (s .args .table .now) (s .args .h)
 
-abbrev of-call : tie.After-rest-of-call → tie.After-m
+abbrev of-call : tie.After-run-last-stages → tie.After-m
 of-call a = a .before .before .before
 
 -- what the passes answered
@@ -50,16 +50,16 @@ in-line : (m : tie.After-m) (es : List Edge) → CallEdges (length (chars (start
 in-line m es q = subst (λ (n : ℕ). CallEdges n es) (start (m .before .before .before .before) .pre .2 .ready .count) q
 
 -- the finished lattice
-final : (a : tie.After-rest-of-call) → let s = start (of-call a .before .before .before .before) in
-    Holds (a .rest-of-call .last .0) (a .rest-of-call .result) (latticeOf (T s) (chars (s .args .line .now)) (listed (s .args .edges .now)))
+final : (a : tie.After-run-last-stages) → let s = start (of-call a .before .before .before .before) in
+    Holds (a .run-last-stages .last .0) (a .run-last-stages .result) (latticeOf (T s) (chars (s .args .line .now)) (listed (s .args .edges .now)))
 final a =
     let m = of-call a in
     let s = start (m .before .before .before .before) in
     let d = done m in
     let es = afterPasses (T s) (chars (s .args .line .now)) (listed (s .args .edges .now)) in
-    subst (Holds (a .rest-of-call .last .0) (a .rest-of-call .result))
+    subst (Holds (a .run-last-stages .last .0) (a .run-last-stages .result))
     (ap (λ (fs : List NumEdge). restOf (T s) (chars (s .args .line .now)) fs es) (d .fifth) ∙ rest-is (T s) (chars (s .args .line .now)) (listed (s .args .edges .now)))
-    (a .rest-of-call .ensures es (d .holds) (in-line m es (d .call)))
+    (a .run-last-stages .ensures es (d .holds) (in-line m es (d .call)))
 
 passed-requires : tie.Need-passed-requires
 passed-requires c κs = let s = c .before .before .before .before .before .before in (s .pre .0, s .pre .1, (s .args .n, s .pre .2 .ready, s .pre .2 .edges), s .pre .3)
@@ -70,14 +70,14 @@ enum-known-p c = search needs
 enum-known-m : tie.Need-enum-known-m
 enum-known-m c = search needs
 
-rest-of-call-requires : tie.Need-rest-of-call-requires
-rest-of-call-requires c κs = let m = c .before .before in
+run-last-stages-requires : tie.Need-run-last-stages-requires
+run-last-stages-requires c κs = let m = c .before .before in
     let s = start (m .before .before .before .before) in
     let d = done m in
     (s .pre .2 .ready, (_, d .holds, in-line m _ (d .call)), s .pre .0, d .sounds, in-line m _ (items-call _ _ (chars-scalars _) (few m) _ (d .sounds)), omega (arith, d .few, m .before .before .before .before .passed .kept .0, s .pre .1))
 
-end-of-call-requires : tie.Need-end-of-call-requires
-end-of-call-requires c κs = (_, final (c .before .before .before .before))
+finish-call-requires : tie.Need-finish-call-requires
+finish-call-requires c κs = (_, final (c .before .before .before .before))
 
 same-length : tie.Need-same-length
 same-length c = search needs
@@ -97,7 +97,7 @@ returns-2 : tie.Need-returns-2
 returns-2 c = let e = c .before .before in
     let a = e .before .before .before .before .before in
     let s = start (of-call a .before .before .before .before) in
-    answer-below (T s) (chars (s .args .line .now)) (s .args .out .now) (listed (s .args .edges .now)) (done (of-call a) .above) (e .end-of-call .last .1 .1 .0) (e .end-of-call .result) (e .end-of-call .ensures _ (final a))
+    answer-below (T s) (chars (s .args .line .now)) (s .args .out .now) (listed (s .args .edges .now)) (done (of-call a) .above) (e .finish-call .last .1 .1 .0) (e .finish-call .result) (e .finish-call .ensures _ (final a))
 
 pub checked-call-spec : {M : Type 1} → statement M
 checked-call-spec =
@@ -106,8 +106,8 @@ checked-call-spec =
     passed-requires
     enum-known-p
     enum-known-m
-    rest-of-call-requires
-    end-of-call-requires
+    run-last-stages-requires
+    finish-call-requires
     same-length
     returns
     same-length-2

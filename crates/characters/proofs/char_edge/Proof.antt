@@ -1,6 +1,6 @@
 -- `char_edge` meets its contract: the edge spans one place, and its numbers fit, since table and line are no longer than memory.
 use native.Mathlib.Omega.{arith}
-use Rattle.characters.specs.CharItem.{charItem}
+use Rattle.characters.specs.CharStored.{charStored}
 use borrow.Author.Needs.{needs}
 use Rattle.characters.proofs.char_edge.Statement.{statement}
 use Rattle.characters.proofs.char_edge.Tie as tie
@@ -12,7 +12,7 @@ char-num-requires : tie.Need-char-num-requires
 char-num-requires c κs = search needs
 
 returns : tie.Need-returns
-unfolding charItem
+unfolding charStored
 returns c =
     let pre = c .before .before .pre in
     let script = pre .0 .script-within in

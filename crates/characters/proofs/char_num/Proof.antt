@@ -1,5 +1,5 @@
 -- `char_num` meets its contract: a field of the record is there where its bit of the map is 1.
-use Rattle.characters.specs.CharItem.{charItem}
+use Rattle.characters.specs.CharStored.{charStored}
 use borrow.Author.Needs.{needs}
 use Rattle.characters.proofs.char_num.Statement.{statement}
 use Rattle.characters.proofs.char_num.Tie as tie
@@ -8,14 +8,14 @@ number-if-requires : tie.Need-number-if-requires
 number-if-requires c κs = search needs
 
 f64-of-requires : tie.Need-f64-of-requires
-unfolding charItem
+unfolding charStored
 f64-of-requires c κs = rw (c .number-if .ensures) (c .before .before .before .before .before .before .before .before .before .pre .1 .value)
 
 number-if-requires-2 : tie.Need-number-if-requires-2
 number-if-requires-2 c κs = search needs
 
 f64-of-requires-2 : tie.Need-f64-of-requires-2
-unfolding charItem
+unfolding charStored
 f64-of-requires-2 c κs = rw (c .number-if2 .ensures) (c .before .before .before .before .before .before .before .before .before .before .before .pre .1 .mult)
 
 number-if-requires-3 : tie.Need-number-if-requires-3
@@ -28,7 +28,7 @@ is-cjk-requires : tie.Need-is-cjk-requires
 is-cjk-requires c κs = c .before .before .before .before .before .before .before .before .before .before .before .before .before .before .before .pre .0 .script-within
 
 returns : tie.Need-returns
-unfolding charItem
+unfolding charStored
 returns c =
     let value = c .before .before .before .before .before .before in
     rw (

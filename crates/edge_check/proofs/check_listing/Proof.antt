@@ -33,13 +33,13 @@ loop-holds c = (search needs, c .u16-at .ensures, check-count _ _ _ (omega arith
 next-at-requires : tie.Need-next-at-requires Inv-loop μ-loop
 next-at-requires c κs = search needs
 
-edge-good-requires : tie.Need-edge-good-requires Inv-loop μ-loop
-edge-good-requires c κs = c .next-at .ensures
+edge-legal-requires : tie.Need-edge-legal-requires Inv-loop μ-loop
+edge-legal-requires c κs = c .next-at .ensures
 
 returns-2 : tie.Need-returns-2 Inv-loop μ-loop
 returns-2 c =
     let turn = c .before .before .before in
-    check-bad _ _ _ _ _ (turn .loop-test .taken) (sym (c .before .edge-good .ensures) ∙ not-true _ (c .if2 .taken)) ∙ turn .before .loop .inv .2
+    check-bad _ _ _ _ _ (turn .loop-test .taken) (sym (c .before .edge-legal .ensures) ∙ not-true _ (c .if2 .taken)) ∙ turn .before .loop .inv .2
 
 sub-left : tie.Need-sub-left Inv-loop μ-loop
 sub-left c = search needs
@@ -51,7 +51,7 @@ loop-again : tie.Need-loop-again Inv-loop μ-loop
 loop-again c =
     let turn = c .before .before .before in
     let next = c .before .before .next-at .ensures in
-    let fine = sym (c .before .edge-good .ensures) ∙ not-false _ (c .if2 .left) in
+    let fine = sym (c .before .edge-legal .ensures) ∙ not-false _ (c .if2 .left) in
     (good-next _ _ _ _ next fine, turn .before .loop .inv .1, check-good _ _ _ _ _ (turn .loop-test .taken) next fine ∙ turn .before .loop .inv .2)
 
 returns-3 : tie.Need-returns-3 Inv-loop μ-loop
@@ -71,7 +71,7 @@ check-listing-spec =
     cast-count
     loop-holds
     next-at-requires
-    edge-good-requires
+    edge-legal-requires
     returns-2
     sub-left
     loop-less

@@ -3,13 +3,13 @@ use mathlib.Core.Path.{_≡_, refl, sym, subst, _∙_}
 use mathlib.Core.Bool.{false}
 use mathlib.Core.List.{List}
 use Rattle.text.specs.Text.{chars}
-use Rattle.dicts.specs.Answers.{tableOf}
+use Rattle.table.specs.Answers.{tableOf}
 use Rattle.edge.specs.Edge.{Edge}
 use Rattle.lattice.specs.Kept.{Holds}
-use Rattle.stages.specs.CallEdge.{CallEdges}
-use Rattle.choices.specs.Choices.{Decided}
+use Rattle.numbers.specs.CallEdge.{CallEdges}
+use Rattle.fraction_choices.specs.Choices.{Decided}
 use Rattle.lattice.proofs.HoldsLaws.{behind-twice}
-use Rattle.made_parts.proofs.EdgeLaws.{not-true}
+use Rattle.fractions.proofs.parts.EdgeLaws.{not-true}
 use Rattle.markers.proofs.MarkLaws.{table-marks}
 use Rattle.fractions.proofs.AnyMarkerLaws.{marked-any, no-marker-stage}
 use Rattle.fractions.proofs.StageLaws.{full-stage, keeps-of, planned, stage-holds}

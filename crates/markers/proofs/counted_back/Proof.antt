@@ -6,7 +6,7 @@ use native.Mathlib.Omega.{arith}
 use lib.ListN.{length, getD}
 use Rattle.text.specs.Text.{chars, offsetOf}
 use Rattle.text.specs.declared.Walked.{Walked}
-use Rattle.text_line.proofs.LineLaws.{count-whole}
+use Rattle.text.proofs.line.LineLaws.{count-whole}
 use Rattle.text.proofs.PlaceLaws.{offset-le}
 use Rattle.numbers.specs.Fractions.{standsAt}
 use Rattle.markers.proofs.MarkLaws.{stands-told, sign-far, sign-there, sign-other}

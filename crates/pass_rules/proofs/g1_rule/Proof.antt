@@ -1,5 +1,5 @@
 -- `g1_rule` meets its contract: the tests are those of the definition. Assumes nothing.
-use Rattle.pass_list.specs.ItemPass.{g1Rule}
+use Rattle.pass_list.specs.StoredPass.{g1Rule}
 use Rattle.pass_rules.proofs.g1_rule.Statement.{statement}
 use Rattle.pass_rules.proofs.g1_rule.Tie as tie
 

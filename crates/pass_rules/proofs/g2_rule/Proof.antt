@@ -1,5 +1,5 @@
 -- `g2_rule` meets its contract: the tests are those of the definition. Assumes nothing.
-use Rattle.pass_list.specs.ItemPass.{g2Rule}
+use Rattle.pass_list.specs.StoredPass.{g2Rule}
 use Rattle.pass_rules.proofs.g2_rule.Statement.{statement}
 use Rattle.pass_rules.proofs.g2_rule.Tie as tie
 

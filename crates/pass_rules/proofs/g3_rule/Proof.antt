@@ -1,5 +1,5 @@
 -- `g3_rule` meets its contract: the tests are those of the definition. Assumes nothing.
-use Rattle.pass_list.specs.ItemPass.{g3Rule}
+use Rattle.pass_list.specs.StoredPass.{g3Rule}
 use Rattle.pass_rules.proofs.g3_rule.Statement.{statement}
 use Rattle.pass_rules.proofs.g3_rule.Tie as tie
 

@@ -9,7 +9,7 @@ use Rattle.numbers.specs.Call.{Answer, listing, refused}
 use Rattle.answers.specs.declared.Answer.{Answer as Code}
 use Rattle.answers.specs.declared.Answer.the-variants as Code
 use Rattle.answers.specs.Answers.{answerOf}
-use Rattle.ending.specs.Answers.{AnswerIs}
+use Rattle.call.specs.Answers.{AnswerIs}
 use borrow.Author.Needs.{needs}
 use Rattle.replay.proofs.answer.Statement.{statement}
 use Rattle.replay.proofs.answer.Tie as tie

@@ -1,7 +1,7 @@
 -- `rilvostam::rilvostam_left_neighbor` meets its contract: its answer, told to C. Assumes nothing.
 use mathlib.Core.Path.{ap, _∙_}
 use borrow.Author.Needs.{needs}
-use Rattle.statuses.specs.Statuses.{answerTold}
+use Rattle.answers.specs.Statuses.{answerTold}
 use Rattle.rilvostam.proofs.Tells.{tells}
 use Rattle.rilvostam.proofs.rilvostam_left_neighbor.Statement.{statement}
 use Rattle.rilvostam.proofs.rilvostam_left_neighbor.Tie as tie

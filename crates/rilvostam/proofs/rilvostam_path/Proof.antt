@@ -1,7 +1,7 @@
 -- `rilvostam::rilvostam_path` meets its contract: its answer, told to C. Assumes nothing.
 use mathlib.Core.Path.{ap, _∙_}
 use borrow.Author.Needs.{needs}
-use Rattle.statuses.specs.Statuses.{writtenTold}
+use Rattle.answers.specs.Statuses.{writtenTold}
 use Rattle.rilvostam.proofs.Tells.{tells}
 use Rattle.rilvostam.proofs.rilvostam_path.Statement.{statement}
 use Rattle.rilvostam.proofs.rilvostam_path.Tie as tie

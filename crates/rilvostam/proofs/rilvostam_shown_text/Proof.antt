@@ -1,8 +1,8 @@
 -- `rilvostam::rilvostam_shown_text` meets its contract: its answer, told to C. Assumes nothing.
 use mathlib.Core.Path.{ap, _∙_}
 use borrow.Author.Needs.{needs}
-use Rattle.statuses.specs.declared.ToldText.{ToldText}
-use Rattle.statuses.specs.Statuses.{shownTold}
+use Rattle.answers.specs.declared.reading.ToldText.{ToldText}
+use Rattle.answers.specs.Statuses.{shownTold}
 use Rattle.rilvostam.proofs.rilvostam_shown_text.Statement.{statement}
 use Rattle.rilvostam.proofs.rilvostam_shown_text.Tie as tie
 

@@ -5,7 +5,7 @@ use Rattle.edge.specs.Edge.{Edge}
 use Rattle.lattice.specs.Lattice.{add}
 use Rattle.lattice.specs.Kept.{Holds}
 use Rattle.lattice.proofs.HoldsLaws.{behind-same}
-use Rattle.copies.proofs.CopyLaws.{source-less}
+use Rattle.lattice_add.proofs.copy.CopyLaws.{source-less}
 use Rattle.separators.proofs.StepLaws.{copy-space, copy-dot}
 use borrow.Author.Needs.{needs}
 use Rattle.separators.proofs.add_separated.Statement.{statement}

@@ -2,7 +2,7 @@
 use mathlib.Core.Path.{refl, _∙_, subst}
 use Rattle.lattice.specs.Kept.{Holds}
 use Rattle.lattice.proofs.HoldsLaws.{behind-same, kept-of}
-use Rattle.stages.proofs.ReadLaws.{call-legals}
+use Rattle.numbers.proofs.stages.ReadLaws.{call-legals}
 use Rattle.separators.proofs.MarkLaws.{ends-agree}
 use Rattle.separators.proofs.ApartLaws.{all-separate}
 use Rattle.separators.proofs.StepLaws.{full-separate}

@@ -6,7 +6,7 @@ use borrow.Author.Tests.{not-true, not-false}
 use lib.ListN.{length, getD}
 use Rattle.lattice.specs.declared.Lattice.{Lattice}
 use Rattle.lattice.specs.Lattice.{add, turnOffAt}
-use Rattle.stages.specs.CallEdge.{CallEdge}
+use Rattle.numbers.specs.CallEdge.{CallEdge}
 use Rattle.numbers.specs.Separators.{copyOf}
 use Rattle.separators.specs.Marks.{setApart}
 use Rattle.edge.specs.Edge.{Edge}

@@ -6,11 +6,11 @@ use Prim.Native.Nat.{_≤_}
 use native.Mathlib.Omega.{arith}
 use lib.ListN.{length}
 use Rattle.text.specs.Text.{chars}
-use Rattle.dicts.specs.Layout.{listAt}
-use Rattle.dicts.specs.Answers.{tableOf}
+use Rattle.table.specs.Layout.{listAt}
+use Rattle.table.specs.Answers.{tableOf}
 use Rattle.edge.specs.Edge.{Edge}
 use Rattle.lattice.specs.Lattice.{addAll}
-use Rattle.pass_list.specs.Item.{Item}
+use Rattle.pass_list.specs.StoredEdge.{StoredEdge}
 use Rattle.pass_list.specs.Edges.{edgeOf}
 use Rattle.numbers.specs.Signs.{signed}
 use Rattle.markers.specs.Marks.{Formed}
@@ -35,7 +35,7 @@ unfolding tableOf
 plus-formed a = all-formed _ (marks a .plus)
 
 -- the edges for the minus signs before the item i
-abbrev minus : tie.Start → Item → List Edge
+abbrev minus : tie.Start → StoredEdge → List Edge
 minus a i = let w = chars (a .args .line .now) in let t = a .args .table .now in signed w 45 (edgeOf w t i) (listAt t (a .args .h .minus))
 
 returns : tie.Need-returns

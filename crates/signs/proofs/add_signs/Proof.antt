@@ -8,23 +8,23 @@ use borrow.Author.Needs.{needs}
 use borrow.Rule.Slice.PartAt.{part-to-end}
 use lib.ListN.{length, take, drop}
 use Rattle.text.specs.Text.{chars}
-use Rattle.dicts.specs.Answers.{tableOf}
-use Rattle.pass_list.specs.Item.{Small, EdgeIs}
-use Rattle.pass_list.specs.Stored.{itemAt, itemsAt}
+use Rattle.table.specs.Answers.{tableOf}
+use Rattle.pass_list.specs.StoredEdge.{Small, EdgeIs}
+use Rattle.pass_list.specs.Stored.{storedAt, storedListAt}
 use Rattle.pass_list.specs.Edges.{edgeOf}
-use Rattle.items.specs.Sound.{Sound, Sounds}
+use Rattle.pass_edge.specs.Sound.{Sound, Sounds}
 use Rattle.numbers.specs.Signs.{signs}
-use Rattle.signs.specs.SignEdges.{signsOf}
-use Rattle.sign_edges.proofs.BufferLaws.{behind-length}
-use Rattle.sign_edges.proofs.TowardLaws.{Toward, toward-start, toward-next, toward-end}
+use Rattle.signs.specs.SignsOf.{signsOf}
+use Rattle.signs.proofs.edges.BufferLaws.{behind-length}
+use Rattle.signs.proofs.edges.TowardLaws.{Toward, toward-start, toward-next, toward-end}
 use Rattle.signs.proofs.ItemLaws.{rest, rest-start, rest-next, rest-end, sounds-start, sounds-next}
 use Rattle.signs.proofs.add_signs.Statement.{statement}
 use Rattle.signs.proofs.add_signs.Tie as tie
 
 abbrev Inv-loop : tie.InvT-loop
 Inv-loop w₀ line offs table h n list grown₀ i₀ w grown i =
-    Toward w₀ grown₀ (signs (tableOf table h) (chars line) (map (edgeOf (chars line) table) (itemsAt (drop 39424 w₀) 0 n))) w grown (rest (tableOf table h) (chars line) table (drop 39424 w₀) n i)
-    × Sounds (chars line) table (itemsAt (drop 39424 w₀) i (n - i)) × (i ≤ n)
+    Toward w₀ grown₀ (signs (tableOf table h) (chars line) (map (edgeOf (chars line) table) (storedListAt (drop 39424 w₀) 0 n))) w grown (rest (tableOf table h) (chars line) table (drop 39424 w₀) n i)
+    × Sounds (chars line) table (storedListAt (drop 39424 w₀) i (n - i)) × (i ≤ n)
 
 abbrev μ-loop : tie.MeasureT-loop
 μ-loop w₀ line offs table h n list grown₀ i₀ w grown i = n - i
@@ -35,15 +35,15 @@ list-is c = part-to-end (c .before .loop .w) 39424 ∙ c .before .loop .inv .0 .
 
 -- the item of this turn is sound, and so are the others
 here : (c : tie.In-loop Inv-loop μ-loop) → let a = c .before .before .before .before .before .args in let s = drop 39424 (a .w .now) in let i = c .before .loop .i in
-    Sound (chars (a .line .now)) (a .table .now) (itemAt s (i * 56)) × Sounds (chars (a .line .now)) (a .table .now) (itemsAt s (i + 1) (a .n - (i + 1)))
+    Sound (chars (a .line .now)) (a .table .now) (storedAt s (i * 56)) × Sounds (chars (a .line .now)) (a .table .now) (storedListAt s (i + 1) (a .n - (i + 1)))
 here c = sounds-next _ _ _ _ _ (c .loop-test .taken) (c .before .loop .inv .1)
 
 room : (c : tie.In-loop Inv-loop μ-loop) → 39424 + c .before .before .before .before .before .args .n * 56 ≤ length (c .before .loop .w)
 room c = omega (arith, c .before .loop .inv .0 .long, c .before .before .before .before .before .pre .4)
 
 -- what was read is this turn's item
-read-is : (c : tie.After-get Inv-loop μ-loop) → EdgeIs (c .get .result) (itemAt (drop 39424 (c .before .before .before .before .before .before .before .before .args .w .now)) (c .before .before .before .before .loop .i * 56))
-read-is c = subst (λ (s : List ℕ). EdgeIs (c .get .result) (itemAt s (c .before .before .before .before .loop .i * 56))) (list-is (c .before .before .before)) (c .get .ensures)
+read-is : (c : tie.After-get Inv-loop μ-loop) → EdgeIs (c .get .result) (storedAt (drop 39424 (c .before .before .before .before .before .before .before .before .args .w .now)) (c .before .before .before .before .loop .i * 56))
+read-is c = subst (λ (s : List ℕ). EdgeIs (c .get .result) (storedAt s (c .before .before .before .before .loop .i * 56))) (list-is (c .before .before .before)) (c .get .ensures)
 
 loop-holds : tie.Need-loop-holds Inv-loop μ-loop
 loop-holds c = let a = c .before .before .before in (rw rest-start (toward-start _ _ _), sounds-start _ _ _ _ (a .pre .3), omega arith)
@@ -64,7 +64,7 @@ get-requires : tie.Need-get-requires Inv-loop μ-loop
 get-requires c κs =
     let l = c .before .before in
     let i = l .before .loop .i in
-    (omega (arith, room l, l .loop-test .taken, behind-length 39424 (l .before .loop .w)), subst (λ (s : List ℕ). Small (itemAt s (i * 56))) (sym (list-is l)) (here l .0 .small))
+    (omega (arith, room l, l .loop-test .taken, behind-length 39424 (l .before .loop .w)), subst (λ (s : List ℕ). Small (storedAt s (i * 56))) (sym (list-is l)) (here l .0 .small))
 
 add-item-signs-requires : tie.Need-add-item-signs-requires Inv-loop μ-loop
 add-item-signs-requires c κs =
@@ -88,8 +88,8 @@ loop-again c =
     let a = l .before .before .before .before .before .args in
     let i = l .before .loop .i in
     let w = chars (a .line .now) in
-    let edges = signsOf (tableOf (a .table .now) (a .h)) w (edgeOf w (a .table .now) (itemAt (drop 39424 (a .w .now)) (i * 56))) in
-    (toward-next (l .before .loop .inv .0) edges (rest-next (tableOf (a .table .now) (a .h)) (chars (a .line .now)) (a .table .now) (drop 39424 (a .w .now)) (a .n) i (l .loop-test .taken)) (k .add-item-signs .kept .0) (k .add-item-signs .ensures .0) (λ es q. k .add-item-signs .ensures .1 es (itemAt (drop 39424 (a .w .now)) (i * 56)) q (read-is g)), here l .1, omega (arith, l .loop-test .taken))
+    let edges = signsOf (tableOf (a .table .now) (a .h)) w (edgeOf w (a .table .now) (storedAt (drop 39424 (a .w .now)) (i * 56))) in
+    (toward-next (l .before .loop .inv .0) edges (rest-next (tableOf (a .table .now) (a .h)) (chars (a .line .now)) (a .table .now) (drop 39424 (a .w .now)) (a .n) i (l .loop-test .taken)) (k .add-item-signs .kept .0) (k .add-item-signs .ensures .0) (λ es q. k .add-item-signs .ensures .1 es (storedAt (drop 39424 (a .w .now)) (i * 56)) q (read-is g)), here l .1, omega (arith, l .loop-test .taken))
 
 same-length : tie.Need-same-length Inv-loop μ-loop
 same-length c = c .before .loop .inv .0 .long

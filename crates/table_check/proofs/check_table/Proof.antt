@@ -1,7 +1,7 @@
 -- `table_check::check_table` meets its contract: what each call answered is what the definition reads there, and the first refusal decides.
 use mathlib.Core.Path.{_≡_, sym, _∙_}
-use Rattle.dicts.specs.Answers.{tableOf}
-use Rattle.dicts.proofs.CheckLaws.{list-ends, list-refused, records-end, records-refused, table-short, first-refused, second-refused, third-refused, fourth-refused, record-refused, table-left, table-is}
+use Rattle.table.specs.Answers.{tableOf}
+use Rattle.table.proofs.CheckLaws.{list-ends, list-refused, records-end, records-refused, table-short, first-refused, second-refused, third-refused, fourth-refused, record-refused, table-left, table-is}
 use Rattle.table_check.specs.Indexed.{TableIndexed}
 use borrow.Author.Needs.{needs}
 use Rattle.table_check.proofs.check_table.Statement.{statement}

@@ -43,17 +43,17 @@ use denote.Triple.Table.{entered, cited}
 use denote.Triple.Walked.{says, Stays, stay-none, walkOf, goes-none, Walks, ends-at, walked, walk-meets}
 use denote.Exit.{yes}
 use denote.Triple.Clauses.{ensured, lasts}
-use Rattle.walk_steps.specs.Walk.{hereAt}
+use Rattle.walker.specs.Walk.{hereAt}
 use Rattle.walker.specs.declared.Walker.{Walker}
-use Rattle.walk_steps.specs.declared.Here.{Here}
+use Rattle.walker.specs.declared.steps.Here.{Here}
 use Rattle.walker.proofs.Walker as T
 use Rattle.walker.proofs.Walker.Laws as T′
-use Rattle.walk_steps.proofs.Here as S
-use Rattle.walk_steps.proofs.Here.Laws as S′
-use Rattle.walk_steps.proofs.here_at as here-at
-use Rattle.walk_steps.proofs.here_at.Symbol as here-at-def
-use Rattle.walk_steps.proofs.here_at.Symbol.{name as #walk-steps·here-at}
-use Rattle.walk_steps.proofs.here_at.Met as here-at-thm
+use Rattle.walker.proofs.steps.Here as S
+use Rattle.walker.proofs.steps.Here.Laws as S′
+use Rattle.walker.proofs.steps.here_at as here-at
+use Rattle.walker.proofs.steps.here_at.Symbol as here-at-def
+use Rattle.walker.proofs.steps.here_at.Symbol.{name as #walker·steps·here-at}
+use Rattle.walker.proofs.steps.here_at.Met as here-at-thm
 use Rattle.walker.proofs.edge_here.Key.{name as #walker·edge-here}
 use Rattle.walker.proofs.edge_here as edge-here
 use Rattle.walker.proofs.edge_here.Statement as stated
@@ -128,7 +128,7 @@ module _ {M : Type 1} (𝓤 : URA M) (H : Heap 𝓤) (A : Atoms 𝓤) (W : Given
       suffices ! _ (ends-at 𝓤 H A edge-here.ended stayed (edge-here.clauses 𝓤 H A mem run) W (((κ, tt), (q, tt), tt, (d, tt), (mach ∷ [], tt)), tt) u r (tt, tt) (tt, tt)) $ says ! e $
       move ! (1 ∷ []) $ frame ! $ nothing ! $ move ! (2 ∷ 0 ∷ []) $ fjoin ! $ frame ! $ done !
 
-  module _ (C : Calls 𝓤 H) (Λ : Loops 𝓤 H) (fm : FmC 𝓤 H (W .laws) C) (known : Triple 𝓤 (C #walk-steps·here-at) (HereAt 𝓤 H A mem run)) where
+  module _ (C : Calls 𝓤 H) (Λ : Loops 𝓤 H) (fm : FmC 𝓤 H (W .laws) C) (known : Triple 𝓤 (C #walker·steps·here-at) (HereAt 𝓤 H A mem run)) where
     walk : Holds (hasTy (T′.mir (named 0)) mach) × WT mach → ent 𝓤 (onEntry 𝓤 H A edge-here.signature (κ, tt) (q, tt) (d, tt) (mach ∷ [], tt)) (WpFn 𝓤 H C Λ code.function (mach ∷ []) Post)
     walk wt =
         qed W (raw (onEntry 𝓤 H A edge-here.signature (κ, tt) (q, tt) (d, tt) (mach ∷ [], tt)) ∷ []) ∵ enter ! C Λ code.function (mach ∷ []) _ $
@@ -146,13 +146,13 @@ module _ {M : Type 1} (𝓤 : URA M) (H : Heap 𝓤) (A : Atoms 𝓤) (W : Given
         move ! (9 ∷ 10 ∷ []) $ free1 ! $ move ! (7 ∷ 8 ∷ []) $ free1 ! $ move ! (5 ∷ 6 ∷ []) $ free1 ! $ move ! (3 ∷ 4 ∷ []) $ free1 ! $ free0 ! $ by ! (exits r u e)))))))))
 
 module _ {M : Type 1} (𝓤 : URA M) (H : Heap 𝓤) (A : Atoms 𝓤) (W : Given 𝓤 H A) (mem : Memory → SProp 𝓤) (run : Routine → Fun 𝓤) where
-  edge-here-walks : (C : Calls 𝓤 H) (Λ : Loops 𝓤 H) → FmC 𝓤 H (W .laws) C → Triple 𝓤 (C #walk-steps·here-at) (HereAt 𝓤 H A mem run)
+  edge-here-walks : (C : Calls 𝓤 H) (Λ : Loops 𝓤 H) → FmC 𝓤 H (W .laws) C → Triple 𝓤 (C #walker·steps·here-at) (HereAt 𝓤 H A mem run)
       → Walks 𝓤 H A edge-here.ended stayed (WpFn 𝓤 H C Λ code.function) (edge-here.clauses 𝓤 H A mem run)
   edge-here-walks C Λ fm known = walked 𝓤 H A edge-here.ended stayed (edge-here.clauses 𝓤 H A mem run) (WpFn 𝓤 H C Λ code.function) (λ κs. (LL.vals (T.the-type (namedLft 1 0 tt κs)) (T′.the-laws (namedLft 1 0 tt κs)), tt)) (λ κs. (LL.tells (T.the-type (namedLft 1 0 tt κs)) (T′.the-laws (namedLft 1 0 tt κs)), tt))
       (λ κs qs bounds a g are. via 𝓤 _ (fst∗ 𝓤 _ (emp 𝓤)) (walk 𝓤 H A W mem run (κs .0) (qs .0) (a .0) C Λ fm known (LL.lawful (T.the-type (namedLft 1 0 tt κs)) (T′.the-laws (namedLft 1 0 tt κs)) 𝓤 H A W .typed (a .0) _ (are .0) .0)))
 
 edge-here-meets : {M : Type 1} (𝓤 : URA M) (H : Heap 𝓤) (A : Atoms 𝓤) (W : Given 𝓤 H A) (mem : Memory → SProp 𝓤) (run : Routine → Fun 𝓤) (𝓣 : Tables 𝓤 H)
-    → Triple 𝓤 (𝓣 .C #walk-steps·here-at) (HereAt 𝓤 H A mem run)
+    → Triple 𝓤 (𝓣 .C #walker·steps·here-at) (HereAt 𝓤 H A mem run)
     → Meets 𝓤 H A edge-here.signature (WpFn 𝓤 H (𝓣 .C) (𝓣 .Λ) code.function) (edge-here.spec 𝓤 H A mem run)
 edge-here-meets 𝓤 H A W mem run 𝓣 known-here-at = walk-meets 𝓤 H A edge-here.ended stayed W (goes-none 𝓤 H A W 1 B yes (λ κs x f. refl), tt) (edge-here.clauses 𝓤 H A mem run) (WpFn 𝓤 H (𝓣 .C) (𝓣 .Λ) code.function) (WpFn-mono 𝓤 H (W .laws) 𝓣 code.function)
     (edge-here-walks 𝓤 H A W mem run (𝓣 .C) (𝓣 .Λ) (fmOf 𝓤 H (W .laws) 𝓣) known-here-at)
@@ -163,4 +163,4 @@ edge-here-spec 𝓤 H 𝓜 𝓖 𝓡 =
     entered 𝓤 H (tripleOf 𝓤 H (𝓖 .A) edge-here.signature (edge-here.spec 𝓤 H (𝓖 .A) (𝓜 .mem) (𝓡 .run)))
     (tables 𝓤 H 𝓜 𝓡 code.env .C) (tables 𝓤 H 𝓜 𝓡 code.env .Λ) #walker·edge-here code.function (code.unfolded 𝓤 H 𝓜 𝓡)
     (edge-here-meets 𝓤 H (𝓖 .A) (givenOf 𝓤 H 𝓜 𝓖) (𝓜 .mem) (𝓡 .run) (tablesOf 𝓤 H 𝓜 (tables 𝓤 H 𝓜 𝓡 code.env))
-    (cited 𝓤 H (HereAt 𝓤 H (𝓖 .A) (𝓜 .mem) (𝓡 .run)) 𝓜 𝓡 code.env #walk-steps·here-at here-at-def.routine code.calls-walk-steps·here-at (here-at-thm.met 𝓤 H 𝓜 𝓖 𝓡)))
+    (cited 𝓤 H (HereAt 𝓤 H (𝓖 .A) (𝓜 .mem) (𝓡 .run)) 𝓜 𝓡 code.env #walker·steps·here-at here-at-def.routine code.calls-walker·steps·here-at (here-at-thm.met 𝓤 H 𝓜 𝓖 𝓡)))

@@ -38,13 +38,13 @@ use denote.Triple.Table.{entered, cited}
 use denote.Triple.Walked.{says, Stays, stay-none, stay-none-slice, walkOf, goes-none, goes-none-slice, Walks, ends-at, walked, walk-meets}
 use denote.Exit.{yes}
 use denote.Triple.Clauses.{ensured, lasts}
-use Rattle.walk_steps.specs.Walk.{hereAt, onward}
+use Rattle.walker.specs.Walk.{hereAt, onward}
 use Rattle.walker.specs.declared.Walker.{Walker}
-use Rattle.walk_steps.specs.declared.Here.{Here}
+use Rattle.walker.specs.declared.steps.Here.{Here}
 use Rattle.walker.proofs.Walker as T
 use Rattle.walker.proofs.Walker.Laws as T′
-use Rattle.walk_steps.proofs.Here as S
-use Rattle.walk_steps.proofs.Here.Laws as S′
+use Rattle.walker.proofs.steps.Here as S
+use Rattle.walker.proofs.steps.Here.Laws as S′
 use Rattle.walker.proofs.start_at as start-at
 use Rattle.walker.proofs.start_at.Symbol as start-at-def
 use Rattle.walker.proofs.start_at.Symbol.{name as #walker·start-at}

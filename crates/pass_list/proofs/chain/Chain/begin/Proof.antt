@@ -2,7 +2,7 @@
 use mathlib.Core.Path.{_≡_, sym, ap, _∙_}
 use mathlib.Core.Bool.{true, false}
 use Rattle.pass_list.specs.declared.record.PassEdge.{PassEdge}
-use Rattle.pass_list.specs.ItemPass.{begin}
+use Rattle.pass_list.specs.StoredPass.{begin}
 use Rattle.pass_list.proofs.chain.Chain.begin.Statement.{statement}
 use Rattle.pass_list.proofs.chain.Chain.begin.Tie as tie
 

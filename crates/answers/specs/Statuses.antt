@@ -1,0 +1,43 @@
+-- What C is told of an answer of the reading calls: a status, 0 or the number of 01's refusal, and the numbers that go with it. Definitions only.
+--     NONE                   no edge
+--     refusalTold r          a refusal: its number, and its place or offset
+--     answerTold a           best edge and neighbours: the offset of the edge, or NONE
+--     writtenTold a          the path: the bytes of its listing
+--     shownTold a            the text shown: its offset and length, and whether it is a part of the listing (1) or of the line (0)
+--     Assumes nothing.
+use Prim.Native.Nat.{ℕ}
+use Rattle.answers.specs.declared.Told.{Told}
+use Rattle.answers.specs.declared.reading.ToldText.{ToldText}
+use Rattle.paths.specs.declared.Refusal.{Refusal}
+use Rattle.paths.specs.declared.Found.{Found}
+use Rattle.paths.specs.declared.Found.the-variants.{At, Nothing}
+use Rattle.paths.specs.declared.Answer.{Answer}
+use Rattle.paths.specs.declared.Answer.the-variants as Answer
+use Rattle.paths.specs.declared.Written.{Written}
+use Rattle.paths.specs.declared.Written.the-variants as Written
+use Rattle.paths.specs.declared.Shown.{Shown}
+use Rattle.paths.specs.declared.Shown.the-variants as Shown
+use Rattle.paths.specs.Reading.{number, place}
+
+abbrev pub NONE : ℕ
+NONE = 18446744073709551615
+
+abbrev pub foundAt : Found → ℕ
+foundAt (At o) = o .0
+foundAt Nothing = NONE
+
+abbrev pub refusalTold : Refusal → Told
+refusalTold r = record { status = number r; at = place r }
+
+abbrev pub answerTold : Answer → Told
+answerTold (Answer.Best f) = record { status = 0; at = foundAt f }
+answerTold (Answer.Refused r) = refusalTold r
+
+abbrev pub writtenTold : Written → Told
+writtenTold (Written.Bytes n) = record { status = 0; at = n }
+writtenTold (Written.Refused r) = refusalTold r
+
+abbrev pub shownTold : Shown → ToldText
+shownTold (Shown.Listing p) = record { status = 0; at = p .at; len = p .len; in_listing = 1 }
+shownTold (Shown.Line p) = record { status = 0; at = p .at; len = p .len; in_listing = 0 }
+shownTold (Shown.Refused r) = record { status = number r; at = place r; len = 0; in_listing = 0 }

@@ -1,0 +1,104 @@
+// What C is told of an answer of the reading calls: a status, 0 or the refusal's number, and the numbers that go with it.
+ghost use mathlib.Core.Path.{_≡_};
+ghost use Rattle.answers.specs.Statuses.{foundAt, refusalTold, answerTold, writtenTold, shownTold};
+use crate::Told;
+use paths::Answer;
+use paths::Found;
+use paths::Refusal;
+use paths::Shown;
+use paths::Written;
+
+// What C is told of a text shown: its status, offset and length, and 1 where it is a part of the listing.
+pub struct ToldText {
+    pub status: u32,
+    pub at: u64,
+    pub len: u64,
+    pub in_listing: u8,
+}
+
+// 01's number of a refusal, and the offset that is returned with it, or 0.
+fn refusal_told(r: Refusal) -> Told
+    ensures { λ t. ⌜ t ≡ refusalTold r ⌝ }
+{
+    match r {
+        Refusal::NotUtf8(at) => Told {
+            status: 2,
+            at: at.0 as u64,
+        },
+        Refusal::OverLong(at) => Told {
+            status: 3,
+            at: at.0 as u64,
+        },
+        Refusal::BadListing(at) => Told {
+            status: 6,
+            at: at.0 as u64,
+        },
+        Refusal::ShortOutput => Told { status: 8, at: 0 },
+        Refusal::BadPlace => Told { status: 9, at: 0 },
+    }
+}
+
+// The offset of an edge; the greatest u64 where there is none.
+fn found_at(f: Found) -> u64
+    ensures { λ r. ⌜ r ≡ foundAt f ⌝ }
+{
+    match f {
+        Found::At(at) => at.0 as u64,
+        Found::Nothing => 18446744073709551615,
+    }
+}
+
+// A best edge or a neighbour: the offset of the edge, or the refusal.
+pub fn answer_told(a: Answer) -> Told
+    ensures { λ t. ⌜ t ≡ answerTold a ⌝ }
+{
+    match a {
+        Answer::Best(f) => Told {
+            status: 0,
+            at: found_at(f),
+        },
+        Answer::Refused(r) => refusal_told(r),
+    }
+}
+
+// A path: the bytes of its listing, or the refusal.
+pub fn written_told(a: Written) -> Told
+    ensures { λ t. ⌜ t ≡ writtenTold a ⌝ }
+{
+    match a {
+        Written::Bytes(n) => Told {
+            status: 0,
+            at: n as u64,
+        },
+        Written::Refused(r) => refusal_told(r),
+    }
+}
+
+// A text shown: its part of the listing or of the line, or the refusal.
+pub fn shown_told(a: Shown) -> ToldText
+    ensures { λ t. ⌜ t ≡ shownTold a ⌝ }
+{
+    match a {
+        Shown::Listing(p) => ToldText {
+            status: 0,
+            at: p.at as u64,
+            len: p.len as u64,
+            in_listing: 1,
+        },
+        Shown::Line(p) => ToldText {
+            status: 0,
+            at: p.at as u64,
+            len: p.len as u64,
+            in_listing: 0,
+        },
+        Shown::Refused(r) => {
+            let t = refusal_told(r);
+            ToldText {
+                status: t.status,
+                at: t.at,
+                len: 0,
+                in_listing: 0,
+            }
+        }
+    }
+}

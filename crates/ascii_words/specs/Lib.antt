@@ -1,2 +1,0 @@
--- The definition that the contracts of `ascii_words` cite.
-pub mod Ascii

@@ -1,0 +1,46 @@
+-- What the checks 2 to 6 of the call find. Definitions only.
+--     tableRefusal n at          the refusal of a table, by its number
+--     Sound line table given ..  line, table and given edges passed their checks: so many characters, the table's shape, so many edges
+--     LentIs line table given r  the checks 2 to 6 found r: the definition's answer is that refusal, or they are passed
+--     RestIs n table given r     the same of the checks 4 to 6, after a line of n characters
+--     LentIndexed table os k r   where the checks are passed, the index over the table's records has k entries, their offsets os
+--     Assumes nothing.
+use mathlib.Core.Path.{_≡_}
+use mathlib.Core.Bool.{true, cond}
+use mathlib.Core.List.{List}
+use Prim.Native.Nat.{ℕ}
+use lib.ListN.{length}
+use lib.Dec.{eqb}
+use Rattle.text.specs.Line.{lineCheck}
+use Rattle.table.specs.Check.{Fine, readTable}
+use Rattle.table.specs.Answers.{tableOf}
+use Rattle.table.specs.declared.shape.Shape.{Shape}
+use Rattle.edge.specs.Check.{checkListing}
+use Rattle.edge.specs.declared.ListingCheck.the-variants.{Edges}
+use Rattle.table_check.specs.Indexed.{RecordIndex}
+use Rattle.numbers.specs.Ready.{Ready}
+use Rattle.numbers.specs.Call.{refused, withTable, withLine}
+use Rattle.answers.specs.declared.Refusal.{Refusal}
+use Rattle.answers.specs.declared.Refusal.the-variants.{BadTable, BadContent}
+use Rattle.call.specs.declared.checks.Lent.{Lent}
+use Rattle.call.specs.declared.checks.Lent.the-variants as Lent
+use Rattle.answers.specs.Answers.{number, place}
+
+unfoldable pub tableRefusal : ℕ → ℕ → Refusal
+tableRefusal n at = cond (eqb n 4) (BadTable (record { 0 = at })) (BadContent (record { 0 = at }))
+
+pub record Sound (line table given : List ℕ) (n : ℕ) (h : Shape) (count : ℕ) : Type 0 where
+  pub ready : Ready line table h n
+  pub edges : checkListing true n given ≡ Edges count
+
+unfoldable pub LentIs : List ℕ → List ℕ → List ℕ → Lent → Type 0
+LentIs line table given (Lent.Sound n h count) = Sound line table given n h count
+LentIs line table given (Lent.Refused r) = (out : ℕ) → withLine line table given out (lineCheck line) ≡ refused (number r) (place r)
+
+unfoldable pub RestIs : ℕ → List ℕ → List ℕ → Lent → Type 0
+RestIs n table given (Lent.Sound m h count) = (m ≡ n) × (readTable table ≡ Fine (tableOf table h) (length table)) × (checkListing true n given ≡ Edges count)
+RestIs n table given (Lent.Refused r) = (w : List ℕ) → length w ≡ n → (out : ℕ) → withTable w out given (readTable table) ≡ refused (number r) (place r)
+
+unfoldable pub LentIndexed : List ℕ → List ℕ → ℕ → Lent → Type 0
+LentIndexed table os k (Lent.Sound n h count) = RecordIndex table h os k
+LentIndexed table os k (Lent.Refused r) = Unit {0}

@@ -1,0 +1,7 @@
+-- The definitions of `call`.
+-- checks: What the checks of the call find.
+pub mod Checks
+-- last_stages: The stages after the passes.
+pub mod Rest
+-- ending: What the call answers.
+pub mod Answers

@@ -1,0 +1,63 @@
+// The checks 2 to 6 of the call, in their order (01, "What a call is lent"): line, table, given edges.
+ghost use mathlib.Core.Path.{_≡_};
+ghost use Rattle.call.specs.Checks.{tableRefusal, RestIs, LentIs, LentIndexed};
+use answers::Refusal;
+use edge::ListingCheck;
+use table::shape::Shape;
+use table::shape::TableCheck;
+use text::LineCheck;
+use text::Offset;
+
+// What the checks find: so many characters, the table's shape and so many given edges, or a refusal.
+pub enum Lent {
+    Sound(usize, Shape, usize),
+    Refused(Refusal),
+}
+
+// The refusal of a table, by its number.
+fn table_refusal(number: u8, at: usize) -> Refusal
+    ensures { λ r. ⌜ r ≡ tableRefusal number at ⌝ }
+{
+    if number == 4 {
+        return Refusal::BadTable(Offset(at));
+    }
+    Refusal::BadContent(Offset(at))
+}
+
+// The checks 4 to 6, of a line of so many characters.
+fn check_rest(
+    chars: usize,
+    table: &[u8],
+    edges: &[u8],
+    offs: &mut [u32; 256],
+    entries: &mut usize,
+) -> Lent
+    ensures { λ r. ⌜ RestIs chars (now (table .entry)) (now (edges .entry)) r ⌝ }
+    ensures indexed { λ r. ⌜ LentIndexed (now (table .entry)) (now (offs .exit)) (now (entries .exit)) r ⌝ }
+{
+    match table_check::check_table(table, offs, entries) {
+        TableCheck::Refused(number, at) => Lent::Refused(table_refusal(number, at)),
+        TableCheck::Table(h) => match edge_check::check_listing(edges, chars, true) {
+            ListingCheck::Refused(at) => Lent::Refused(Refusal::BadEdges(at)),
+            ListingCheck::Edges(count) => Lent::Sound(chars, h, count),
+        },
+    }
+}
+
+// The checks 2 to 6, in this order. The index over the table's records is left in offs, with so many entries.
+pub fn check(
+    line: &[u8],
+    table: &[u8],
+    edges: &[u8],
+    offs: &mut [u32; 256],
+    entries: &mut usize,
+) -> Lent
+    ensures { λ r. ⌜ LentIs (now (line .entry)) (now (table .entry)) (now (edges .entry)) r ⌝ }
+    ensures indexed { λ r. ⌜ LentIndexed (now (table .entry)) (now (offs .exit)) (now (entries .exit)) r ⌝ }
+{
+    match text::check::check_line(line) {
+        LineCheck::IllFormed(at) => Lent::Refused(Refusal::NotUtf8(at)),
+        LineCheck::TooLong(at) => Lent::Refused(Refusal::OverLong(at)),
+        LineCheck::Chars(chars) => check_rest(chars, table, edges, offs, entries),
+    }
+}

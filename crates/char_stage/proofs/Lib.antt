@@ -1,3 +1,0 @@
--- The proofs of `char_stage`.
-pub mod AddingLaws
-pub mod FirstLaws

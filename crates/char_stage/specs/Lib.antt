@@ -1,2 +1,0 @@
--- What the stage of the line's characters leaves.
-pub mod CharStage

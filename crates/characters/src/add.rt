@@ -1,0 +1,47 @@
+// A character of the line is added to the lattice, by its record (01, "From characters to edges").
+ghost use mathlib.Core.Path.{_≡_};
+ghost use Rattle.pass_edge.specs.Sound.{LegalAt};
+ghost use Rattle.pass_edge.specs.Fields.{storedFraction, FractionIs};
+ghost use Rattle.pass_edge.specs.Adding.{Asks, Adds};
+use lattice::Lattice;
+use pass_edge::Fraction;
+use pass_list::record::PassEdge;
+use table::record::known::record_here;
+
+// Its fraction. Only a record that has one is read whole.
+fn fraction_at(table: &[u8], at: usize) -> Fraction
+    requires { ⌜ LegalAt (now table) at ⌝ }
+    ensures { λ r. ⌜ FractionIs r (storedFraction (now (table .entry)) 0 at) ⌝ }
+{
+    if table[at + 4] / 4 % 2 == 1 {
+        return crate::fraction::fraction_of(record_here(table, at));
+    }
+    Fraction {
+        there: false,
+        numerator: 0,
+        denominator: 0,
+    }
+}
+
+// A character is added: its type is a part of the table, its txt the rom there or else the character in the line.
+pub fn add_char(
+    w: &mut [u8],
+    l: Lattice,
+    line: &[u8],
+    offs: &[usize; 257],
+    table: &[u8],
+    x: PassEdge,
+) -> Lattice
+    requires { ⌜ Asks (now w) l (now line) (now offs) (now table) x × (x .kind ≡ 0) ⌝ }
+    ensures { λ r. ⌜ Adds (now (line .entry)) (now (table .entry)) x (now (w .entry)) l (now (w .exit)) r ⌝ }
+{
+    let at = x.record_at.0;
+    let f = fraction_at(table, at);
+    let ty = pass_edge::type_at(table, at);
+    if table[at + 4] / 1 % 2 == 1 {
+        let rom = pass_edge::rom_at(table, at);
+        return pass_edge::listed::add_texts(w, l, line, offs, table, x, f, ty, rom);
+    }
+    let own = pass_edge::own_at(line, offs, x.start.0, x.end.0);
+    pass_edge::listed::add_texts(w, l, line, offs, table, x, f, ty, own)
+}

@@ -1,2 +1,0 @@
--- What the checks of the call find.
-pub mod Checks

@@ -1,2 +1,0 @@
--- The definitions that the contracts of `choices` cite.
-pub mod Choices

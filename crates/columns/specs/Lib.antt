@@ -1,2 +1,0 @@
--- The definition that the contracts of `columns` cite.
-pub mod Columns

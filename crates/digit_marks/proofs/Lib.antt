@@ -1,3 +1,0 @@
--- The proofs of `digit_marks`.
-mod MarkLaws
-mod WalkLaws

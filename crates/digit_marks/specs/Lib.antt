@@ -1,2 +1,0 @@
--- What the marks and the walk over the bytes give.
-pub mod Marks

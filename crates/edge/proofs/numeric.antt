@@ -1,0 +1,2 @@
+-- The laws that the proofs of `edge::numeric` share.
+pub mod ReadLaws

@@ -1,2 +1,0 @@
--- The laws that the proofs of `edge_fields` share.
-pub mod ReadLaws

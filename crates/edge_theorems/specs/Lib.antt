@@ -1,2 +1,0 @@
--- Edges that may be listed.
-pub mod Legal

@@ -1,0 +1,119 @@
+// A numeric edge written at an offset of a lent buffer (01, "Listing"), or the answer that there is no room. `edge_write::regular` writes a regular one.
+ghost use mathlib.Core.Path.{_≡_};
+ghost use mathlib.Core.Bool.{true};
+ghost use Prim.Native.Nat.{_+_, _*_, _/_, _%_, _≤_, _<_};
+ghost use lib.ListN.{length};
+ghost use lib.Dec.{eqb};
+ghost use Rattle.fields.specs.Fields.{bytesOf};
+ghost use Rattle.edge.specs.Edge.{str, opt, numericBytes, edgeBytes};
+ghost use Rattle.edge.specs.Layout.{scriptAt, only};
+ghost use Rattle.edge.specs.Write.{written, writtenTo, Put, numeric, numbersBytes, textPastIf, fieldsPast, Writable};
+ghost use Rattle.edge.specs.View.{numericOf, textOf};
+use edge::NumFields;
+use edge::Part;
+use edge::Written;
+use text::Place;
+
+// A string that is a part of a slice.
+fn put_part(out: &mut [u8], at: usize, s: &[u8], t: Part) -> usize
+    requires { ⌜ (at + 2 + t .len ≤ length (now out)) × (t .len < 65536) × (t .at + t .len ≤ length (now s)) ⌝ }
+    ensures { λ r. ⌜ (r ≡ at + 2 + t .len) × Put (now (out .entry)) (now (out .exit)) at r (str (textOf (now (s .entry)) t)) ⌝ }
+{
+    let from = t.at;
+    let to = from + t.len;
+    fields::write::put_u16(out, at, t.len as u16);
+    fields::copy::copy_in(out, at + 2, &s[from..to]);
+    at + 2 + t.len
+}
+
+// The same, only if a bit stands.
+fn put_part_if(map: u16, p: u16, out: &mut [u8], at: usize, s: &[u8], t: Part) -> usize
+    requires { ⌜ (0 < p) × (textPastIf (eqb (map / p % 2) 1) (t .len) at ≤ length (now out)) × (t .len < 65536) × (eqb (map / p % 2) 1 ≡ true → t .at + t .len ≤ length (now s)) ⌝ }
+    ensures { λ r. ⌜ (r ≡ textPastIf (eqb (map / p % 2) 1) (t .len) at) × Put (now (out .entry)) (now (out .exit)) at r (opt str (only (eqb (map / p % 2) 1) (textOf (now (s .entry)) t))) ⌝ }
+{
+    if edge::bit(map, p) {
+        put_part(out, at, s, t)
+    } else {
+        at
+    }
+}
+
+// A number, only if a bit stands.
+fn put_u64_if(map: u16, p: u16, out: &mut [u8], at: usize, v: u64) -> usize
+    requires { ⌜ (0 < p) × (at + 8 * (map / p % 2) ≤ length (now out)) ⌝ }
+    ensures { λ r. ⌜ (r ≡ at + 8 * (map / p % 2)) × Put (now (out .entry)) (now (out .exit)) at r (opt (bytesOf 8) (only (eqb (map / p % 2) 1) v)) ⌝ }
+{
+    if edge::bit(map, p) {
+        fields::write::put_u64(out, at, v);
+        at + 8
+    } else {
+        at
+    }
+}
+
+// The numbers of a numeric edge.
+fn put_numbers(out: &mut [u8], at: usize, d: NumFields) -> usize
+    requires { ⌜ scriptAt (d .map) at ≤ length (now out) ⌝ }
+    ensures { λ r. ⌜ (r ≡ scriptAt (d .map) at) × Put (now (out .entry)) (now (out .exit)) at r (numbersBytes d) ⌝ }
+{
+    let map = d.map;
+    let numerator = put_u64_if(map, 2, out, at, d.value);
+    let denominator = put_u64_if(map, 4, out, numerator, d.numerator);
+    let base = put_u64_if(map, 4, out, denominator, d.denominator);
+    let multiplier = put_u64_if(map, 8, out, base, d.base);
+    put_u64_if(map, 16, out, multiplier, d.base_multiplier)
+}
+
+// The fields of a numeric edge, their texts in three slices.
+fn put_fields(out: &mut [u8], at: usize, d: NumFields, o: &[u8], c: &[u8], v: &[u8]) -> usize
+    requires { ⌜ (fieldsPast d at ≤ length (now out)) × Writable (now o) (now c) (now v) d ⌝ }
+    ensures { λ r. ⌜ Put (now (out .entry)) (now (out .exit)) at r (numericBytes (numericOf (now (o .entry)) (now (c .entry)) (now (v .entry)) d)) ⌝ }
+{
+    let value = put_part(out, at, o, d.orig);
+    let script = put_numbers(out, value, d);
+    let value_s = put_part_if(d.map, 32, out, script, c, d.script);
+    put_part_if(d.map, 256, out, value_s, v, d.value_s)
+}
+
+// Behind a text that is there only if a bit stands.
+fn text_past_if(map: u16, p: u16, len: usize, at: usize) -> usize
+    requires { ⌜ (0 < p) × (len < 65536) × (at ≤ 10000000000000000000) ⌝ }
+    ensures { λ r. ⌜ (r ≡ textPastIf (eqb (map / p % 2) 1) len at) × (r ≤ at + 65537) ⌝ }
+{
+    if edge::bit(map, p) { at + 2 + len } else { at }
+}
+
+// Where fields end that are written from an offset on.
+fn fields_past(d: NumFields, at: usize) -> usize
+    requires { ⌜ (d .orig .len < 65536) × (d .script .len < 65536) × (d .«value_s» .len < 65536) × (at ≤ 9500000000000000000) ⌝ }
+    ensures { λ r. ⌜ r ≡ fieldsPast d at ⌝ }
+{
+    let script = edge::script_at(d.map, at + 2 + d.orig.len);
+    let value_s = text_past_if(d.map, 32, d.script.len, script);
+    text_past_if(d.map, 256, d.value_s.len, value_s)
+}
+
+// Writes a numeric edge. The texts of its fields are parts of o (orig_txt), c (script) and v (value_s).
+pub fn write_numeric(
+    out: &mut [u8],
+    at: usize,
+    start: Place,
+    end: Place,
+    ty: &[u8],
+    txt: &[u8],
+    d: NumFields,
+    o: &[u8],
+    c: &[u8],
+    v: &[u8],
+) -> Written
+    requires { ⌜ (at ≤ length (now out)) × (length (now ty) < 65536) × (length (now txt) < 65536) × (start .0 < 65536) × (end .0 < 65536) × Writable (now o) (now c) (now v) d ⌝ }
+    ensures answer { λ r. ⌜ r ≡ written (now (out .entry)) at (edgeBytes (numeric (start .0) (end .0) (now (ty .entry)) (now (txt .entry)) (now (o .entry)) (now (c .entry)) (now (v .entry)) d)) ⌝ }
+    ensures bytes { λ _. ⌜ now (out .exit) ≡ writtenTo (now (out .entry)) at (edgeBytes (numeric (start .0) (end .0) (now (ty .entry)) (now (txt .entry)) (now (o .entry)) (now (c .entry)) (now (v .entry)) d)) ⌝ }
+{
+    let head = at + 10 + ty.len() + txt.len();
+    if out.len() < fields_past(d, head) {
+        return Written::NoRoom;
+    }
+    crate::head::put_head(out, at, d.map, start, end, ty, txt);
+    Written::To(put_fields(out, head, d, o, c, v))
+}

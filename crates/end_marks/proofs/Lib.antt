@@ -1,2 +1,0 @@
--- The laws of `end_marks`.
-pub mod MarkLaws

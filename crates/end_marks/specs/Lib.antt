@@ -1,2 +1,0 @@
--- What the marks say.
-pub mod Marks

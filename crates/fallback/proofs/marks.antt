@@ -1,0 +1,3 @@
+-- The proofs of `fallback::marks`.
+mod MarkLaws
+mod WalkLaws

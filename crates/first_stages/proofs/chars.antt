@@ -1,0 +1,3 @@
+-- The proofs of `first_stages::chars`.
+pub mod AddingLaws
+pub mod FirstLaws

@@ -1,0 +1,134 @@
+-- Laws of adding the items of one kind in turn. In order: an item behind the lattice; each item of a list; one item; one item more.
+use mathlib.Core.Path.{_≡_, refl, sym, ap, _∙_, subst}
+use mathlib.Core.Bool.{Bool, true, false, cond}
+use mathlib.Core.List.{List, [], _∷_, _++_, map, map-append}
+use Prim.Native.Nat.{ℕ, zero, suc, _+_, _*_, _≤_, _<_}
+use native.Mathlib.Omega.{arith}
+use native.Mathlib.Nat.{zero-add}
+use lib.ListN.{length, drop, length-drop}
+use lib.Dec.{eqb}
+use borrow.Author.Tests.{eq-eqb, ne-eqb}
+use Rattle.fields.specs.Fields.{leAt}
+use Rattle.fields.proofs.PartLaws.{part-of-drop}
+use Rattle.fields.proofs.FieldsLaws.{leAt-of-part}
+use Rattle.text.specs.Text.{chars}
+use Rattle.pass_list.specs.declared.record.PassEdge.{PassEdge}
+use Rattle.pass_list.specs.StoredEdge.{StoredEdge, Every, cons, EdgeIs}
+use Rattle.pass_list.specs.Stored.{storedOf, storedAt, storedListAt}
+use Rattle.pass_list.specs.Edges.{edgeOf}
+use Rattle.pass_list.proofs.StoredLaws.{items-snoc}
+use Rattle.pass_list.specs.InTurn.{ofKind}
+use Rattle.edge.specs.Edge.{Edge}
+use Rattle.lattice.specs.Lattice.{add, addAll}
+use Rattle.lattice.specs.declared.Lattice.{Lattice}
+use Rattle.lattice.specs.Kept.{Holds}
+use Rattle.lattice.proofs.HoldsLaws.{add-all-append}
+use Rattle.numbers.specs.Listed.{listedEdge}
+use Rattle.pass_edge.specs.Sound.{Sound, StoredIs}
+use Rattle.pass_edge.specs.Adding.{Adds, kindEdges, addIf}
+
+-- ---- an item behind the lattice
+pub item-behind-is : (w : List ℕ) (at : ℕ) → storedAt w (39424 + at) ≡ storedAt (drop 39424 w) at
+unfolding storedAt
+item-behind-is w at = ap storedOf (sym (part-of-drop w 39424 at 56))
+
+pub item-behind : (line t : List ℕ) (w : List ℕ) (at : ℕ) (e : PassEdge) → Sound (chars line) t (storedAt (drop 39424 w) at) → EdgeIs e (storedAt w (39424 + at)) → StoredIs line t e (storedAt (drop 39424 w) at)
+item-behind line t w at e s h = record { is = subst (EdgeIs e) (item-behind-is w at) h; sound = s }
+
+-- its kind can be read alone
+pub kind-behind : (w : List ℕ) (at : ℕ) → leAt w (39424 + at + 4) 2 ≡ storedAt (drop 39424 w) at .kind
+unfolding storedAt storedOf
+kind-behind w at = sym (leAt-of-part w (39424 + at) 56 4 2 (omega arith)) ∙ ap (λ (x : StoredEdge). x .kind) (item-behind-is w at)
+
+-- ---- each item of a list
+every-items : (P : StoredEdge → Type 0) (s : List ℕ) (i n j : ℕ) → Every P (storedListAt s i n) → j < n → P (storedAt s ((i + j) * 56))
+unfolding storedListAt
+every-items P s i zero j e h = absurd (omega arith)
+every-items P s i (suc n) zero (cons p e) h = let z : i + 0 ≡ i = omega arith in rw z p
+every-items P s i (suc n) (suc j) (cons p e) h = let z : i + suc j ≡ suc i + j = omega arith in rw z (every-items P s (suc i) n j e (omega arith))
+
+pub item-of : (P : StoredEdge → Type 0) (s : List ℕ) (n j : ℕ) → Every P (storedListAt s 0 n) → j < n → P (storedAt s (j * 56))
+item-of P s n j e h = rw zero-add at (every-items P s 0 n j e h)
+
+-- ---- one item
+module _ (w t : List ℕ) (k : ℕ) (es : List Edge) (x : StoredEdge) where
+  adds : x .kind ≡ k → add es (listedEdge (edgeOf w t x)) ≡ addIf w t k es x
+  unfolding addIf
+  adds h = rw (eq-eqb (x .kind) k h)
+
+  pub passes-over : (x .kind ≡ k → ⊥) → es ≡ addIf w t k es x
+  unfolding addIf
+  passes-over h = rw (ne-eqb (x .kind) k h)
+
+-- the item x is of kind k, and was added
+pub added-if : (line t : List ℕ) (k : ℕ) (e : PassEdge) (x : StoredEdge) → StoredIs line t e x → x .kind ≡ k → {s u : List ℕ} {l r : Lattice} → Adds line t e s l u r → (es : List Edge) → Holds s l es
+    → Holds u r (addIf (chars line) t k es x)
+added-if line t k e x is z a es h = rw (← adds (chars line) t k es x z) (a .holds es x h is)
+
+-- ---- one item more
+of-kind-append : (k : ℕ) (l m : List StoredEdge) → ofKind k (l ++ m) ≡ ofKind k l ++ ofKind k m
+unfolding ofKind
+of-kind-append k [] m = refl
+of-kind-append k (x ∷ l) m = go (eqb (x .kind) k) (of-kind-append k l m)
+  where
+    go : (b : Bool) → ofKind k (l ++ m) ≡ ofKind k l ++ ofKind k m → cond b (x ∷ ofKind k (l ++ m)) (ofKind k (l ++ m)) ≡ cond b (x ∷ ofKind k l) (ofKind k l) ++ ofKind k m
+    go true e = ap (λ (r : List StoredEdge). x ∷ r) e
+    go false e = e
+
+module _ (w t : List ℕ) (k : ℕ) (es : List Edge) where
+  edges-append : (l m : List StoredEdge) → kindEdges w t k (l ++ m) ≡ kindEdges w t k l ++ kindEdges w t k m
+  edges-append l m =
+      ap (λ (r : List StoredEdge). map listedEdge (map (edgeOf w t) r)) (of-kind-append k l m)
+      ∙ ap (map listedEdge) (map-append (edgeOf w t) (ofKind k l) (ofKind k m))
+      ∙ map-append listedEdge (map (edgeOf w t) (ofKind k l)) (map (edgeOf w t) (ofKind k m))
+
+  one-edge : (fs : List Edge) (x : StoredEdge) → addAll fs (kindEdges w t k (x ∷ [])) ≡ addIf w t k fs x
+  unfolding ofKind addIf addAll
+  one-edge fs x = go (eqb (x .kind) k)
+    where
+      go : (b : Bool) → addAll fs (map listedEdge (map (edgeOf w t) (cond b (x ∷ []) []))) ≡ cond b (add fs (listedEdge (edgeOf w t x))) fs
+      go true = refl
+      go false = refl
+
+  pub add-more : (s : List ℕ) (i : ℕ) → addAll es (kindEdges w t k (storedListAt s 0 (i + 1))) ≡ addIf w t k (addAll es (kindEdges w t k (storedListAt s 0 i))) (storedAt s (i * 56))
+  add-more s i =
+      let z : 0 + i ≡ i = omega arith in
+      let x = storedAt s ((0 + i) * 56) in
+      ap (λ (l : List StoredEdge). addAll es (kindEdges w t k l)) (items-snoc s 0 i)
+      ∙ ap (addAll es) (edges-append (storedListAt s 0 i) (x ∷ []))
+      ∙ add-all-append es (kindEdges w t k (storedListAt s 0 i)) (kindEdges w t k (x ∷ []))
+      ∙ one-edge (addAll es (kindEdges w t k (storedListAt s 0 i))) x
+      ∙ ap (λ (j : ℕ). addIf w t k (addAll es (kindEdges w t k (storedListAt s 0 i))) (storedAt s (j * 56))) z
+
+  pub add-none : (s : List ℕ) → es ≡ addAll es (kindEdges w t k (storedListAt s 0 0))
+  unfolding storedListAt ofKind addAll
+  add-none s = refl
+
+-- ---- the loop: i items are looked at; s and l are the work space and the lattice before, u and r those now
+pub record Adding (w t : List ℕ) (k n : ℕ) (s : List ℕ) (l : Lattice) (u : List ℕ) (r : Lattice) (i : ℕ) : Type 0 where
+  pub inside : i ≤ n
+  pub long : length u ≡ length s
+  pub frame : drop 39424 u ≡ drop 39424 s
+  pub holds : (es : List Edge) → Holds s l es → Holds u r (addAll es (kindEdges w t k (storedListAt (drop 39424 s) 0 i)))
+
+pub adding-none : (w t : List ℕ) (k n : ℕ) (s : List ℕ) (l : Lattice) → Adding w t k n s l s l 0
+adding-none w t k n s l = record { inside = omega arith; long = refl; frame = refl; holds = λ es h. subst (Holds s l) (add-none w t k es (drop 39424 s)) h }
+
+-- a list of which nothing behind the lattice changed is as long as before
+same-long : (s u : List ℕ) → 39424 ≤ length s → 39424 ≤ length u → drop 39424 u ≡ drop 39424 s → length u ≡ length s
+same-long s u h k e = omega (arith, length-drop 39424 s, length-drop 39424 u, ap length e)
+
+module _ (w t : List ℕ) (k n : ℕ) (s : List ℕ) (l : Lattice) (u : List ℕ) (r : Lattice) (i : ℕ) (a : Adding w t k n s l u r i) where
+  pub item-sound : Every (Sound w t) (storedListAt (drop 39424 s) 0 n) → i < n → Sound w t (storedAt (drop 39424 u) (i * 56))
+  item-sound e h = rw (a .frame) (item-of (Sound w t) (drop 39424 s) n i e h)
+
+  pub adding-more : (v : List ℕ) (m : Lattice) → (es : List Edge) → Holds s l es → i < n → drop 39424 v ≡ drop 39424 u
+      → ((fs : List Edge) → Holds u r fs → Holds v m (addIf w t k fs (storedAt (drop 39424 u) (i * 56)))) → Adding w t k n s l v m (i + 1)
+  adding-more v m es h j f g =
+      let frame : drop 39424 v ≡ drop 39424 s = f ∙ a .frame in
+      let more : (fs : List Edge) → Holds s l fs → Holds v m (addAll fs (kindEdges w t k (storedListAt (drop 39424 s) 0 (i + 1)))) =
+      λ fs q. rw (add-more w t k fs (drop 39424 s) i) (rw (a .frame) at (g (addAll fs (kindEdges w t k (storedListAt (drop 39424 s) 0 i))) (a .holds fs q))) in
+      record { inside = omega arith; long = same-long s v (h .room) (more es h .room) frame; frame = frame; holds = more }
+
+  pub adding-all : n ≤ i → (es : List Edge) → Holds s l es → Holds u r (addAll es (kindEdges w t k (storedListAt (drop 39424 s) 0 n)))
+  adding-all h es q = let e : i ≡ n = omega (arith, a .inside) in subst (λ (j : ℕ). Holds u r (addAll es (kindEdges w t k (storedListAt (drop 39424 s) 0 j)))) e (a .holds es q)

@@ -1,0 +1,39 @@
+-- What the stage of the line's characters leaves. Definitions only.
+--     Room s l line offs             what adding a line's characters asks: a lattice l in the work space s, room for the items behind it, the line's offsets
+--     Grown line t s l u r           from the work space s with lattice l to u: the lattice r has the edges of the items behind it besides
+--     Adding line t rs k s l u r     of the first k characters those with a record among rs were added, from the work space s with lattice l to u: as r says
+--     FirstDone line t h s l u r     the edges of the line's characters were added, from the work space s with lattice l to u: the lattice and the items' count r
+--     Assumes nothing.
+use mathlib.Core.List.{List}
+use Prim.Native.Nat.{ℕ, _≤_}
+use lib.ListN.{length, drop}
+use Rattle.text.specs.Text.{chars}
+use Rattle.table.specs.Table.{Record}
+use Rattle.table.specs.declared.shape.Shape.{Shape}
+use Rattle.edge.specs.Edge.{Edge}
+use Rattle.lattice.specs.declared.Lattice.{Lattice}
+use Rattle.lattice.specs.Lattice.{addAll}
+use Rattle.lattice.specs.Kept.{Holds}
+use Rattle.numbers.specs.Ready.{Offsets}
+use Rattle.characters.specs.Initial.{SoFar, Initial}
+use Rattle.first_stages.specs.Five.{listedStored, behind, PassList}
+use Rattle.first_stages.specs.declared.chars.First.{First}
+
+pub record Room (s : List ℕ) (l : Lattice) (line offs : List ℕ) : Type 0 where
+  pub holds : (es : List Edge) × Holds s l es
+  pub offsets : Offsets line offs
+  pub few : length (chars line) ≤ 256
+  pub long : 65536 ≤ length s
+
+-- the lattice l and the edges of the items behind it
+abbrev pub Grown : List ℕ → List ℕ → List ℕ → Lattice → List ℕ → First → Type 0
+Grown line t s l u r = (es : List Edge) → Holds s l es → Holds u (r .lattice) (addAll es (listedStored (chars line) t (behind u (r .count))))
+
+pub record Adding (line t : List ℕ) (rs : List Record) (k : ℕ) (s : List ℕ) (l : Lattice) (u : List ℕ) (r : First) : Type 0 where
+  pub so-far : SoFar (chars line) t rs k (drop 39424 u) (r .count)
+  pub holds : Grown line t s l u r
+
+pub record FirstDone (line t : List ℕ) (h : Shape) (s : List ℕ) (l : Lattice) (u : List ℕ) (r : First) : Type 0 where
+  pub initial : Initial line t h (drop 39424 u) (r .count)
+  pub list : PassList (chars line) t 1 u (r .count)
+  pub holds : Grown line t s l u r

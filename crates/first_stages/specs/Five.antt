@@ -1,0 +1,60 @@
+-- The five passes in the work space, and what they add to the lattice. w are the line's code points, t the table's bytes. Definitions only.
+--     listedStored w t l         the edges that the items l stand for, as they are listed
+--     PassList w t k s n        s begins with a pass list of n items, all sound and of kinds before k
+--     OneIs .. r, FiveIs .. r   the i-th pass, and all five, answered r: the start of the first joined edge above TOP, or the lattice with the joined edges
+--     Assumes nothing.
+use mathlib.Core.Path.{_≡_}
+use mathlib.Core.List.{List, map}
+use mathlib.Core.Option.{none, some}
+use Prim.Native.Nat.{ℕ, suc, _+_, _≤_, _<_}
+use lib.ListN.{length, drop}
+use Rattle.passes.specs.Passes.{five}
+use Rattle.pass_list.specs.StoredEdge.{StoredEdge, Every}
+use Rattle.pass_list.specs.StoredPass.{after, added, firstAbove}
+use Rattle.pass_list.specs.Stored.{storedListAt}
+use Rattle.pass_list.specs.Edges.{edgeOf}
+use Rattle.pass_list.specs.InTurn.{through, addedBy}
+use Rattle.pass_run.specs.Nth.{nth}
+use Rattle.edge.specs.Edge.{Edge}
+use Rattle.lattice.specs.declared.Lattice.{Lattice}
+use Rattle.lattice.specs.Lattice.{addAll}
+use Rattle.lattice.specs.Kept.{Holds}
+use Rattle.pass_edge.specs.Sound.{Sounds}
+use Rattle.numbers.specs.Listed.{listedEdge}
+use Rattle.first_stages.specs.declared.five_passes.Passes.{Passes}
+use Rattle.first_stages.specs.declared.five_passes.Passes.the-variants.{Added, Above}
+
+abbrev pub listedStored : List ℕ → List ℕ → List StoredEdge → List Edge
+listedStored w t l = map listedEdge (map (edgeOf w t) l)
+
+-- the list behind the lattice
+abbrev pub behind : List ℕ → ℕ → List StoredEdge
+behind s n = storedListAt (drop 39424 s) 0 n
+
+pub record PassList (w t : List ℕ) (k : ℕ) (s : List ℕ) (n : ℕ) : Type 0 where
+  pub sounds : Sounds w t (behind s n)
+  pub kinds : Every (λ x. x .kind < k) (behind s n)
+  pub few : n ≤ 256
+
+pub record OneDone (w t : List ℕ) (i : ℕ) (s : List ℕ) (l : Lattice) (n : ℕ) (u : List ℕ) (m : Lattice) (k : ℕ) : Type 0 where
+  pub below : firstAbove (added (nth i) (behind s n)) ≡ none
+  pub list : behind u k ≡ after (nth i) (behind s n)
+  pub next : PassList w t (suc (suc i)) u k
+  pub joined : Sounds w t (added (nth i) (behind s n))
+  pub holds : (es : List Edge) → Holds s l es → Holds u m (addAll es (listedStored w t (added (nth i) (behind s n))))
+
+unfoldable pub OneIs : List ℕ → List ℕ → ℕ → List ℕ → Lattice → ℕ → List ℕ → Passes → Type 0
+OneIs w t i s l n u (Above p) = firstAbove (added (nth i) (behind s n)) ≡ some (p .0)
+OneIs w t i s l n u (Added m k) = OneDone w t i s l n u m k
+
+pub record FiveDone (w t s : List ℕ) (l : Lattice) (n : ℕ) (u : List ℕ) (m : Lattice) (k : ℕ) : Type 0 where
+  pub below : firstAbove (addedBy five (behind s n)) ≡ none
+  pub list : behind u k ≡ through five (behind s n)
+  pub sounds : Sounds w t (behind u k)
+  pub few : k ≤ 256
+  pub joined : Sounds w t (addedBy five (behind s n))
+  pub holds : (es : List Edge) → Holds s l es → Holds u m (addAll es (listedStored w t (addedBy five (behind s n))))
+
+unfoldable pub FiveIs : List ℕ → List ℕ → List ℕ → Lattice → ℕ → List ℕ → Passes → Type 0
+FiveIs w t s l n u (Above p) = firstAbove (addedBy five (behind s n)) ≡ some (p .0)
+FiveIs w t s l n u (Added m k) = FiveDone w t s l n u m k

@@ -1,0 +1,165 @@
+// The five passes on the list in the work space, behind the lattice (01, "Five passes, D1 to G4").
+ghost use mathlib.Core.Path.{_≡_};
+ghost use Prim.Native.Nat.{_+_, _*_, _≤_, suc, _<_};
+ghost use mathlib.Core.List.{List, map};
+ghost use lib.ListN.{length, drop};
+ghost use Rattle.text.specs.Text.{chars};
+ghost use Rattle.pass_list.specs.Edges.{edgeOf};
+ghost use Rattle.pass_list.specs.Stored.{storedAt, storedListAt};
+ghost use Rattle.pass_list.specs.InTurn.{ofKind};
+ghost use Rattle.numbers.specs.Ready.{Offsets};
+ghost use Rattle.edge.specs.Edge.{Edge};
+ghost use Rattle.lattice.specs.Lattice.{addAll};
+ghost use Rattle.lattice.specs.Kept.{Holds};
+ghost use Rattle.numbers.specs.Listed.{listedEdge};
+ghost use Rattle.pass_edge.specs.Sound.{Sound, Sounds};
+ghost use Rattle.pass_edge.specs.Adding.{Asks, Adds, addIf};
+ghost use Rattle.first_stages.specs.Five.{PassList, OneIs, FiveIs};
+use lattice::Lattice;
+use pass_edge::Fraction;
+use pass_list::record::PassEdge;
+use pass_list::run::Passed;
+use text::Place;
+
+// What the passes give: the lattice with the joined edges and how many edges the list has then; or the start of the first joined edge above TOP.
+pub enum Passes {
+    Added(Lattice, usize),
+    Above(Place),
+}
+
+// A joined item is added: its type is the pass, its txt its digits or its value.
+fn add_joined(
+    w: &mut [u8],
+    l: Lattice,
+    line: &[u8],
+    offs: &[usize; 257],
+    table: &[u8],
+    x: PassEdge,
+) -> Lattice
+    requires { ⌜ Asks (now w) l (now line) (now offs) (now table) x × (x .kind ≡ 0 → ⊥) ⌝ }
+    ensures { λ r. ⌜ Adds (now (line .entry)) (now (table .entry)) x (now (w .entry)) l (now (w .exit)) r ⌝ }
+{
+    let mut ty = [0u8; 60];
+    let mut txt = [0u8; 256];
+    let ty_len = pass_edge::edge_type::type_of(&mut ty, table, x);
+    let len = pass_edge::txt::txt_of(&mut txt, line, offs, table, x);
+    pass_edge::listed::add_texts(
+        w,
+        l,
+        line,
+        offs,
+        table,
+        x,
+        Fraction {
+            there: false,
+            numerator: 0,
+            denominator: 0,
+        },
+        &ty[..ty_len],
+        &txt[..len],
+    )
+}
+
+// The i-th item of the list behind the lattice is added, if it is of this kind. The others are told by their kind alone: most are of another.
+fn add_if(
+    w: &mut [u8],
+    l: Lattice,
+    line: &[u8],
+    offs: &[usize; 257],
+    table: &[u8],
+    i: usize,
+    kind: u16,
+) -> Lattice
+    requires { ⌜ ((es : List Edge) × Holds (now w) l es) × Offsets (now line) (now offs) × (length (chars (now line)) ≤ 256) × Sound (chars (now line)) (now table) (storedAt (drop 39424 (now w)) (i * 56)) × (39424 + i * 56 + 56 ≤ length (now w)) × (kind ≡ 0 → ⊥) ⌝ }
+    ensures { λ r. ⌜ (drop 39424 (now (w .exit)) ≡ drop 39424 (now (w .entry))) × ((es : List Edge) → Holds (now (w .entry)) l es → Holds (now (w .exit)) r (addIf (chars (now (line .entry))) (now (table .entry)) kind es (storedAt (drop 39424 (now (w .entry))) (i * 56)))) ⌝ }
+{
+    let at = 39424 + i * 56;
+    let found = fields::u16_at(w, at + 4);
+    if found != kind {
+        return l;
+    }
+    let x = pass_list::read::get(w, at);
+    add_joined(w, l, line, offs, table, x)
+}
+
+// The stage: of the n items of the list behind the lattice, those of a kind are added in turn.
+fn add_of_kind(
+    w: &mut [u8],
+    l: Lattice,
+    line: &[u8],
+    offs: &[usize; 257],
+    table: &[u8],
+    n: usize,
+    kind: u16,
+) -> Lattice
+    requires { ⌜ ((es : List Edge) × Holds (now w) l es) × Offsets (now line) (now offs) × (length (chars (now line)) ≤ 256) × Sounds (chars (now line)) (now table) (storedListAt (drop 39424 (now w)) 0 n) × (39424 + n * 56 ≤ length (now w)) × (kind ≡ 0 → ⊥) ⌝ }
+    ensures { λ r. ⌜ (drop 39424 (now (w .exit)) ≡ drop 39424 (now (w .entry))) × ((es : List Edge) → Holds (now (w .entry)) l es → Holds (now (w .exit)) r (addAll es (map listedEdge (map (edgeOf (chars (now (line .entry))) (now (table .entry))) (ofKind kind (storedListAt (drop 39424 (now (w .entry))) 0 n)))))) ⌝ }
+{
+    // two words, not a structure: one that is handed back in two pieces and copied as a whole makes the processor wait
+    let mut count = l.count;
+    let mut len = l.len;
+    let mut i = 0;
+    while i < n {
+        let done = add_if(w, Lattice { count, len }, line, offs, table, i, kind);
+        count = done.count;
+        len = done.len;
+        i += 1;
+    }
+    Lattice { count, len }
+}
+
+// The i-th pass, and the edges that it joins are added to the lattice.
+fn one_pass(
+    w: &mut [u8],
+    l: Lattice,
+    line: &[u8],
+    offs: &[usize; 257],
+    table: &[u8],
+    n: usize,
+    i: usize,
+) -> Passes
+    requires { ⌜ ((es : List Edge) × Holds (now w) l es) × Offsets (now line) (now offs) × (length (chars (now line)) ≤ 256) × (65536 ≤ length (now w)) × PassList (chars (now line)) (now table) (suc i) (now w) n × (i < 5) ⌝ }
+    ensures { λ r. ⌜ OneIs (chars (now (line .entry))) (now (table .entry)) i (now (w .entry)) l n (now (w .exit)) r ⌝ }
+{
+    match pass_run::nth::pass_behind(w, n, i) {
+        Passed::Above(p) => Passes::Above(p),
+        Passed::Edges(k) => {
+            // as many edges as before: none is joined
+            if k == n {
+                return Passes::Added(l, k);
+            }
+            let m = add_of_kind(w, l, line, offs, table, k, (i + 1) as u16);
+            Passes::Added(m, k)
+        }
+    }
+}
+
+// The five passes in turn over the n items behind the lattice.
+pub fn five_passes(
+    w: &mut [u8],
+    l: Lattice,
+    line: &[u8],
+    offs: &[usize; 257],
+    table: &[u8],
+    n: usize,
+) -> Passes
+    requires { ⌜ ((es : List Edge) × Holds (now w) l es) × Offsets (now line) (now offs) × (length (chars (now line)) ≤ 256) × (65536 ≤ length (now w)) × PassList (chars (now line)) (now table) 1 (now w) n ⌝ }
+    ensures { λ r. ⌜ FiveIs (chars (now (line .entry))) (now (table .entry)) (now (w .entry)) l n (now (w .exit)) r ⌝ }
+{
+    let mut grown = l;
+    let mut count = n;
+    let mut i = 0;
+    while i < 5 {
+        match one_pass(w, grown, line, offs, table, count, i) {
+            Passes::Above(p) => {
+                return Passes::Above(p);
+            }
+            Passes::Added(m, k) => {
+                grown = m;
+                count = k;
+                i += 1;
+            }
+        }
+    }
+    Passes::Added(grown, count)
+}

@@ -1,0 +1,30 @@
+// The edges given to the call come first into the lattice (01, "Output order": "order of first addition, given edges first").
+ghost use mathlib.Core.Path.{_≡_};
+ghost use mathlib.Core.Bool.{true};
+ghost use mathlib.Core.List.{List};
+ghost use Prim.Native.Nat.{ℕ};
+ghost use lib.ListN.{drop};
+ghost use Rattle.edge.specs.Edge.{Edge};
+ghost use Rattle.edge.specs.Layout.{listed};
+ghost use Rattle.edge.specs.Check.{checkListing};
+ghost use Rattle.edge.specs.declared.ListingCheck.the-variants.{Edges};
+ghost use Rattle.lattice.specs.Lattice.{addAll};
+ghost use Rattle.lattice.specs.Kept.{Holds};
+use lattice::Lattice;
+
+// The edges of an accepted listing are added, one after the other from its front.
+pub fn add_all_given(w: &mut [u8], l: Lattice, given: &[u8], count: usize) -> Lattice
+    requires { ⌜ ((es : List Edge) × Holds (now w) l es) × ((n : ℕ) × (checkListing true n (now given) ≡ Edges count)) ⌝ }
+    ensures { λ r. ⌜ (drop 39424 (now (w .exit)) ≡ drop 39424 (now (w .entry))) × ((es : List Edge) → Holds (now (w .entry)) l es → Holds (now (w .exit)) r (addAll es (listed (now (given .entry))))) ⌝ }
+{
+    let mut grown = l;
+    let mut at = 2;
+    let mut left = count;
+    while 0 < left {
+        let next = edge::next::next_at(given, at);
+        grown = lattice_add::given::add_given(w, grown, given, at, next);
+        at = next;
+        left -= 1;
+    }
+    grown
+}

@@ -1,2 +1,0 @@
--- The passes in the work space.
-pub mod Five

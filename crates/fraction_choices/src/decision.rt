@@ -1,0 +1,203 @@
+// What the marker at a place leads to (01, "The rest of the call"): from the neighbours of the place in the lattice.
+ghost use mathlib.Core.Path.{_≡_};
+ghost use mathlib.Core.List.{List};
+ghost use Prim.Native.Nat.{_+_, _≤_, _<_};
+ghost use lib.ListN.{length, getD};
+ghost use Rattle.edge.specs.Edge.{Edge};
+ghost use Rattle.edge.specs.Layout.{nextAt, edgeAt};
+ghost use Rattle.lattice.specs.Kept.{noEdge};
+ghost use Rattle.numbers.specs.Listed.{wholeValue};
+ghost use Rattle.numbers.specs.Fractions.{isNumeric, marked, byMarker};
+ghost use Rattle.markers.specs.Marks.{markerOf};
+ghost use Rattle.fraction_choices.specs.Choice.{outcomeOf, Valid};
+ghost use Rattle.fraction_choices.specs.Around.{Keeps, Around};
+ghost use Rattle.fraction_choices.specs.Decision.{sizeOf, optionOf, WholeValued, otherwiseOf, bothOf, withValuesOf, betweenOf};
+use lattice::Lattice;
+use markers::Marker;
+use text::Place;
+
+// The decision at one place. form 0: nothing; 1: "right%" from the values; 2: "right/left"; 3: the right neighbour's txt and "%", from the marker on.
+// left and right are indices of edges in the lattice, 0 where they are not used.
+pub struct Choice {
+    pub form: usize,
+    pub left: usize,
+    pub right: usize,
+}
+
+// The value of an edge as a whole number, where it has one.
+pub enum Value {
+    Whole(u64),
+    Nothing,
+}
+
+// The value of the edge at an offset.
+fn whole_value_at(w: &[u8], at: usize) -> Value
+    requires { ⌜ (nextAt (now w) at ≤ length (now w)) × WholeValued (edgeAt (now w) at) ⌝ }
+    ensures { λ r. ⌜ optionOf r ≡ wholeValue (edgeAt (now (w .entry)) at) ⌝ }
+{
+    let e = edge::head::edge_at(w, at);
+    if !edge::bit(e.map, 1) {
+        return Value::Nothing;
+    }
+    if !edge::bit(e.map, 2) {
+        return Value::Nothing;
+    }
+    let d = edge::numeric::fields_at(e.map, w, e.fields);
+    Value::Whole(whole::to_u64(f64::from_bits(d.value)))
+}
+
+// The value of the i-th edge.
+fn whole_value(w: &[u8], l: Lattice, i: usize) -> Value
+    requires { ⌜ ((es : List Edge) × Keeps (now w) l es) × (i < l .count) ⌝ }
+    ensures { λ r. ⌜ ((es : List Edge) → Keeps (now (w .entry)) l es → optionOf r ≡ wholeValue (getD es i noEdge)) ⌝ }
+{
+    let at = lattice::offset_at(w, l, i);
+    whole_value_at(w, at)
+}
+
+// Whether the i-th edge is numeric.
+fn is_numeric(w: &[u8], l: Lattice, i: usize) -> bool
+    requires { ⌜ ((es : List Edge) × Keeps (now w) l es) × (i < l .count) ⌝ }
+    ensures { λ r. ⌜ ((es : List Edge) → Keeps (now (w .entry)) l es → r ≡ isNumeric (getD es i noEdge)) ⌝ }
+{
+    let at = lattice::offset_at(w, l, i);
+    edge::bit(fields::u16_at(w, at), 1)
+}
+
+// "Otherwise a percentage marker with a numeric right neighbour": right is one more than its index, 0 for none.
+fn otherwise(w: &[u8], l: Lattice, percent: bool, right: usize) -> Choice
+    requires { ⌜ ((es : List Edge) × Keeps (now w) l es) × (right ≤ l .count) ⌝ }
+    ensures { λ r. ⌜ ((es : List Edge) → Keeps (now (w .entry)) l es → r ≡ otherwiseOf percent es right) ⌝ }
+{
+    if !percent {
+        return Choice {
+            form: 0,
+            left: 0,
+            right: 0,
+        };
+    }
+    if right == 0 {
+        return Choice {
+            form: 0,
+            left: 0,
+            right: 0,
+        };
+    }
+    if !is_numeric(w, l, right - 1) {
+        return Choice {
+            form: 0,
+            left: 0,
+            right: 0,
+        };
+    }
+    Choice {
+        form: 3,
+        left: 0,
+        right: right - 1,
+    }
+}
+
+// Both neighbours have values: the left one decides.
+fn both(percent: bool, other: Choice, left: usize, value: u64, right: usize) -> Choice
+    ensures { λ r. ⌜ r ≡ bothOf percent other left value right ⌝ }
+{
+    if value == 100 {
+        return Choice {
+            form: 1,
+            left,
+            right,
+        };
+    }
+    if percent {
+        return other;
+    }
+    if value == 0 {
+        return other;
+    }
+    Choice {
+        form: 2,
+        left,
+        right,
+    }
+}
+
+// Both neighbours are there, with these values.
+fn with_values(
+    percent: bool,
+    other: Choice,
+    left: usize,
+    left_value: Value,
+    right: usize,
+    right_value: Value,
+) -> Choice
+    ensures { λ r. ⌜ r ≡ withValuesOf percent other left (optionOf «left_value») right (optionOf «right_value») ⌝ }
+{
+    match left_value {
+        Value::Nothing => other,
+        Value::Whole(v) => match right_value {
+            Value::Nothing => other,
+            Value::Whole(_) => both(percent, other, left, v, right),
+        },
+    }
+}
+
+// The choice between two neighbours, each one more than its index, 0 for none.
+fn between(w: &[u8], l: Lattice, percent: bool, other: Choice, left: usize, right: usize) -> Choice
+    requires { ⌜ ((es : List Edge) × Keeps (now w) l es) × (left ≤ l .count) × (right ≤ l .count) ⌝ }
+    ensures { λ r. ⌜ ((es : List Edge) → Keeps (now (w .entry)) l es → r ≡ betweenOf percent other es left right) ⌝ }
+{
+    if left == 0 {
+        return other;
+    }
+    if right == 0 {
+        return other;
+    }
+    let i = left - 1;
+    let j = right - 1;
+    let u = whole_value(w, l, i);
+    let v = whole_value(w, l, j);
+    with_values(percent, other, i, u, j, v)
+}
+
+// What a marker of n characters at a place leads to: percent, or a connector.
+fn marked(
+    w: &[u8],
+    l: Lattice,
+    lefts: &[usize; 257],
+    rights: &[usize; 257],
+    percent: bool,
+    p: usize,
+    n: usize,
+) -> Choice
+    requires { ⌜ ((es : List Edge) × Around (now w) l (now lefts) (now rights) es) × (p + n ≤ 256) ⌝ }
+    ensures { λ r. ⌜ ((es : List Edge) → Around (now (w .entry)) l (now (lefts .entry)) (now (rights .entry)) es → (outcomeOf es p r ≡ marked percent es p n) × Valid es r) ⌝ }
+{
+    let left = lefts[p];
+    let right = rights[p + n];
+    let other = otherwise(w, l, percent, right);
+    between(w, l, percent, other, left, right)
+}
+
+// What the marker at a place leads to, by the neighbours that the two tables of `neighbors` keep.
+pub fn outcome_at(
+    w: &[u8],
+    l: Lattice,
+    lefts: &[usize; 257],
+    rights: &[usize; 257],
+    marker: Marker,
+    p: Place,
+) -> Choice
+    requires { ⌜ ((es : List Edge) × Around (now w) l (now lefts) (now rights) es) × (p .0 + sizeOf (markerOf marker) ≤ 256) ⌝ }
+    ensures { λ r. ⌜ ((es : List Edge) → Around (now (w .entry)) l (now (lefts .entry)) (now (rights .entry)) es → (outcomeOf es (p .0) r ≡ byMarker es (p .0) (markerOf marker)) × Valid es r) ⌝ }
+{
+    let place = p.0;
+    match marker {
+        Marker::Percentage(n) => marked(w, l, lefts, rights, true, place, n),
+        Marker::Connector(n) => marked(w, l, lefts, rights, false, place, n),
+        Marker::NoMarker => Choice {
+            form: 0,
+            left: 0,
+            right: 0,
+        },
+    }
+}

@@ -1,0 +1,104 @@
+// Fractions and percentages: what the marker at each place leads to.
+// What the markers of a line lead to (01, "The rest of the call"): the choice of each place, decided over the lattice as it stands.
+pub mod decision; // decision.rt: what the marker at one place leads to
+pub mod neighbors; // neighbors.rt: the neighbours of all places
+
+ghost use mathlib.Core.Path.{_≡_};
+ghost use mathlib.Core.List.{List, []};
+ghost use Prim.Native.Nat.{ℕ, _<_};
+ghost use lib.ListN.{length};
+ghost use Rattle.text.specs.Text.{chars};
+ghost use Rattle.table.specs.Answers.{tableOf};
+ghost use Rattle.edge.specs.Edge.{Edge};
+ghost use Rattle.numbers.specs.Ready.{Ready, Offsets};
+ghost use Rattle.numbers.specs.Fractions.{outcomeAt};
+ghost use Rattle.fraction_choices.specs.Choice.{outcomeOf, Valid};
+ghost use Rattle.fraction_choices.specs.Around.{Keeps, Around};
+ghost use Rattle.fraction_choices.specs.Choices.{Decided};
+use crate::decision::Choice;
+use lattice::Lattice;
+use table::shape::Shape;
+use text::Place;
+
+// What the marker at a place leads to. before and behind keep the left and the right neighbours of all places.
+fn choice_at(
+    w: &[u8],
+    l: Lattice,
+    line: &[u8],
+    offs: &[usize; 257],
+    table: &[u8],
+    h: Shape,
+    before: &[usize; 257],
+    behind: &[usize; 257],
+    p: usize,
+) -> Choice
+    requires { ⌜ ((n : ℕ) × Ready (now line) (now table) h n) × Offsets (now line) (now offs) × ((es : List Edge) × Around (now w) l (now before) (now behind) es) × (p < length (chars (now line))) ⌝ }
+    ensures { λ r. ⌜ ((es : List Edge) → Around (now (w .entry)) l (now (before .entry)) (now (behind .entry)) es → (outcomeOf es p r ≡ outcomeAt (tableOf (now (table .entry)) h) (chars (now (line .entry))) es p) × Valid es r) ⌝ }
+{
+    let marker = markers::find::marker_at(line, offs, table, h, Place(p));
+    crate::decision::outcome_at(w, l, before, behind, marker, Place(p))
+}
+
+// The same of all n places.
+fn choose_all(
+    w: &[u8],
+    l: Lattice,
+    line: &[u8],
+    offs: &[usize; 257],
+    table: &[u8],
+    h: Shape,
+    n: usize,
+    before: &[usize; 257],
+    behind: &[usize; 257],
+    forms: &mut [usize; 256],
+    lefts: &mut [usize; 256],
+    rights: &mut [usize; 256],
+)
+    requires { ⌜ Ready (now line) (now table) h n × Offsets (now line) (now offs) × ((es : List Edge) × Around (now w) l (now before) (now behind) es) × (length (now forms) ≡ 256) × (length (now lefts) ≡ 256) × (length (now rights) ≡ 256) ⌝ }
+    ensures { λ _. ⌜ ((es : List Edge) → Around (now (w .entry)) l (now (before .entry)) (now (behind .entry)) es → Decided (tableOf (now (table .entry)) h) (chars (now (line .entry))) es (now (forms .exit)) (now (lefts .exit)) (now (rights .exit)) n) ⌝ }
+{
+    let mut p = 0;
+    while p < n {
+        let c = choice_at(w, l, line, offs, table, h, before, behind, p);
+        forms[p] = c.form;
+        lefts[p] = c.left;
+        rights[p] = c.right;
+        p += 1;
+    }
+}
+
+// The choices of all n places, from the neighbours in the lattice.
+pub fn choose(
+    w: &[u8],
+    l: Lattice,
+    line: &[u8],
+    offs: &[usize; 257],
+    table: &[u8],
+    h: Shape,
+    n: usize,
+    forms: &mut [usize; 256],
+    lefts: &mut [usize; 256],
+    rights: &mut [usize; 256],
+)
+    requires { ⌜ Ready (now line) (now table) h n × Offsets (now line) (now offs) × ((es : List Edge) × Keeps (now w) l es) × (length (now forms) ≡ 256) × (length (now lefts) ≡ 256) × (length (now rights) ≡ 256) ⌝ }
+    ensures { λ _. ⌜ ((es : List Edge) → Keeps (now (w .entry)) l es → Decided (tableOf (now (table .entry)) h) (chars (now (line .entry))) es (now (forms .exit)) (now (lefts .exit)) (now (rights .exit)) n) ⌝ }
+{
+    let mut before = [0usize; 257];
+    let mut behind = [0usize; 257];
+    crate::neighbors::neighbors(w, l, false, &mut before);
+    crate::neighbors::neighbors(w, l, true, &mut behind);
+    choose_all(
+        w,
+        l,
+        line,
+        offs,
+        table,
+        h,
+        n,
+        &before,
+        &behind,
+        forms,
+        lefts,
+        rights,
+    );
+}

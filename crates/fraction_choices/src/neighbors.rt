@@ -1,0 +1,79 @@
+// The right or the left neighbours of all places of the lattice (01, "The rest of the call"), in one walk.
+ghost use mathlib.Core.Path.{_≡_};
+ghost use mathlib.Core.Bool.{cond};
+ghost use mathlib.Core.List.{List};
+ghost use Prim.Native.Nat.{_+_, _≤_, _<_};
+ghost use lib.ListN.{length, getD, set, replicate};
+ghost use lib.Dec.{ltb};
+ghost use Rattle.edge.specs.Edge.{Edge};
+ghost use Rattle.edge.specs.Layout.{edgeAt};
+ghost use Rattle.fraction_choices.specs.Around.{Keeps, sideOf, placeOf, Neighbors};
+use lattice::Lattice;
+use paths::Query;
+use text::Place;
+
+// What is asked for at a place: its right or its left neighbour.
+fn side(right: bool, p: usize) -> Query
+    ensures { λ r. ⌜ r ≡ sideOf right p ⌝ }
+{
+    if right {
+        Query::Right(Place(p))
+    } else {
+        Query::Left(Place(p))
+    }
+}
+
+// The place whose right or left neighbour the edge at an offset may be.
+fn place_at(w: &[u8], at: usize, right: bool) -> usize
+    requires { ⌜ at + 10 ≤ length (now w) ⌝ }
+    ensures { λ r. ⌜ r ≡ placeOf right (edgeAt (now (w .entry)) at) ⌝ }
+{
+    if right {
+        fields::u16_at(w, at + 2) as usize
+    } else {
+        fields::u16_at(w, at + 4) as usize
+    }
+}
+
+// Keeps the edge with index i as the neighbour of a place, where it scores higher than the one kept there.
+fn keep(tops: &mut [usize; 257], table: &mut [usize; 257], place: usize, score: usize, i: usize)
+    requires { ⌜ (place < 257) × (i < 1024) ⌝ }
+    ensures scores { λ _. ⌜ now (tops .exit) ≡ cond (ltb (getD (now (tops .entry)) place 0) score) (set (now (tops .entry)) place score) (now (tops .entry)) ⌝ }
+    ensures indices { λ _. ⌜ now (table .exit) ≡ cond (ltb (getD (now (tops .entry)) place 0) score) (set (now (table .entry)) place (i + 1)) (now (table .entry)) ⌝ }
+{
+    if tops[place] < score {
+        tops[place] = score;
+        table[place] = i + 1;
+    }
+}
+
+// The right or the left neighbours of all places, and their scores. One walk over the lattice.
+fn scored_neighbors(
+    w: &[u8],
+    l: Lattice,
+    right: bool,
+    tops: &mut [usize; 257],
+    table: &mut [usize; 257],
+)
+    requires { ⌜ ((es : List Edge) × Keeps (now w) l es) × (now tops ≡ replicate 257 0) × (now table ≡ replicate 257 0) ⌝ }
+    ensures { λ _. ⌜ ((es : List Edge) → Keeps (now (w .entry)) l es → Neighbors right es (now (table .exit))) ⌝ }
+{
+    let mut at = 2;
+    let mut i = 0;
+    while i < l.count {
+        let place = place_at(w, at, right);
+        let score = paths::score::score_at(w, at, side(right, place), false);
+        keep(tops, table, place, score, i);
+        at = edge::next::next_at(w, at);
+        i += 1;
+    }
+}
+
+// The right or the left neighbours of all places: one more than their indices, 0 for none.
+pub fn neighbors(w: &[u8], l: Lattice, right: bool, table: &mut [usize; 257])
+    requires { ⌜ ((es : List Edge) × Keeps (now w) l es) × (now table ≡ replicate 257 0) ⌝ }
+    ensures { λ _. ⌜ ((es : List Edge) → Keeps (now (w .entry)) l es → Neighbors right es (now (table .exit))) ⌝ }
+{
+    let mut tops = [0usize; 257];
+    scored_neighbors(w, l, right, &mut tops, table);
+}

@@ -1,0 +1,3 @@
+-- The laws of `fractions::deactivate`.
+pub mod KeepsLaws
+pub mod TurnedLaws

@@ -1,0 +1,2 @@
+-- The laws of `fractions::new_edge`.
+pub mod FractionLaws

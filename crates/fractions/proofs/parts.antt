@@ -1,0 +1,3 @@
+-- The laws of `fractions::parts`.
+pub mod EdgeLaws
+pub mod WriteLaws

@@ -1,0 +1,23 @@
+-- `fractions::parts::fraction_fields` meets its contract, by whether there is a script. Assumes nothing.
+use mathlib.Core.Path.{sym}
+use Rattle.fractions.specs.MadeParts.{fractionFields}
+use borrow.Author.Needs.{needs}
+use Rattle.fractions.proofs.parts.fraction_fields.Statement.{statement}
+use Rattle.fractions.proofs.parts.fraction_fields.Tie as tie
+
+enum-told : tie.Need-enum-told
+enum-told c = search needs
+
+enum-known-s : tie.Need-enum-known-s
+enum-known-s c = search needs
+
+returns : tie.Need-returns
+unfolding fractionFields
+returns c = rw (c .enum-told .given .1)
+
+returns-2 : tie.Need-returns-2
+unfolding fractionFields
+returns-2 c = rw (c .before .s .given .1)
+
+pub fraction-fields-spec : {M : Type 1} → statement M
+fraction-fields-spec = tie.close (tie.spec enum-told enum-known-s returns returns-2)

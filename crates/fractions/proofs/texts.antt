@@ -1,0 +1,2 @@
+-- The laws of `fractions::texts`.
+pub mod TextLaws

@@ -1,0 +1,55 @@
+// The edges that the choices of all places use turn inactive (01, "The rest of the call", the stage of fractions and percentages).
+ghost use mathlib.Core.Path.{_≡_};
+ghost use mathlib.Core.List.{List};
+ghost use Prim.Native.Nat.{_≤_, _<_};
+ghost use lib.ListN.{drop};
+ghost use Rattle.edge.specs.Edge.{Edge};
+ghost use Rattle.lattice.specs.Lattice.{turnOff};
+ghost use Rattle.lattice.specs.Kept.{Holds};
+ghost use Rattle.numbers.specs.Fractions.{usedEdges};
+ghost use Rattle.fraction_choices.specs.Choice.{Valid};
+ghost use Rattle.fractions.specs.Outcomes.{outcomesOf, usedBy, AllValid};
+use fraction_choices::decision::Choice;
+use lattice::Lattice;
+
+// The edges that a choice uses turn inactive.
+fn turn_off_used(w: &mut [u8], l: Lattice, c: Choice)
+    requires { ⌜ ((es : List Edge) × Holds (now w) l es × Valid es c) × (l .len ≡ 0 → ⊥) ⌝ }
+    ensures { λ _. ⌜ (drop 39424 (now (w .exit)) ≡ drop 39424 (now (w .entry))) × ((es : List Edge) → Holds (now (w .entry)) l es → Holds (now (w .exit)) l (turnOff es (usedBy c))) ⌝ }
+{
+    let left = c.left;
+    let right = c.right;
+    if c.form == 0 {
+        return;
+    }
+    if c.form == 3 {
+        lattice::turn_off(w, l, right);
+        return;
+    }
+    lattice::turn_off(w, l, left);
+    lattice::turn_off(w, l, right);
+}
+
+// The edges that the choices of n places use turn inactive.
+pub fn turn_off_all(
+    w: &mut [u8],
+    l: Lattice,
+    forms: &[usize; 256],
+    lefts: &[usize; 256],
+    rights: &[usize; 256],
+    n: usize,
+)
+    requires { ⌜ ((es : List Edge) × Holds (now w) l es × AllValid es (now forms) (now lefts) (now rights) n) × (l .len ≡ 0 → ⊥) × (n ≤ 256) ⌝ }
+    ensures { λ _. ⌜ (drop 39424 (now (w .exit)) ≡ drop 39424 (now (w .entry))) × ((es : List Edge) → Holds (now (w .entry)) l es → AllValid es (now (forms .entry)) (now (lefts .entry)) (now (rights .entry)) n → Holds (now (w .exit)) l (turnOff es (usedEdges (outcomesOf es (now (forms .entry)) (now (lefts .entry)) (now (rights .entry)) 0 n)))) ⌝ }
+{
+    let mut p = 0;
+    while p < n {
+        let c = Choice {
+            form: forms[p],
+            left: lefts[p],
+            right: rights[p],
+        };
+        turn_off_used(w, l, c);
+        p += 1;
+    }
+}

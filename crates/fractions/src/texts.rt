@@ -1,0 +1,40 @@
+// The texts of the edges that fractions and percentages make (01, "Fractions and percentages"), at the front of a buffer.
+ghost use mathlib.Core.Path.{_≡_};
+ghost use mathlib.Core.List.{[], _∷_, _++_};
+ghost use Prim.Native.Nat.{_+_, _≤_};
+ghost use lib.ListN.{length};
+ghost use Rattle.whole.specs.Decimal.{decimal};
+ghost use Rattle.edge.specs.View.{textOf};
+ghost use Rattle.fractions.specs.MadeTexts.{TextIs};
+use edge::Part;
+
+// A number and "%".
+pub fn put_percent(buf: &mut [u8; 300], v: u64) -> usize
+    ensures { λ r. ⌜ TextIs (now (buf .exit)) r (decimal v ++ (37 ∷ [])) ⌝ }
+{
+    let end = whole::decimal::put_decimal(buf, 0, v);
+    buf[end] = 37;
+    end + 1
+}
+
+// "right/left".
+pub fn put_fraction(buf: &mut [u8; 300], right: u64, left: u64) -> usize
+    ensures { λ r. ⌜ TextIs (now (buf .exit)) r (decimal right ++ (47 ∷ decimal left)) ⌝ }
+{
+    let n = whole::decimal::put_decimal(buf, 0, right);
+    buf[n] = 47;
+    whole::decimal::put_decimal(buf, n + 1, left)
+}
+
+// A text of the lattice and "%".
+pub fn put_txt_percent(buf: &mut [u8; 300], w: &[u8], t: Part) -> usize
+    requires { ⌜ (t .at + t .len ≤ length (now w)) × (t .len ≤ 256) ⌝ }
+    ensures { λ r. ⌜ TextIs (now (buf .exit)) r (textOf (now (w .entry)) t ++ (37 ∷ [])) ⌝ }
+{
+    let from = t.at;
+    let n = t.len;
+    let to = from + n;
+    fields::copy::copy_in(buf, 0, &w[from..to]);
+    buf[n] = 37;
+    n + 1
+}

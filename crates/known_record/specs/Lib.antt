@@ -1,2 +1,0 @@
--- The definitions that the contracts of `known_record` cite.
-pub mod Walk

@@ -1,0 +1,2 @@
+-- Laws for the proofs of `lattice::ends`.
+pub mod EmptyLaws

@@ -1,0 +1,43 @@
+// The lattice without edges, and its listing in the output (01: "Output order").
+ghost use mathlib.Core.Path.{_≡_};
+ghost use mathlib.Core.List.{List, []};
+ghost use Prim.Native.Nat.{_≤_};
+ghost use lib.ListN.{length, drop};
+ghost use Rattle.edge.specs.Edge.{Edge};
+ghost use Rattle.lattice.specs.Kept.{Holds, finished, finishedOut};
+use crate::Finished;
+use crate::Lattice;
+
+// Where the last edge of each bucket stands.
+const HEADS: usize = 38912;
+
+// A lattice without edges.
+pub fn empty(w: &mut [u8]) -> Lattice
+    requires { ⌜ 39424 ≤ length (now w) ⌝ }
+    ensures { λ r. ⌜ (drop 39424 (now (w .exit)) ≡ drop 39424 (now (w .entry))) × Holds (now (w .exit)) r [] ⌝ }
+{
+    fields::write::put_u16(w, 0, 0);
+    let mut b = 0;
+    while b < 256 {
+        fields::write::put_u16(w, HEADS + 2 * b, 0);
+        b += 1;
+    }
+    Lattice { count: 0, len: 2 }
+}
+
+// The listing goes to the output, or is refused: the output is then as it was.
+pub fn finish(w: &[u8], l: Lattice, out: &mut [u8]) -> Finished
+    requires { ⌜ ((es : List Edge) × Holds (now w) l es) ⌝ }
+    ensures answer { λ r. ⌜ ((es : List Edge) → Holds (now (w .entry)) l es → r ≡ finished (length (now (out .entry))) es) ⌝ }
+    ensures output { λ _. ⌜ ((es : List Edge) → Holds (now (w .entry)) l es → now (out .exit) ≡ finishedOut (now (out .entry)) es) ⌝ }
+{
+    let len = l.len;
+    if l.len == 0 {
+        return Finished::TooLong;
+    }
+    if out.len() < len {
+        return Finished::TooLong;
+    }
+    fields::copy::copy_in(out, 0, &w[..len]);
+    Finished::Listing(len)
+}

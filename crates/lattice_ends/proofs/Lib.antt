@@ -1,2 +1,0 @@
--- Laws for the proofs of `lattice_ends`.
-pub mod EmptyLaws

@@ -1,3 +1,0 @@
--- Laws of the search for an edge, for the proofs of `lattice_find` and its callers'.
-pub mod BucketLaws
-pub mod SearchLaws

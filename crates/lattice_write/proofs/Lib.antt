@@ -1,1 +1,0 @@
--- No laws of its own: those of an edge that is written and added are in `lattice_regular`, proofs/ComposeLaws.antt.

@@ -1,2 +1,0 @@
--- The definitions that the contracts of `listing_rows` cite.
-pub mod ListingRows

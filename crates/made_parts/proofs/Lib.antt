@@ -1,3 +1,0 @@
--- The laws of `made_parts`.
-pub mod EdgeLaws
-pub mod WriteLaws

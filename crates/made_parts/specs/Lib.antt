@@ -1,2 +1,0 @@
--- The definitions that the contracts of `made_parts` cite.
-pub mod MadeParts

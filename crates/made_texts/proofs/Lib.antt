@@ -1,2 +1,0 @@
--- The laws of `made_texts`.
-pub mod TextLaws

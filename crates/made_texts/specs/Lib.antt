@@ -1,2 +1,0 @@
--- The definition that the contracts of `made_texts` cite.
-pub mod MadeTexts

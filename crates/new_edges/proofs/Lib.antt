@@ -1,2 +1,0 @@
--- The laws of `new_edges`.
-pub mod FractionLaws

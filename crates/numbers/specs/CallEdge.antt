@@ -1,0 +1,34 @@
+-- Edges as the call has them in its lattice. Definitions only.
+--     Legals n es       each edge of es may be listed over a line of n characters
+--     Short e x         the texts of e, with numeric data x, are as short as table and line make them
+--     CallEdge n e      e may be listed over a line of n characters; if it is numeric, it is short, and its value is a whole number up to TOP
+--     CallEdges n es    each edge of es is such an edge
+--     Assumes nothing.
+use mathlib.Core.Path.{_≡_}
+use mathlib.Core.Bool.{false}
+use mathlib.Core.List.{List}
+use mathlib.Core.Option.{some}
+use Prim.Native.Nat.{ℕ, _≤_}
+use lib.ListN.{length}
+use Rattle.whole.specs.Whole.{TOP}
+use Rattle.edge.specs.Edge.{Text, Edge, Numeric, f64Bits}
+use Rattle.edge.specs.Legal.{Legal}
+use Rattle.pass_list.specs.StoredEdge.{Every}
+
+abbrev pub Legals : ℕ → List Edge → Type 0
+Legals n = Every (Legal false n)
+
+pub record Short (e : Edge) (x : Numeric) : Type 0 where
+  pub type : length (e .type) ≤ 60
+  pub txt : length (e .txt) ≤ 256
+  pub orig : length (x .orig) ≤ 1024
+  pub script : (t : Text) → x .script ≡ some t → length t ≤ 60
+  pub value-s : (t : Text) → x .value-s ≡ some t → length t ≤ 256
+
+pub record CallEdge (n : ℕ) (e : Edge) : Type 0 where
+  pub legal : Legal false n e
+  pub short : (x : Numeric) → e .num ≡ some x → Short e x
+  pub value : (x : Numeric) (b : ℕ) → e .num ≡ some x → x .value ≡ some b → (v : ℕ) × (v ≤ TOP) × (b ≡ f64Bits v)
+
+abbrev pub CallEdges : ℕ → List Edge → Type 0
+CallEdges n = Every (CallEdge n)

@@ -1,0 +1,22 @@
+-- What the checks of line and table leave for the stages of the call. Definitions only.
+--     Ready line table h n   line and table passed their checks: the line has n characters, and h is the table's shape
+--     Offsets line offs      offs holds the offset of each place of the line, its end included
+--     Assumes nothing.
+use mathlib.Core.Path.{_≡_}
+use mathlib.Core.Bool.{true}
+use mathlib.Core.List.{List}
+use Prim.Native.Nat.{ℕ, _≤_}
+use lib.ListN.{length, getD}
+use Rattle.text.specs.Text.{chars, wellFormed, offsetOf}
+use Rattle.table.specs.Check.{Fine, readTable}
+use Rattle.table.specs.Answers.{tableOf}
+use Rattle.table.specs.declared.shape.Shape.{Shape}
+
+pub record Ready (line table : List ℕ) (h : Shape) (n : ℕ) : Type 0 where
+  pub formed : wellFormed line ≡ true
+  pub count : length (chars line) ≡ n
+  pub few : n ≤ 256
+  pub checked : readTable table ≡ Fine (tableOf table h) (length table)
+
+pub record Offsets (line offs : List ℕ) : Type 0 where
+  pub at : (p : ℕ) → p ≤ length (chars line) → getD offs p 0 ≡ offsetOf line p

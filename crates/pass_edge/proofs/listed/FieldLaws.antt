@@ -1,0 +1,270 @@
+-- Laws of an item's fields. In order: the fraction; a numeric edge by its map and its fields; the item's map; its fields; what can be written.
+use mathlib.Core.Path.{_≡_, refl, sym, ap, _∙_, subst}
+use mathlib.Core.Bool.{Bool, true, false, cond}
+use mathlib.Core.List.{List}
+use mathlib.Core.Option.{Option, none, some, Option·map, Option·some-injective, Option·some-ne-none}
+use Prim.Native.Nat.{ℕ, _+_, _*_, _-_, _≤_, _<_}
+use native.Mathlib.Omega.{arith}
+use lib.ListN.{length, getD}
+use lib.Dec.{eqb}
+use borrow.Author.Tests.{eq-eqb, ne-eqb, eqb-true}
+use Rattle.whole.specs.Decimal.{padded}
+use Rattle.whole.proofs.WholeLaws.{ofNat-not-nan}
+use Rattle.fields.specs.Part.{part}
+use Rattle.fields.proofs.PartLaws.{part-all}
+use Rattle.text.specs.Text.{chars}
+use Rattle.table.specs.Check.{small}
+use Rattle.table.specs.Answers.{optionally}
+use Rattle.pass_list.specs.declared.record.PassEdge.{PassEdge}
+use Rattle.pass_list.specs.StoredEdge.{StoredEdge, passEdge}
+use Rattle.pass_list.specs.Edges.{between, edgeOf, txtOf}
+use Rattle.numbers.specs.Ready.{Offsets}
+use Rattle.edge.specs.declared.NumFields.{NumFields}
+use Rattle.edge.specs.Edge.{Text, Numeric, f64Bits, there, flag, numericMap}
+use Rattle.edge.specs.Layout.{bit, only}
+use Rattle.edge.specs.View.{textOf, numericOf}
+use Rattle.edge.specs.Write.{numeric, fieldsOf, Writable}
+use Rattle.edge.proofs.theorems.ReadBackLaws.{Bits, map-bits}
+use Rattle.numbers.specs.Listed.{listedEdge}
+use Rattle.pass_edge.specs.declared.Fraction.{Fraction}
+use Rattle.pass_edge.specs.Sound.{LegalAt, Sound, StoredIs}
+use Rattle.pass_edge.specs.Texts.{charType, typeOf, TextsAre}
+use Rattle.pass_edge.specs.Fields.{storedFraction, FractionIs, storedMap, partOr, storedFields, Listable}
+use Rattle.pass_edge.proofs.TextLaws.{part-places, spans, Spans, between-short, txt-short, type-short, places-of}
+
+-- ---- the fraction
+pub fraction-joined : (t : List ℕ) (k at : ℕ) → (k ≡ 0 → ⊥) → none ≡ storedFraction t k at
+unfolding storedFraction
+fraction-joined t k at h = rw (ne-eqb k 0 h)
+
+-- ---- a numeric edge by its map and its fields
+only-there : {A : Type 0} (o : Option A) (v : A) (k : ℕ) → k ≡ there o → ((a : A) → o ≡ some a → v ≡ a) → only (eqb k 1) v ≡ o
+only-there none v k e h = rw e
+only-there (some a) v k e h = rw e (ap some (h a refl))
+
+flag-stands : (b : Bool) (k : ℕ) → k ≡ flag b → eqb k 1 ≡ b
+flag-stands true k e = rw e
+flag-stands false k e = rw e
+
+pub record FieldsAre (o c v : List ℕ) (d : NumFields) (n : Numeric) : Type 0 where
+  pub map : d .map ≡ numericMap n
+  pub orig : textOf o (d .orig) ≡ n .orig
+  pub value : (a : ℕ) → n .value ≡ some a → d .value ≡ a
+  pub fraction : (a : ℕ × ℕ) → n .fraction ≡ some a → (d .numerator, d .denominator) ≡ a
+  pub base : (a : ℕ) → n .base ≡ some a → d .base ≡ a
+  pub mult : (a : ℕ) → n .mult ≡ some a → d .«base_multiplier» ≡ a
+  pub script : (a : Text) → n .script ≡ some a → textOf c (d .script) ≡ a
+  pub value-s : (a : Text) → n .value-s ≡ some a → textOf v (d .«value_s») ≡ a
+
+bits-of : (d : NumFields) (n : Numeric) → d .map ≡ numericMap n → Bits n (d .map)
+bits-of d n e = subst (Bits n) (sym e) (map-bits n)
+
+pub numeric-is : (o c v : List ℕ) (d : NumFields) (n : Numeric) → FieldsAre o c v d n → numericOf o c v d ≡ n
+unfolding numericOf
+numeric-is o c v d n f =
+    let b = bits-of d n (f .map) in
+    rw (
+      f .orig,
+      only-there (n .value) (d .value) (bit 1 (d .map)) (b .value) (f .value),
+      only-there (n .fraction) (d .numerator, d .denominator) (bit 2 (d .map)) (b .fraction) (f .fraction),
+      only-there (n .base) (d .base) (bit 3 (d .map)) (b .base) (f .base),
+      only-there (n .mult) (d .«base_multiplier») (bit 4 (d .map)) (b .mult) (f .mult),
+      only-there (n .script) (textOf c (d .script)) (bit 5 (d .map)) (b .script) (f .script),
+      flag-stands (n .large) (bit 6 (d .map)) (b .large),
+      flag-stands (n .active) (bit 7 (d .map)) (b .active),
+      only-there (n .value-s) (textOf v (d .«value_s»)) (bit 8 (d .map)) (b .value-s) (f .value-s),
+    )
+
+-- ---- what an item is listed as
+unfoldable pub numericIn : List ℕ → List ℕ → StoredEdge → Numeric
+numericIn w t x = record {
+  orig = between w (x .start) (x .end);
+  value = Option·map f64Bits (optionally (x .has-value) (x .value));
+  fraction = storedFraction t (x .kind) (x .record-at);
+  base = optionally (x .has-base) (x .base);
+  mult = Option·map f64Bits (optionally (x .has-mult) (x .mult));
+  script = optionally (x .has-script) (part t (x .script-at) (x .script-len));
+  large = x .large-power;
+  active = true;
+  value-s = cond (eqb (x .kind) 1) (some (padded (x .end - x .start) (x .value))) none;
+}
+
+pub listed-is : (w t : List ℕ) (x : StoredEdge) → listedEdge (edgeOf w t x) ≡ record { start = x .start; end = x .end; type = typeOf t x; txt = txtOf w t x; num = some (numericIn w t x) }
+unfolding listedEdge edgeOf numericIn typeOf charType storedFraction
+listed-is w t x = refl
+
+-- ---- the item's map
+-- it is the sum of what the fields that are there are worth
+pub map-summed : (e : PassEdge) (f : Bool) {v r b m s l d : ℕ} → v ≡ 2 * flag (e .num .«has_value») → r ≡ 4 * flag f → b ≡ 8 * flag (e .num .«has_base») → m ≡ 16 * flag (e .num .«has_mult»)
+    → s ≡ 32 * flag (e .num .«has_script») → l ≡ 64 * flag (e .num .«large_power») → d ≡ 256 * flag (eqb (e .kind) 1) → 129 + v + r + b + m + s + l + d ≡ storedMap e f
+map-summed e f hv hr hb hm hs hl hd = rw (hv, hr, hb, hm, hs, hl, hd)
+
+there-only : {A : Type 0} (b : Bool) (a : A) → there (optionally b a) ≡ flag b
+there-only true a = refl
+there-only false a = refl
+
+there-map : {A B : Type 0} (g : A → B) (o : Option A) → there (Option·map g o) ≡ there o
+there-map g none = refl
+there-map g (some a) = refl
+
+there-digits : (b : Bool) (t : Text) → there (cond b (some t) none) ≡ flag b
+there-digits true t = refl
+there-digits false t = refl
+
+flag-small : (b : Bool) → flag b ≤ 1
+flag-small true = omega arith
+flag-small false = omega arith
+
+module _ (w t : List ℕ) (x : StoredEdge) (f : Fraction) (h : FractionIs f (storedFraction t (x .kind) (x .record-at))) where
+  pub map-listed : storedMap (passEdge x) (f .there) ≡ numericMap (numericIn w t x)
+  unfolding numericMap numericIn
+  map-listed =
+      let fraction : there (storedFraction t (x .kind) (x .record-at)) ≡ flag (f .there) = ap there (sym h) ∙ there-only (f .there) (f .numerator, f .denominator) in
+      rw (
+        there-map f64Bits (optionally (x .has-value) (x .value)),
+        there-only (x .has-value) (x .value),
+        fraction,
+        there-only (x .has-base) (x .base),
+        there-map f64Bits (optionally (x .has-mult) (x .mult)),
+        there-only (x .has-mult) (x .mult),
+        there-only (x .has-script) (part t (x .script-at) (x .script-len)),
+        there-digits (eqb (x .kind) 1) (padded (x .end - x .start) (x .value)),
+      )
+      (omega arith)
+
+pub map-small : (e : PassEdge) (f : Bool) → storedMap e f < 512
+map-small e f =
+    omega (
+      arith,
+      flag-small (e .num .«has_value»),
+      flag-small f,
+      flag-small (e .num .«has_base»),
+      flag-small (e .num .«has_mult»),
+      flag-small (e .num .«has_script»),
+      flag-small (e .num .«large_power»),
+      flag-small (eqb (e .kind) 1),
+    )
+
+-- ---- the item's fields
+pub only-told : {A : Type 0} (b : Bool) (u a : A) → optionally b u ≡ some a → u ≡ a
+only-told true u a e = Option·some-injective u a e
+only-told false u a e = absurd (Option·some-ne-none a (sym e))
+
+pub map-told : (g : ℕ → ℕ) (b : Bool) (u a : ℕ) → Option·map g (optionally b u) ≡ some a → g u ≡ a
+map-told g true u a e = Option·some-injective (g u) a e
+map-told g false u a e = absurd (Option·some-ne-none a (sym e))
+
+script-told : (t : List ℕ) (b : Bool) (at n : ℕ) (a : Text) → optionally b (part t at n) ≡ some a → textOf t (partOr b at n) ≡ a
+script-told t true at n a e = Option·some-injective (part t at n) a e
+script-told t false at n a e = absurd (Option·some-ne-none a (sym e))
+
+digits-told : (b : Bool) (txt u a : Text) → (b ≡ true → txt ≡ u) → cond b (some u) none ≡ some a → textOf txt (partOr b 0 (length txt)) ≡ a
+digits-told true txt u a h e = part-all txt ∙ h refl ∙ Option·some-injective u a e
+digits-told false txt u a h e = absurd (Option·some-ne-none a (sym e))
+
+txt-of-digits : (w t : List ℕ) (x : StoredEdge) → eqb (x .kind) 1 ≡ true → txtOf w t x ≡ padded (x .end - x .start) (x .value)
+txt-of-digits w t x e = let k : x .kind ≡ 1 = eqb-true (x .kind) 1 e in rw (ne-eqb (x .kind) 0 (λ o. omega arith), e)
+
+module _ (line offs t : List ℕ) (x : StoredEdge) (f : Fraction) (sound : Sound (chars line) t x) (o : Offsets line offs) (h : FractionIs f (storedFraction t (x .kind) (x .record-at))) (txt : Text) (is : txt ≡ txtOf (chars line) t x) where
+  pub fields-are : FieldsAre line t txt (storedFields offs (passEdge x) f (length txt)) (numericIn (chars line) t x)
+  unfolding storedFields fieldsOf numericIn f64Bits
+  fields-are = record {
+    map = map-listed (chars line) t x f h;
+    orig = part-places line offs (x .start) (x .end) o (omega (arith, sound .made .ordered)) (sound .made .inside);
+    value = map-told f64Bits (x .has-value) (x .value);
+    fraction = λ a e. only-told (f .there) (f .numerator, f .denominator) a (h ∙ e);
+    base = only-told (x .has-base) (x .base);
+    mult = map-told f64Bits (x .has-mult) (x .mult);
+    script = script-told t (x .has-script) (x .script-at) (x .script-len);
+    value-s = λ a e. digits-told (eqb (x .kind) 1) txt (padded (x .end - x .start) (x .value)) a (λ k. is ∙ txt-of-digits (chars line) t x k) e;
+  }
+
+-- ---- what can be written
+part-or-in : (b : Bool) (at n m : ℕ) → (b ≡ true → at + n ≤ m) → partOr b at n .at + partOr b at n .len ≤ m
+part-or-in true at n m h = h refl
+part-or-in false at n m h = omega arith
+
+part-or-len : (b : Bool) (at n m : ℕ) → (b ≡ true → n ≤ m) → partOr b at n .len ≤ m
+part-or-len true at n m h = h refl
+part-or-len false at n m h = omega arith
+
+pub record Room (ty txt : Text) (d : NumFields) : Type 0 where
+  pub all : length ty + length txt + d .orig .len + d .script .len + d .«value_s» .len ≤ 1990
+
+module _ (line offs t : List ℕ) (x : StoredEdge) (f : Fraction) (sound : Sound (chars line) t x) (o : Offsets line offs) (h : FractionIs f (storedFraction t (x .kind) (x .record-at))) (txt : Text) (is : txt ≡ txtOf (chars line) t x) (few : length (chars line) ≤ 256) where
+  orig-spans : Spans line offs (x .start) (x .end)
+  orig-spans = spans line offs (x .start) (x .end) o (omega (arith, sound .made .ordered)) (sound .made .inside)
+
+  orig-len : getD offs (x .end) 0 - getD offs (x .start) 0 ≤ 1024
+  orig-len = omega (arith, orig-spans .long, between-short (chars line) (x .start) (x .end), sound .made .inside)
+
+  txt-len : length txt ≤ 256
+  txt-len = rw is (txt-short (chars line) t x sound few)
+
+  script-len : partOr (x .has-script) (x .script-at) (x .script-len) .len ≤ 60
+  script-len = part-or-len (x .has-script) (x .script-at) (x .script-len) 60 (λ k. sound .rooted .script k .short)
+
+  value-s-len : partOr (eqb (x .kind) 1) 0 (length txt) .len ≤ 256
+  value-s-len = part-or-len (eqb (x .kind) 1) 0 (length txt) 256 (λ k. txt-len)
+
+  writable-item : Writable line t txt (storedFields offs (passEdge x) f (length txt))
+  unfolding storedFields fieldsOf
+  writable-item =
+      let d = storedFields offs (passEdge x) f (length txt) in
+      record {
+        numeric = eq-eqb (bit 0 (d .map)) 1 (bits-of d (numericIn (chars line) t x) (map-listed (chars line) t x f h) .numeric);
+        map = map-small (passEdge x) (f .there);
+        orig = omega (arith, orig-spans .rises, orig-spans .within);
+        script = λ k. part-or-in (x .has-script) (x .script-at) (x .script-len) (length t) (λ b. sound .rooted .script b .within);
+        value-s = λ k. part-or-in (eqb (x .kind) 1) 0 (length txt) (length txt) (λ b. omega arith);
+        orig-len = omega (arith, orig-len);
+        script-len = omega (arith, script-len);
+        value-s-len = omega (arith, value-s-len);
+      }
+
+  room-item : (ty : Text) → length ty ≤ 60 → Room ty txt (storedFields offs (passEdge x) f (length txt))
+  unfolding storedFields fieldsOf
+  room-item ty l = record { all = omega (arith, l, txt-len, orig-len, script-len, value-s-len) }
+
+-- ---- the same of the code's edge e
+module _ (line offs t : List ℕ) (e : PassEdge) (x : StoredEdge) (h : StoredIs line t e x) (o : Offsets line offs) (few : length (chars line) ≤ 256) where
+  pub listable : Listable offs e
+  listable =
+      let p = places-of line t e x h in
+      record {
+        starts = omega (arith, p .0, p .1);
+        ends = omega (arith, p .1);
+        rises = spans line offs (e .start .0) (e .end .0) o (p .0) (p .1) .rises;
+        value = rw (ap (λ (e : PassEdge). e .num .value) (h .is .is)) (ofNat-not-nan (h .sound .small .value));
+        mult = rw (ap (λ (e : PassEdge). e .num .«base_multiplier») (h .is .is)) (ofNat-not-nan (h .sound .small .mult));
+      }
+
+module _ (line offs t : List ℕ) (e : PassEdge) (x : StoredEdge) (f : Fraction) (ty txt : Text) (a : TextsAre line t e ty txt x) (o : Offsets line offs) (few : length (chars line) ≤ 256) (h : FractionIs f (storedFraction t (e .kind) (e .«record_at» .0))) (d : NumFields) (is : d ≡ storedFields offs e f (length txt)) where
+  item-fraction : FractionIs f (storedFraction t (x .kind) (x .record-at))
+  item-fraction = h ∙ ap (λ (e : PassEdge). storedFraction t (e .kind) (e .«record_at» .0)) (a .item .is .is)
+
+  item-fields : storedFields offs (passEdge x) f (length txt) ≡ d
+  item-fields = sym (is ∙ ap (λ (e : PassEdge). storedFields offs e f (length txt)) (a .item .is .is))
+
+  pub writable : Writable line t txt d
+  writable = subst (Writable line t txt) item-fields (writable-item line offs t x f (a .item .sound) o item-fraction txt (a .txt) few)
+
+  pub room : Room ty txt d
+  room =
+      let short : length ty ≤ 60 = rw (a .type) (type-short (chars line) t x (a .item .sound)) in
+      subst (Room ty txt) item-fields (room-item line offs t x f (a .item .sound) o item-fraction txt (a .txt) few ty short)
+
+  pub edge-is : numeric (e .start .0) (e .end .0) ty txt line t txt d ≡ listedEdge (edgeOf (chars line) t x)
+  edge-is =
+      let fields : FieldsAre line t txt d (numericIn (chars line) t x) = subst (λ (d : NumFields). FieldsAre line t txt d (numericIn (chars line) t x)) item-fields (fields-are line offs t x f (a .item .sound) o item-fraction txt (a .txt)) in
+      let num : numericOf line t txt d ≡ numericIn (chars line) t x = numeric-is line t txt d (numericIn (chars line) t x) fields in
+      let from : e .start .0 ≡ x .start = ap (λ (e : PassEdge). e .start .0) (a .item .is .is) in
+      let to : e .end .0 ≡ x .end = ap (λ (e : PassEdge). e .end .0) (a .item .is .is) in
+      rw (num, from, to, a .type, a .txt) (sym (listed-is (chars line) t x))
+
+-- a character's record is legal
+pub legal-there : (line t : List ℕ) (e : PassEdge) (x : StoredEdge) → StoredIs line t e x → e .kind ≡ 0 → LegalAt t (e .«record_at» .0)
+legal-there line t e x h z =
+    let k : e .kind ≡ x .kind = ap (λ (e : PassEdge). e .kind) (h .is .is) in
+    let at : x .record-at ≡ e .«record_at» .0 = sym (ap (λ (e : PassEdge). e .«record_at» .0) (h .is .is)) in
+    subst (LegalAt t) at (h .sound .rooted .legal (sym k ∙ z))

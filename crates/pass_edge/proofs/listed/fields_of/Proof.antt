@@ -1,0 +1,53 @@
+-- `pass_edge::listed::fields_of` meets its contract field by field. Assumes nothing.
+use borrow.Author.Needs.{needs}
+use mathlib.Core.Path.{_≡_, _∙_}
+use Rattle.edge.specs.Write.{fieldsOf}
+use Rattle.pass_edge.specs.Fields.{storedFields}
+use Rattle.pass_edge.proofs.listed.fields_of.Statement.{statement}
+use Rattle.pass_edge.proofs.listed.fields_of.Tie as tie
+
+mul-from : tie.Need-mul-from
+mul-from c = search needs
+
+element-copy-out-from : tie.Need-element-copy-out-from
+element-copy-out-from c = search needs
+
+mul-to : tie.Need-mul-to
+mul-to c = search needs
+
+element-copy-out-to : tie.Need-element-copy-out-to
+element-copy-out-to c = search needs
+
+sub-t12 : tie.Need-sub-t12
+sub-t12 c = search needs
+
+part-or-requires : tie.Need-part-or-requires
+part-or-requires c κs = search needs
+
+part-or-requires-2 : tie.Need-part-or-requires-2
+part-or-requires-2 c κs = search needs
+
+map-of-requires : tie.Need-map-of-requires
+map-of-requires c κs = search needs
+
+num-fields-requires : tie.Need-num-fields-requires
+num-fields-requires c κs = search needs
+
+returns : tie.Need-returns
+unfolding storedFields fieldsOf
+returns c = c .num-fields .ensures ∙ rw (c .before .map-of .ensures, c .before .before .before .before .part-or .ensures, c .before .before .part-or2 .ensures)
+
+pub fields-of-spec : {M : Type 1} → statement M
+fields-of-spec =
+    tie.close
+    (tie.spec
+    mul-from
+    element-copy-out-from
+    mul-to
+    element-copy-out-to
+    sub-t12
+    part-or-requires
+    part-or-requires-2
+    map-of-requires
+    num-fields-requires
+    returns)

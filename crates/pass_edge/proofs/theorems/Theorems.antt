@@ -1,0 +1,134 @@
+-- The edges that sound items stand for are edges of the call (stages/specs/CallEdge.antt): they may be listed, they are short, and their value is whole.
+-- In order: fields that may be absent; the numeric data; the edge; lists of items. Assumes nothing.
+use mathlib.Core.Path.{_≡_, refl, sym, ap, _∙_, subst}
+use mathlib.Core.Bool.{Bool, true, false, cond, _&&_}
+use mathlib.Core.List.{List, [], _∷_, map}
+use mathlib.Core.Option.{Option, none, some, Option·map, Option·some-injective, Option·some-ne-none}
+use Prim.Native.Nat.{ℕ, _-_, _^_, _≤_, _<_}
+use native.Mathlib.Omega.{arith}
+use lib.ListN.{length}
+use lib.Dec.{eqb, ltb, leb}
+use borrow.Author.Tests.{lt-ltb, le-leb}
+use Rattle.whole.specs.Whole.{TOP}
+use Rattle.whole.specs.Decimal.{padded}
+use Rattle.whole.proofs.DecimalLaws.{length-padded}
+use Rattle.fields.specs.Part.{part}
+use Rattle.fields.proofs.PartLaws.{length-part}
+use Rattle.text.specs.Text.{Scalars, wellFormed}
+use Rattle.table.specs.Table.{Text}
+use Rattle.table.specs.Answers.{optionally}
+use Rattle.edge.specs.Edge.{Edge, Numeric, f64Bits, NumericFits, EdgeFits}
+use Rattle.edge.specs.Check.{each, upToTop, soundFraction, soundNumbers, soundNumeric, sound}
+use Rattle.edge.specs.Legal.{Legal}
+use Rattle.edge.proofs.theorems.Theorems.{f64-bits-fit}
+use Rattle.pass_list.specs.StoredEdge.{StoredEdge, Every, nil, cons}
+use Rattle.pass_list.specs.Edges.{between, edgeOf, txtOf}
+use Rattle.numbers.specs.CallEdge.{Short, CallEdge, CallEdges}
+use Rattle.numbers.proofs.stages.CallLaws.{allowed-map}
+use Rattle.numbers.specs.Listed.{listedEdge}
+use Rattle.pass_edge.specs.Sound.{ScriptAt, Sound, Sounds}
+use Rattle.pass_edge.specs.Texts.{typeOf}
+use Rattle.pass_edge.specs.Fields.{storedFraction}
+use Rattle.pass_edge.proofs.TextLaws.{between-short, txt-short, type-short}
+use Rattle.pass_edge.proofs.listed.FieldLaws.{numericIn, listed-is, only-told, map-told}
+use Rattle.pass_edge.proofs.theorems.FormedLaws.{padded-formed, type-formed, between-formed, txt-formed, FractionFits, AllFits, fraction-fits, fits-sound}
+
+-- ---- fields that may be absent
+only-on : {A : Type 0} (b : Bool) (u a : A) → optionally b u ≡ some a → b ≡ true
+only-on true u a e = refl
+only-on false u a e = absurd (Option·some-ne-none a (sym e))
+
+each-number : (b : Bool) (v : ℕ) → v ≤ TOP → each upToTop (optionally b v) ≡ true
+each-number true v h = le-leb v TOP h
+each-number false v h = refl
+
+each-text : (b : Bool) (u : Text) → (b ≡ true → wellFormed u ≡ true) → each wellFormed (optionally b u) ≡ true
+each-text true u h = h refl
+each-text false u h = refl
+
+fraction-at : {o : Option (ℕ × ℕ)} {p : ℕ × ℕ} → AllFits o → o ≡ some p → FractionFits p
+fraction-at h e = subst AllFits e h
+
+-- ---- the numeric data
+module _ (w t : List ℕ) (x : StoredEdge) (s : Sound w t x) (scalars : Scalars w) (few : length w ≤ 256) where
+  orig-short : length (between w (x .start) (x .end)) ≤ 1024
+  orig-short = omega (arith, between-short w (x .start) (x .end), s .made .inside)
+
+  script-short : (a : Text) → optionally (x .has-script) (part t (x .script-at) (x .script-len)) ≡ some a → length a ≤ 60
+  script-short a e =
+      let c : ScriptAt t (x .script-at) (x .script-len) = s .rooted .script (only-on (x .has-script) (part t (x .script-at) (x .script-len)) a e) in
+      let l : length (part t (x .script-at) (x .script-len)) ≡ x .script-len = length-part t (x .script-at) (x .script-len) (c .within) in
+      let u : part t (x .script-at) (x .script-len) ≡ a = only-told (x .has-script) (part t (x .script-at) (x .script-len)) a e in
+      omega (arith, ap length u, c .short)
+
+  digits-short : (a : Text) → optionally (eqb (x .kind) 1) (padded (x .end - x .start) (x .value)) ≡ some a → length a ≤ 256
+  digits-short a e = omega (arith, ap length (only-told (eqb (x .kind) 1) (padded (x .end - x .start) (x .value)) a e), length-padded (x .end - x .start) (x .value), s .made .inside)
+
+  numeric-fits : NumericFits (numericIn w t x)
+  unfolding numericIn
+  numeric-fits = record {
+    orig = omega (arith, orig-short);
+    value = λ v e. rw (sym (map-told f64Bits (x .has-value) (x .value) v e)) (f64-bits-fit (x .value));
+    fraction = λ p e. let f = fraction-at (fraction-fits w t x s) e in (omega (arith, f .upper), omega (arith, f .lower));
+    base = λ v e. omega (arith, only-told (x .has-base) (x .base) v e, s .small .base);
+    mult = λ v e. rw (sym (map-told f64Bits (x .has-mult) (x .mult) v e)) (f64-bits-fit (x .mult));
+    script = λ a e. omega (arith, script-short a e);
+    value-s = λ a e. omega (arith, digits-short a e);
+  }
+
+  numeric-sound : soundNumeric (numericIn w t x) ≡ true
+  unfolding soundNumeric numericIn
+  numeric-sound =
+      rw (
+        fits-sound (storedFraction t (x .kind) (x .record-at)) (fraction-fits w t x s),
+        each-number (x .has-base) (x .base) (s .small .base),
+        between-formed w (x .start) (x .end) scalars,
+        each-text (x .has-script) (part t (x .script-at) (x .script-len)) (λ b. s .rooted .script b .formed),
+        each-text (eqb (x .kind) 1) (padded (x .end - x .start) (x .value)) (λ b. padded-formed (x .end - x .start) (x .value)),
+      )
+
+  -- ---- the edge
+  abbrev listed : Edge
+  listed = record { start = x .start; end = x .end; type = typeOf t x; txt = txtOf w t x; num = some (numericIn w t x) }
+
+  -- what holds of the numeric data holds of what the edge has
+  of-listed : (P : Numeric → Type 0) → P (numericIn w t x) → (y : Numeric) → some (numericIn w t x) ≡ some y → P y
+  of-listed P p y e = subst P (Option·some-injective (numericIn w t x) y e) p
+
+  listed-fits : EdgeFits listed
+  listed-fits = record {
+    start = omega (arith, s .made .ordered, s .made .inside);
+    end = omega (arith, s .made .inside);
+    type = omega (arith, type-short w t x s);
+    txt = omega (arith, txt-short w t x s few);
+    num = of-listed NumericFits numeric-fits;
+  }
+
+  listed-sound : sound (length w) listed ≡ true
+  unfolding sound
+  listed-sound =
+      rw (lt-ltb (x .start) (x .end) (s .made .ordered), le-leb (x .end) (length w) (s .made .inside), type-formed w t x s, txt-formed w t x s scalars, numeric-sound)
+
+  listed-short : Short listed (numericIn w t x)
+  unfolding numericIn
+  listed-short = record { type = type-short w t x s; txt = txt-short w t x s few; orig = orig-short; script = script-short; value-s = digits-short }
+
+  abbrev WholeValue : Numeric → Type 0
+  WholeValue y = (b : ℕ) → y .value ≡ some b → (v : ℕ) × (v ≤ TOP) × (b ≡ f64Bits v)
+
+  listed-value : WholeValue (numericIn w t x)
+  unfolding numericIn
+  listed-value b e = (x .value, s .small .value, sym (map-told f64Bits (x .has-value) (x .value) b e))
+
+  pub item-call : CallEdge (length w) (listedEdge (edgeOf w t x))
+  item-call = subst (CallEdge (length w)) (sym (listed-is w t x)) (record {
+    legal = record { fits = listed-fits; map = allowed-map (some (numericIn w t x)); content = listed-sound };
+    short = of-listed (Short listed) listed-short;
+    value = λ y b e v. of-listed WholeValue listed-value y e b v;
+  })
+
+-- ---- lists of items
+module _ (w t : List ℕ) (scalars : Scalars w) (few : length w ≤ 256) where
+  pub items-call : (l : List StoredEdge) → Sounds w t l → CallEdges (length w) (map listedEdge (map (edgeOf w t) l))
+  items-call [] nil = nil
+  items-call (x ∷ l) (cons s h) = cons (item-call w t x s scalars few) (items-call l h)

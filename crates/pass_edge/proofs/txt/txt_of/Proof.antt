@@ -1,0 +1,95 @@
+-- `pass_edge::txt::txt_of` meets its contract, kind by kind. Assumes nothing.
+use borrow.Author.Needs.{needs}
+use mathlib.Core.Path.{_≡_, sym, ap, _∙_}
+use native.Mathlib.Omega.{arith}
+use native.Mathlib.Nat.{zero-add}
+use Rattle.text.specs.Text.{chars}
+use Rattle.whole.proofs.DecimalLaws.{length-padded, length-decimal-top}
+use Rattle.pass_edge.proofs.TextLaws.{front-is, txt-char, txt-digits, txt-value, rooted-char, places-of, char-fits, value-is}
+use Rattle.pass_edge.proofs.txt.txt_of.Statement.{statement}
+use Rattle.pass_edge.proofs.txt.txt_of.Tie as tie
+
+char-txt-requires : tie.Need-char-txt-requires
+char-txt-requires c κs =
+    let start = c .before .before .before .before .before .before in
+    let a = start .args in
+    let (i, is) = start .pre .1 in
+    let places = places-of (a .line .now) (a .table .now) (a .x) i is in
+    let fits = char-fits (a .line .now) (a .table .now) (a .x) i is (start .pre .2) (c .before .if1 .taken) in
+    let legal = rooted-char (a .table .now) (a .x) i (is .is) (is .sound .rooted) (c .before .if1 .taken) in
+    (start .pre .0, places .0, places .1, start .pre .2, omega (arith, fits, start .pre .3), legal)
+
+same-length : tie.Need-same-length
+same-length c = c .before .before .char-txt .kept .0
+
+returns : tie.Need-returns
+returns c i is =
+    let a = c .before .before .before .before .before .before .before .before .before .args in
+    front-is (txt-char (chars (a .line .now)) (a .table .now) (a .x) i is (c .before .before .before .before .if1 .taken)) (c .before .before .char-txt .ensures)
+
+u64-of-requires : tie.Need-u64-of-requires
+u64-of-requires c κs =
+    let start = c .before .before .before .before .before in
+    let (i, is) = start .pre .1 in
+    (i .value, is .is .fits .small .value, value-is (start .args .x) i (is .is))
+
+sub-len : tie.Need-sub-len
+sub-len c =
+    let start = c .before .before .before .before .before .before .before .before .before in
+    let (i, is) = start .pre .1 in
+    places-of (start .args .line .now) (start .args .table .now) (start .args .x) i is .0
+
+put-padded-requires : tie.Need-put-padded-requires
+put-padded-requires c κs =
+    let start = c .before .before .before .before .before .before .before .before .before .before in
+    let (i, is) = start .pre .1 in
+    omega (arith, places-of (start .args .line .now) (start .args .table .now) (start .args .x) i is .1, start .pre .2, start .pre .3)
+
+same-length-2 : tie.Need-same-length-2
+same-length-2 c = c .before .before .put-padded .kept .0
+
+returns-2 : tie.Need-returns-2
+returns-2 c i is =
+    let at-value = c .before .before .before .before .before .before .before in
+    let at-else = at-value .before in
+    let a = at-else .before .before .before .before .before .args in
+    let value = at-value .u64-of .ensures (i .value) (is .fits .small .value) (value-is (a .x) i is) in
+    front-is (txt-digits (chars (a .line .now)) (a .table .now) (a .x) i is (at-else .if1 .left) (c .before .before .before .before .before .if2 .taken) value)
+    (record { wrote = c .before .before .put-padded .ensures; long = sym (length-padded _ _) })
+
+put-decimal-requires : tie.Need-put-decimal-requires
+put-decimal-requires c κs =
+    let at-value = c .before .before .before in
+    let start = at-value .before .before .before .before .before .before in
+    let (i, is) = start .pre .1 in
+    let value = at-value .u64-of .ensures (i .value) (is .is .fits .small .value) (value-is (start .args .x) i (is .is)) in
+    let small = is .is .fits .small .value in
+    omega (arith, length-decimal-top (at-value .u64-of .result) (omega arith), start .pre .3)
+
+same-length-3 : tie.Need-same-length-3
+same-length-3 c = c .before .before .put-decimal .kept .0
+
+returns-3 : tie.Need-returns-3
+returns-3 c i is =
+    let at-value = c .before .before .before .before .before .before in
+    let at-else = at-value .before in
+    let a = at-else .before .before .before .before .before .args in
+    let value = at-value .u64-of .ensures (i .value) (is .fits .small .value) (value-is (a .x) i is) in
+    front-is (txt-value (chars (a .line .now)) (a .table .now) (a .x) i is (at-else .if1 .left) (c .before .before .before .before .if2 .left) value)
+    (record { wrote = c .before .before .put-decimal .ensures .1; long = c .before .before .put-decimal .ensures .0 ∙ zero-add _ })
+
+pub txt-of-spec : {M : Type 1} → statement M
+txt-of-spec =
+    tie.close
+    (tie.spec
+    char-txt-requires
+    same-length
+    returns
+    u64-of-requires
+    sub-len
+    put-padded-requires
+    same-length-2
+    returns-2
+    put-decimal-requires
+    same-length-3
+    returns-3)

@@ -1,0 +1,40 @@
+-- Items added to the lattice: what one asks, and those of one kind in turn. Definitions only.
+--     Asks s l line offs t e   what adding the code's edge e asks: a lattice l in the work space s, the line's offsets, and that e is a sound item
+--     Adds line t e s l u r    the lattice r in u is l in s with the item's edge, and what is behind it is as it was
+--     kindEdges w t k l        the edges of the items of l that are of kind k, as they are listed
+--     addIf w t k es x         es with the edge of x added, if x is of kind k
+--     Assumes nothing.
+use mathlib.Core.Path.{_≡_}
+use mathlib.Core.Bool.{cond}
+use mathlib.Core.List.{List, map}
+use Prim.Native.Nat.{ℕ, _≤_}
+use lib.Dec.{eqb}
+use lib.ListN.{length, drop}
+use Rattle.text.specs.Text.{chars}
+use Rattle.pass_list.specs.declared.record.PassEdge.{PassEdge}
+use Rattle.pass_list.specs.StoredEdge.{StoredEdge}
+use Rattle.pass_list.specs.Edges.{edgeOf}
+use Rattle.pass_list.specs.InTurn.{ofKind}
+use Rattle.edge.specs.Edge.{Edge}
+use Rattle.lattice.specs.Lattice.{add}
+use Rattle.lattice.specs.declared.Lattice.{Lattice}
+use Rattle.lattice.specs.Kept.{Holds}
+use Rattle.numbers.specs.Ready.{Offsets}
+use Rattle.numbers.specs.Listed.{listedEdge}
+use Rattle.pass_edge.specs.Sound.{StoredIs}
+
+pub record Asks (s : List ℕ) (l : Lattice) (line offs t : List ℕ) (e : PassEdge) : Type 0 where
+  pub holds : (es : List Edge) × Holds s l es
+  pub offsets : Offsets line offs
+  pub item : (x : StoredEdge) × StoredIs line t e x
+  pub few : length (chars line) ≤ 256
+
+pub record Adds (line t : List ℕ) (e : PassEdge) (s : List ℕ) (l : Lattice) (u : List ℕ) (r : Lattice) : Type 0 where
+  pub frame : drop 39424 u ≡ drop 39424 s
+  pub holds : (es : List Edge) (x : StoredEdge) → Holds s l es → StoredIs line t e x → Holds u r (add es (listedEdge (edgeOf (chars line) t x)))
+
+abbrev pub kindEdges : List ℕ → List ℕ → ℕ → List StoredEdge → List Edge
+kindEdges w t k l = map listedEdge (map (edgeOf w t) (ofKind k l))
+
+unfoldable pub addIf : List ℕ → List ℕ → ℕ → List Edge → StoredEdge → List Edge
+addIf w t k es x = cond (eqb (x .kind) k) (add es (listedEdge (edgeOf w t x))) es

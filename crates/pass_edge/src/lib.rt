@@ -1,0 +1,66 @@
+// An edge of the pass list as an edge of the lattice.
+// An item of the pass list as an edge of the lattice (01, "From characters to edges", "Five passes"): what an item needs for it is `Sound` of specs/Sound.antt;
+// and a character's texts, as parts of the table or of the line. An item's type and txt are put together in `pass_edge::edge_type` and `pass_edge::txt`, its fields are written in
+// `pass_edge::listed`, and the stage that adds the items of one kind is in `five`.
+pub mod places; // places.rt: the offsets of all places of a line
+pub mod txt; // txt.rt: its txt
+pub mod edge_type; // edge_type.rt: its type
+pub mod listed; // listed.rt: its fields, and the edge added
+pub mod theorems; // theorems.rt: it is an edge of the call (theorems)
+
+ghost use mathlib.Core.Path.{_≡_};
+ghost use Prim.Native.Nat.{ℕ, _+_, _/_, _%_, _≤_};
+ghost use mathlib.Core.List.{List};
+ghost use lib.ListN.{length, getD};
+ghost use Rattle.text.specs.Text.{chars};
+ghost use Rattle.pass_list.specs.Edges.{between};
+ghost use Rattle.numbers.specs.Ready.{Offsets};
+ghost use Rattle.pass_edge.specs.Sound.{LegalAt};
+ghost use Rattle.pass_edge.specs.Texts.{charTxt, charType, Front};
+
+// The type of a character whose record was checked: its bytes in the table, by the length before them.
+pub fn type_at(table: &[u8], at: usize) -> &[u8]
+    requires { ⌜ LegalAt (now table) at ⌝ }
+    ensures { λ r. ⌜ now r ≡ charType (now (table .entry)) at ⌝ }
+{
+    let from = at + 6;
+    let to = from + table[at + 5] as usize;
+    &table[from..to]
+}
+
+// Its rom, behind the type.
+pub fn rom_at(table: &[u8], at: usize) -> &[u8]
+    requires { ⌜ LegalAt (now table) at × (getD (now table) (at + 4) 0 / 1 % 2 ≡ 1) ⌝ }
+    ensures { λ r. ⌜ ((w : List ℕ) (a b : ℕ) → now r ≡ charTxt w (now (table .entry)) at a b) ⌝ }
+{
+    let len_at = at + 6 + table[at + 5] as usize;
+    let from = len_at + 1;
+    let to = from + table[len_at] as usize;
+    &table[from..to]
+}
+
+// The bytes of the line between two places.
+pub fn own_at<'a>(line: &'a [u8], offs: &[usize; 257], start: usize, end: usize) -> &'a [u8]
+    requires { ⌜ Offsets (now line) (now offs) × (start ≤ end) × (end ≤ length (chars (now line))) × (length (chars (now line)) ≤ 256) ⌝ }
+    ensures { λ r. ⌜ now r ≡ between (chars (now (line .entry))) start end ⌝ }
+{
+    let from = offs[start];
+    let to = offs[end];
+    &line[from..to]
+}
+
+// A text goes to the front of a buffer: how many bytes.
+pub fn put_text(buf: &mut [u8], t: &[u8]) -> usize
+    requires { ⌜ length (now t) ≤ length (now buf) ⌝ }
+    ensures { λ r. ⌜ Front (now (buf .entry)) (now (buf .exit)) r (now (t .entry)) ⌝ }
+{
+    fields::copy::copy_in(buf, 0, t);
+    t.len()
+}
+
+// The fraction of an item, where it has one.
+pub struct Fraction {
+    pub there: bool,
+    pub numerator: u64,
+    pub denominator: u64,
+}

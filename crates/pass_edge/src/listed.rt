@@ -1,0 +1,100 @@
+// An item of the pass list with its texts as an edge of the lattice (01, "From characters to edges"): the fields that it is listed with.
+ghost use mathlib.Core.Path.{_≡_};
+ghost use Prim.Native.Nat.{_*_, _≤_};
+ghost use mathlib.Core.List.{List};
+ghost use lib.ListN.{length, drop};
+ghost use Rattle.text.specs.Text.{chars};
+ghost use Rattle.pass_list.specs.StoredEdge.{StoredEdge};
+ghost use Rattle.pass_list.specs.Edges.{edgeOf};
+ghost use Rattle.numbers.specs.Ready.{Offsets};
+ghost use Rattle.edge.specs.Edge.{Edge, flag};
+ghost use Rattle.lattice.specs.Lattice.{add};
+ghost use Rattle.lattice.specs.Kept.{Holds};
+ghost use Rattle.numbers.specs.Listed.{listedEdge};
+ghost use Rattle.pass_edge.specs.Texts.{TextsAre};
+ghost use Rattle.pass_edge.specs.Fields.{storedFraction, FractionIs, storedMap, partOr, storedFields, Listable};
+use crate::Fraction;
+use edge::NumData;
+use edge::NumFields;
+use edge::Part;
+use lattice::Lattice;
+use pass_list::record::PassEdge;
+
+// What a field adds to the map.
+fn worth(b: bool, of: u16) -> u16
+    ensures { λ r. ⌜ (r ≡ of * flag b) × (r ≤ of) ⌝ }
+{
+    if b { of } else { 0 }
+}
+
+// The map of an item: which of its fields are there.
+fn map_of(x: PassEdge, fraction: bool) -> u16
+    ensures { λ r. ⌜ r ≡ storedMap x fraction ⌝ }
+{
+    129
+        + worth(x.num.has_value, 2)
+        + worth(fraction, 4)
+        + worth(x.num.has_base, 8)
+        + worth(x.num.has_mult, 16)
+        + worth(x.num.has_script, 32)
+        + worth(x.num.large_power, 64)
+        + worth(x.kind == 1, 256)
+}
+
+// A part that is there, or none.
+fn part_or(b: bool, at: usize, len: usize) -> Part
+    ensures { λ r. ⌜ r ≡ partOr b at len ⌝ }
+{
+    if b {
+        Part { at: at, len: len }
+    } else {
+        Part { at: 0, len: 0 }
+    }
+}
+
+// The fields of an item whose fraction is f and whose txt has so many bytes.
+fn fields_of(offs: &[usize; 257], x: PassEdge, f: Fraction, len: usize) -> NumFields
+    requires { ⌜ Listable (now offs) x ⌝ }
+    ensures { λ r. ⌜ r ≡ storedFields (now (offs .entry)) x f len ⌝ }
+{
+    let start = x.start.0;
+    let end = x.end.0;
+    let from = offs[start];
+    let to = offs[end];
+    let orig = Part {
+        at: from,
+        len: to - from,
+    };
+    let script = part_or(x.num.has_script, x.num.script.0, x.num.script_len);
+    let value_s = part_or(x.kind == 1, 0, len);
+    edge::data::num_fields(NumData {
+        map: map_of(x, f.there),
+        value: x.num.value,
+        numerator: f.numerator,
+        denominator: f.denominator,
+        base: x.num.base,
+        base_multiplier: x.num.base_multiplier,
+        orig: orig,
+        script: script,
+        value_s: value_s,
+    })
+}
+
+// An item with this fraction and these texts is added to the lattice.
+pub fn add_texts(
+    w: &mut [u8],
+    l: Lattice,
+    line: &[u8],
+    offs: &[usize; 257],
+    table: &[u8],
+    x: PassEdge,
+    f: Fraction,
+    ty: &[u8],
+    txt: &[u8],
+) -> Lattice
+    requires { ⌜ ((es : List Edge) × Holds (now w) l es) × Offsets (now line) (now offs) × ((i : StoredEdge) × TextsAre (now line) (now table) x (now ty) (now txt) i) × (length (chars (now line)) ≤ 256) × FractionIs f (storedFraction (now table) (x .kind) (x .«record_at» .0)) ⌝ }
+    ensures { λ r. ⌜ (drop 39424 (now (w .exit)) ≡ drop 39424 (now (w .entry))) × ((es : List Edge) (i : StoredEdge) → Holds (now (w .entry)) l es → TextsAre (now (line .entry)) (now (table .entry)) x (now (ty .entry)) (now (txt .entry)) i → Holds (now (w .exit)) r (add es (listedEdge (edgeOf (chars (now (line .entry))) (now (table .entry)) i)))) ⌝ }
+{
+    let d = fields_of(offs, x, f, txt.len());
+    lattice_add::numeric::add_numeric(w, l, x.start, x.end, ty, txt, d, line, table, txt)
+}

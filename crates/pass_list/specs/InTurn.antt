@@ -1,0 +1,24 @@
+-- The passes in turn on the items of a pass list, as `through` and `addedBy` of passes (specs/Passes.antt) on edges. Definitions only.
+--     through ps l   the items after the passes ps in turn
+--     addedBy ps l   the items that the passes ps join in turn, in order
+--     ofKind k l     the items of l that are of kind k, in order
+--     Assumes nothing.
+use Prim.Native.Nat.{ℕ}
+use mathlib.Core.Bool.{cond}
+use mathlib.Core.List.{List, [], _∷_, _++_}
+use lib.Dec.{eqb}
+use Rattle.passes.specs.Passes.{Pass}
+use Rattle.pass_list.specs.StoredEdge.{StoredEdge}
+use Rattle.pass_list.specs.StoredPass.{after, added}
+
+unfoldable pub through : List Pass → List StoredEdge → List StoredEdge
+through [] l = l
+through (p ∷ ps) l = through ps (after p l)
+
+unfoldable pub addedBy : List Pass → List StoredEdge → List StoredEdge
+addedBy [] l = []
+addedBy (p ∷ ps) l = added p l ++ addedBy ps (after p l)
+
+unfoldable pub ofKind : ℕ → List StoredEdge → List StoredEdge
+ofKind k [] = []
+ofKind k (x ∷ l) = cond (eqb (x .kind) k) (x ∷ ofKind k l) (ofKind k l)

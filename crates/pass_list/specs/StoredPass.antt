@@ -1,0 +1,173 @@
+-- The five passes on items: the definitions of `passes` (specs/Passes.antt) with each text test replaced by its mark. `pass_list::in_turn` (proofs/Simulation.antt)
+-- shows that they are the same passes. Definitions only.
+--     StoredChain        a chain as far as it goes
+--     counted p l e    the next edge e after l as it counts in pass p
+--     rule p c e       pass p joins e, as it counts, to the chain c, where they touch
+--     over p l e v     the edge over l and e, of value v
+--     taken c o e      the chain c with e taken in, where o is the edge over both
+--     next p c e       the chain c with e joined to it, where pass p does so
+--     chainsOf p l, after p l, added p l, firstAbove l   as in `passes`
+-- Assumes nothing.
+use Prim.Native.Nat.{ℕ, suc, _+_, _*_, _/_}
+use mathlib.Core.Bool.{Bool, true, false, _&&_, _||_, not, cond}
+use mathlib.Core.List.{List, [], _∷_, map}
+use mathlib.Core.Option.{Option, none, some}
+use lib.Dec.{leb, ltb, eqb}
+use Rattle.whole.specs.Whole.{TOP}
+use Rattle.passes.specs.Chains.{chains}
+use Rattle.passes.specs.Passes.{Pass, D1, G1, G2, G3, G4, powerOfTen}
+use Rattle.pass_list.specs.StoredEdge.{StoredEdge}
+
+pub record StoredChain : Type 0 where
+  pub edge : StoredEdge
+  pub more : Bool
+  -- the base of the chain's nearest edge, from its end, that isn't a gap, where there is one
+  pub has-near : Bool
+  pub near : ℕ
+
+unfoldable pub begin : StoredEdge → StoredChain
+begin e = record { edge = e; more = false; has-near = not (e .gap); near = cond (e .gap) 0 (e .base) }
+
+abbrev pub touches : StoredChain → StoredEdge → Bool
+touches c e = eqb (c .edge .end) (e .start)
+
+-- ---- the rules
+unfoldable pub d1Rule : StoredChain → StoredEdge → Bool
+d1Rule c e = (c .more || c .edge .digit) && e .digit
+
+unfoldable pub g1Rule : StoredChain → StoredEdge → Bool
+g1Rule c e = not (c .more) && eqb (c .edge .base) 1 && leb 1 (c .edge .value) && ltb 1 (e .base) && not (e .large-power)
+
+-- all that the comparison needs is there
+abbrev pub comparable : StoredChain → StoredEdge → Bool
+comparable c e = c .has-near && e .has-value && e .has-base
+
+unfoldable pub g2Rule : StoredChain → StoredEdge → Bool
+g2Rule c e =
+    c .edge .has-value && not (c .edge .large-power) && not (e .large-power)
+    && ((comparable c e && (ltb (e .value) (c .near) && ltb (e .base) (c .near))) || (not (comparable c e) && e .gap))
+
+unfoldable pub g3Rule : StoredChain → StoredEdge → Bool
+g3Rule c e = not (c .more) && c .edge .has-value && not (c .edge .large-power) && e .has-value && e .large-power
+
+unfoldable pub g4Rule : StoredChain → StoredEdge → Bool
+g4Rule c e = c .edge .has-value && e .has-value && e .has-base && ltb (e .value) (c .edge .base) && ltb (e .base) (c .edge .base)
+
+abbrev pub rule : Pass → StoredChain → StoredEdge → Bool
+rule D1 = d1Rule
+rule G1 = g1Rule
+rule G2 = g2Rule
+rule G3 = g3Rule
+rule G4 = g4Rule
+
+-- ---- the next edge as it counts
+abbrev pub retaggable : StoredEdge → StoredEdge → Bool
+retaggable l e = l .cjk && leb 1000 (l .base) && eqb (e .end) (e .start + 1) && leb 1 (e .value) && leb (e .value) 9
+
+unfoldable pub retags : StoredEdge → StoredEdge → Bool
+retags l e = retaggable l e && powerOfTen (l .base)
+
+-- the edge e with value v and base b
+unfoldable pub withNumbers : StoredEdge → ℕ → ℕ → StoredEdge
+withNumbers e v b = record {
+  start = e .start;
+  end = e .end;
+  kind = e .kind;
+  record-at = e .record-at;
+  value = v;
+  base = b;
+  mult = e .mult;
+  script-at = e .script-at;
+  script-len = e .script-len;
+  has-value = true;
+  has-base = true;
+  has-mult = e .has-mult;
+  has-script = e .has-script;
+  large-power = e .large-power;
+  digit = e .digit;
+  gap = e .gap;
+  cjk = e .cjk;
+}
+
+abbrev pub retagged : StoredEdge → StoredEdge → StoredEdge
+retagged l e = withNumbers e (e .value * (l .base / 10)) (l .base / 10)
+
+unfoldable pub counted : Pass → StoredEdge → StoredEdge → StoredEdge
+counted D1 l e = withNumbers e (e .value) 1
+counted G1 l e = e
+counted G2 l e = e
+counted G3 l e = e
+counted G4 l e = cond (retags l e) (retagged l e) e
+
+-- ---- the joined edges
+abbrev pub valueOf : Pass → ℕ → ℕ → ℕ
+valueOf D1 m n = 10 * m + n
+valueOf G1 m n = m * n
+valueOf G2 m n = m + n
+valueOf G3 m n = m * n
+valueOf G4 m n = m + n
+
+abbrev pub kindOf : Pass → ℕ
+kindOf D1 = 1
+kindOf G1 = 2
+kindOf G2 = 3
+kindOf G3 = 4
+kindOf G4 = 5
+
+unfoldable pub over : Pass → StoredEdge → StoredEdge → ℕ → StoredEdge
+over p l e v = record {
+  start = l .start;
+  end = e .end;
+  kind = kindOf p;
+  record-at = 0;
+  value = v;
+  base = e .base;
+  mult = 0;
+  script-at = e .script-at;
+  script-len = e .script-len;
+  has-value = true;
+  has-base = e .has-base;
+  has-mult = false;
+  has-script = e .has-script;
+  large-power = eqb (kindOf p) 4;
+  digit = false;
+  gap = false;
+  cjk = e .cjk;
+}
+
+-- ---- the passes
+-- the value over the chain c and the edge e
+abbrev pub joinedValue : Pass → StoredChain → StoredEdge → ℕ
+joinedValue p c e = valueOf p (c .edge .value) (counted p (c .edge) e .value)
+
+unfoldable pub joins : Pass → StoredChain → StoredEdge → Bool
+joins p c e = touches c e && rule p c (counted p (c .edge) e)
+
+abbrev pub taken : StoredChain → StoredEdge → StoredEdge → StoredChain
+taken c o e = record { edge = o; more = true; has-near = not (e .gap) || c .has-near; near = cond (e .gap) (c .near) (e .base) }
+
+unfoldable pub longer : Pass → StoredChain → StoredEdge → StoredChain
+longer p c e = taken c (over p (c .edge) (counted p (c .edge) e) (joinedValue p c e)) e
+
+unfoldable pub next : Pass → StoredChain → StoredEdge → Option StoredChain
+next p c e = cond (joins p c e) (some (longer p c e)) none
+
+unfoldable pub chainsOf : Pass → List StoredEdge → List StoredChain
+chainsOf p l = chains begin (next p) l
+
+abbrev pub edgesOf : List StoredChain → List StoredEdge
+edgesOf cs = map (λ (c : StoredChain). c .edge) cs
+
+unfoldable pub joinedOf : List StoredChain → List StoredEdge
+joinedOf [] = []
+joinedOf (c ∷ cs) = cond (c .more) (c .edge ∷ joinedOf cs) (joinedOf cs)
+
+unfoldable pub after : Pass → List StoredEdge → List StoredEdge
+after p l = edgesOf (chainsOf p l)
+
+unfoldable pub added : Pass → List StoredEdge → List StoredEdge
+added p l = joinedOf (chainsOf p l)
+
+unfoldable pub firstAbove : List StoredEdge → Option ℕ
+firstAbove [] = none
+firstAbove (x ∷ l) = cond (ltb TOP (x .value)) (some (x .start)) (firstAbove l)

@@ -1,2 +1,0 @@
--- The passes by their number.
-pub mod Nth

@@ -1,0 +1,71 @@
+// What a pass makes of two edges that it joins: the value over both and the edge over both. The definitions are those of `pass_list`, specs/StoredPass.antt.
+ghost use mathlib.Core.Path.{_≡_};
+ghost use Prim.Native.Nat.{ℕ, _+_, _*_, _≤_};
+ghost use Rattle.whole.specs.Whole.{TOP, ofNat};
+ghost use Rattle.whole.specs.Answers.{value};
+ghost use Rattle.pass_list.specs.StoredEdge.{StoredEdge, passEdge};
+ghost use Rattle.pass_list.specs.StoredPass.{valueOf, kindOf, over};
+ghost use Rattle.pass_list.specs.Answers.{passOf};
+use pass_list::chain::Pass;
+use pass_list::record::PassEdge;
+use text::Offset;
+use whole::Value;
+
+// The value that a further digit makes.
+fn with_digit(l: f64, r: f64) -> Value
+    ensures { λ v. ⌜ ((m n : ℕ) → m ≤ TOP → n ≤ TOP → l ≡ ofNat m → r ≡ ofNat n → v ≡ value (10 * m + n)) ⌝ }
+{
+    match whole::product(10.0, l) {
+        Value::Fits(tens) => whole::sum(tens, r),
+        Value::Above => Value::Above,
+    }
+}
+
+// The value over a chain of value l and a next edge that counts r.
+pub fn joined_value(pass: Pass, l: f64, r: f64) -> Value
+    ensures { λ v. ⌜ ((m n : ℕ) → m ≤ TOP → n ≤ TOP → l ≡ ofNat m → r ≡ ofNat n → v ≡ value (valueOf (passOf pass) m n)) ⌝ }
+{
+    match pass {
+        Pass::D1 => with_digit(l, r),
+        Pass::G1 => whole::product(l, r),
+        Pass::G2 => whole::sum(l, r),
+        Pass::G3 => whole::product(l, r),
+        Pass::G4 => whole::sum(l, r),
+    }
+}
+
+fn kind_of(pass: Pass) -> u16
+    ensures { λ r. ⌜ r ≡ kindOf (passOf pass) ⌝ }
+{
+    match pass {
+        Pass::D1 => 1,
+        Pass::G1 => 2,
+        Pass::G2 => 3,
+        Pass::G3 => 4,
+        Pass::G4 => 5,
+    }
+}
+
+// The edge over l and r, of value v.
+pub fn over(pass: Pass, l: PassEdge, r: PassEdge, v: f64) -> PassEdge
+    ensures { λ e. ⌜ ((x y : StoredEdge) (n : ℕ) → l ≡ passEdge x → r ≡ passEdge y → v ≡ ofNat n → e ≡ passEdge (over (passOf pass) x y n)) ⌝ }
+{
+    let kind = kind_of(pass);
+    let start = l.start;
+    let end = r.end;
+    let mut num = r.num;
+    num.value = v;
+    num.has_value = true;
+    num.base_multiplier = 0.0;
+    num.has_mult = false;
+    num.large_power = kind == 4;
+    num.digit = false;
+    num.gap = false;
+    PassEdge {
+        start: start,
+        end: end,
+        kind: kind,
+        record_at: Offset(0),
+        num: num,
+    }
+}

@@ -1,0 +1,139 @@
+// A pass over the whole list, in place.
+// The loop of a pass (01, "Five passes, D1 to G4"), in place: the edges over the chains that ended stand at the list's front, what is to come behind the edge
+// that is read. Most edges join no neighbour: a look at a few fields says so, and they are moved as bytes.
+pub mod look; // look.rt: whether a pass may join two edges, by a few fields in their bytes
+pub mod take; // take.rt: whether it may join an edge to a chain, likewise
+pub mod nth; // nth.rt: a pass by its number
+
+ghost use mathlib.Core.Path.{_≡_};
+ghost use mathlib.Core.Bool.{true};
+ghost use Prim.Native.Nat.{_+_, _*_, _-_, _≤_, _<_};
+ghost use lib.ListN.{length};
+ghost use lib.Seq.{sets};
+ghost use Rattle.fields.specs.Part.{part};
+ghost use Rattle.pass_list.specs.StoredEdge.{Small, AllSmall};
+ghost use Rattle.pass_list.specs.Stored.{storedAt, storedListAt};
+ghost use Rattle.pass_list.specs.StoredPass.{StoredChain};
+ghost use Rattle.pass_list.specs.Answers.{passOf, ChainIs, answer, PassedIs};
+ghost use Rattle.pass_run.specs.Ended.{Ended};
+ghost use Rattle.pass_run.specs.Run.{First, RunIs};
+use crate::look::may_join;
+use crate::take::may_take;
+use pass_list::chain::Chain;
+use pass_list::chain::Next;
+use pass_list::chain::Pass;
+use pass_list::read::get;
+use pass_list::run::Passed;
+use pass_list::write::put;
+use pass_rules::chain::next;
+use text::Place;
+
+// What the chain that an edge begins comes to: the index behind its last edge; or the start of the joined edge above TOP.
+pub enum Run {
+    To(usize),
+    Above(Place),
+}
+
+// Whether the i-th of n edges is a chain of its own, as far as that is told without reading it.
+fn alone(s: &[u8], n: usize, i: usize, pass: Pass) -> bool
+    requires { ⌜ (i < n) × (n * 56 ≤ length (now s)) ⌝ }
+    ensures { λ r. ⌜ (r ≡ true → First (passOf pass) (now (s .entry)) n i (i + 1) (storedAt (now (s .entry)) (i * 56))) ⌝ }
+{
+    if i + 1 < n {
+        return !may_join(s, i * 56, (i + 1) * 56, pass);
+    }
+    true
+}
+
+// The record at an offset is copied to an earlier one.
+fn copy_record(list: &mut [u8], to: usize, from: usize)
+    requires { ⌜ (to + 56 ≤ from) × (from + 56 ≤ length (now list)) ⌝ }
+    ensures { λ _. ⌜ now (list .exit) ≡ sets (now (list .entry)) to (part (now (list .entry)) from 56) ⌝ }
+{
+    let mut j = 0;
+    while j < 56 {
+        list[to + j] = list[from + j];
+        j += 1;
+    }
+}
+
+// The i-th edge becomes the k-th.
+fn move_record(list: &mut [u8], k: usize, i: usize)
+    requires { ⌜ (k ≤ i) × ((i + 1) * 56 ≤ length (now list)) ⌝ }
+    ensures { λ _. ⌜ Ended (now (list .entry)) k (i + 1) (storedAt (now (list .entry)) (i * 56)) (now (list .exit)) ⌝ }
+{
+    if k < i {
+        copy_record(list, k * 56, i * 56);
+    }
+}
+
+// What the edge at an offset does to the chain: it is read where the pass may join it.
+fn ahead(c: Chain, pass: Pass, s: &[u8], at: usize) -> Next
+    requires { ⌜ ((x : StoredChain) × ChainIs c x) × (at + 56 ≤ length (now s)) × Small (storedAt (now s) at) ⌝ }
+    ensures { λ r. ⌜ ((x : StoredChain) → ChainIs c x → r ≡ answer (passOf pass) x (storedAt (now (s .entry)) at)) ⌝ }
+{
+    if may_take(c, s, at, pass) {
+        return next(c, pass, get(s, at));
+    }
+    Next::Ends
+}
+
+// The chain that the i-th of n edges begins: the edge over it becomes the k-th.
+fn run_chain(list: &mut [u8], n: usize, k: usize, i: usize, pass: Pass) -> Run
+    requires { ⌜ (k ≤ i) × (i < n) × (n * 56 ≤ length (now list)) × AllSmall (storedListAt (now list) i (n - i)) ⌝ }
+    ensures { λ r. ⌜ RunIs (passOf pass) (now (list .entry)) n k i (now (list .exit)) r ⌝ }
+{
+    let mut chain = Chain::begin(get(list, i * 56));
+    let mut j = i + 1;
+    let mut to = n;
+    while j < to {
+        match ahead(chain, pass, list, j * 56) {
+            Next::Longer(c) => {
+                chain = c;
+                j += 1;
+            }
+            Next::Ends => {
+                to = j;
+            }
+            Next::Above => {
+                let start = chain.edge.start;
+                return Run::Above(start);
+            }
+        }
+    }
+    put(list, k * 56, chain.edge);
+    Run::To(j)
+}
+
+// The chain that the i-th of n edges begins, with a look first whether it goes on at all.
+fn step(list: &mut [u8], n: usize, k: usize, i: usize, pass: Pass) -> Run
+    requires { ⌜ (k ≤ i) × (i < n) × (n * 56 ≤ length (now list)) × AllSmall (storedListAt (now list) i (n - i)) ⌝ }
+    ensures { λ r. ⌜ RunIs (passOf pass) (now (list .entry)) n k i (now (list .exit)) r ⌝ }
+{
+    if alone(list, n, i, pass) {
+        move_record(list, k, i);
+        return Run::To(i + 1);
+    }
+    run_chain(list, n, k, i, pass)
+}
+
+// A pass over the n edges of the list.
+pub fn run_pass(list: &mut [u8], n: usize, pass: Pass) -> Passed
+    requires { ⌜ (n * 56 ≤ length (now list)) × AllSmall (storedListAt (now list) 0 n) ⌝ }
+    ensures { λ r. ⌜ PassedIs (passOf pass) (storedListAt (now (list .entry)) 0 n) (now (list .exit)) r ⌝ }
+{
+    let mut i = 0;
+    let mut k = 0;
+    while i < n {
+        match step(list, n, k, i, pass) {
+            Run::To(to) => {
+                i = to;
+                k += 1;
+            }
+            Run::Above(p) => {
+                return Passed::Above(p);
+            }
+        }
+    }
+    Passed::Edges(k)
+}

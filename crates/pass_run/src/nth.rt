@@ -1,0 +1,35 @@
+// One of the five passes by its number, on the list in the work space, behind the lattice (01, "Five passes, D1 to G4").
+ghost use mathlib.Core.Path.{_≡_};
+ghost use Prim.Native.Nat.{_+_, _*_, _≤_, _<_};
+ghost use lib.ListN.{length, take, drop};
+ghost use Rattle.pass_list.specs.StoredEdge.{AllSmall};
+ghost use Rattle.pass_list.specs.Stored.{storedListAt};
+ghost use Rattle.pass_list.specs.Answers.{passOf, PassedIs};
+ghost use Rattle.pass_run.specs.Nth.{nth};
+use crate::run_pass;
+use pass_list::chain::Pass;
+use pass_list::run::Passed;
+
+// The i-th pass, counted from 0: in the Rust apply_d1_digits, apply_g1_multiplication, apply_g2_addition, apply_g3_large_power_multiplication and
+// apply_g4_large_block_addition.
+fn pass_of(i: usize) -> Pass
+    requires { ⌜ i < 5 ⌝ }
+    ensures { λ r. ⌜ passOf r ≡ nth i ⌝ }
+{
+    match i {
+        0 => Pass::D1,
+        1 => Pass::G1,
+        2 => Pass::G2,
+        3 => Pass::G3,
+        _ => Pass::G4,
+    }
+}
+
+// The i-th pass over the list behind the lattice, which stays as it is.
+pub fn pass_behind(w: &mut [u8], n: usize, i: usize) -> Passed
+    requires { ⌜ (39424 + n * 56 ≤ length (now w)) × AllSmall (storedListAt (drop 39424 (now w)) 0 n) × (i < 5) ⌝ }
+    ensures { λ r. ⌜ (take 39424 (now (w .exit)) ≡ take 39424 (now (w .entry))) × PassedIs (nth i) (storedListAt (drop 39424 (now (w .entry))) 0 n) (drop 39424 (now (w .exit))) r ⌝ }
+{
+    let from = 39424;
+    run_pass(&mut w[from..], n, pass_of(i))
+}

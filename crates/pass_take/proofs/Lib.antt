@@ -1,1 +1,0 @@
--- No laws of its own: those of the tests are in `pass_look`, proofs/FilterLaws.antt.

@@ -1,0 +1,3 @@
+-- The definitions of `queries`.
+-- path: No definitions of its own: those of `paths`.
+-- shown: No definitions of its own: those of `paths`.

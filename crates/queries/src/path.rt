@@ -1,0 +1,101 @@
+// The path over a finished listing (01, "The rest of the call"), written to the output as a listing.
+ghost use mathlib.Core.Path.{_≡_};
+ghost use mathlib.Core.Bool.{cond};
+ghost use Prim.Native.Nat.{_+_, _≤_, _<_};
+ghost use lib.ListN.{length, getD, set, replicate};
+ghost use lib.Dec.{ltb};
+ghost use Rattle.paths.specs.Reading.{Spans};
+ghost use Rattle.paths.specs.Path.{rights, path, pathListing, fitting, pathOut, written, after};
+ghost use Rattle.paths.specs.Table.{Rights};
+use paths::Checked;
+use paths::Query;
+use paths::Refusal;
+use paths::Size;
+use paths::Written;
+use paths::check::check;
+use paths::inside::is_inside;
+use paths::score::score_at;
+use text::Place;
+
+// Keeps an edge as the right neighbour of a place, where it scores higher than the one kept there.
+fn keep(tops: &mut [usize; 256], ats: &mut [usize; 256], place: usize, score: usize, at: usize)
+    requires { ⌜ place < 256 ⌝ }
+    ensures scores { λ _. ⌜ now (tops .exit) ≡ cond (ltb (getD (now (tops .entry)) place 0) score) (set (now (tops .entry)) place score) (now (tops .entry)) ⌝ }
+    ensures offsets { λ _. ⌜ now (ats .exit) ≡ cond (ltb (getD (now (tops .entry)) place 0) score) (set (now (ats .entry)) place at) (now (ats .entry)) ⌝ }
+{
+    if tops[place] < score {
+        tops[place] = score;
+        ats[place] = at;
+    }
+}
+
+// The right neighbours of all places. One walk over the listing.
+fn right_neighbors(
+    s: &[u8],
+    count: usize,
+    skip: bool,
+    tops: &mut [usize; 256],
+    ats: &mut [usize; 256],
+)
+    requires { ⌜ Spans 256 count (now s) 2 × (now tops ≡ replicate 256 0) × (now ats ≡ replicate 256 0) ⌝ }
+    ensures { λ _. ⌜ Rights skip (now (s .entry)) count (now (tops .exit)) (now (ats .exit)) ⌝ }
+{
+    let mut at = 2;
+    let mut left = count;
+    while 0 < left {
+        let start = fields::u16_at(s, at + 2) as usize;
+        let score = score_at(s, at, Query::Right(Place(start)), skip);
+        keep(tops, ats, start, score, at);
+        at = edge::next::next_at(s, at);
+        left -= 1;
+    }
+}
+
+// The path in a listing that is read, within the line.
+fn path_in(
+    listing: &[u8],
+    count: usize,
+    start: usize,
+    end: usize,
+    skip: bool,
+    out: &mut [u8],
+) -> Written
+    requires { ⌜ Spans 256 count (now listing) 2 × (end ≤ 256) ⌝ }
+    ensures answer { λ r. ⌜ r ≡ written (fitting (length (now (out .entry))) (pathListing (now (listing .entry)) (path (rights skip (now (listing .entry)) count) start end))) ⌝ }
+    ensures output { λ _. ⌜ now (out .exit) ≡ after (now (out .entry)) (fitting (length (now (out .entry))) (pathListing (now (listing .entry)) (path (rights skip (now (listing .entry)) count) start end))) ⌝ }
+{
+    let mut tops = [0usize; 256];
+    let mut ats = [0usize; 256];
+    right_neighbors(listing, count, skip, &mut tops, &mut ats);
+    match paths::walk::path_size(listing, &tops, &ats, start, end, out.len()) {
+        Size::Over => Written::Refused(Refusal::ShortOutput),
+        Size::Fits(n, len) => {
+            fields::write::put_u16(out, 0, n as u16);
+            paths::walk::write_path(listing, &tops, &ats, start, end, out);
+            Written::Bytes(len)
+        }
+    }
+}
+
+// The path from start to end, written to the output as a listing.
+pub fn path(
+    line: &[u8],
+    listing: &[u8],
+    start: Place,
+    end: Place,
+    skip: bool,
+    out: &mut [u8],
+) -> Written
+    ensures answer { λ r. ⌜ r ≡ written (pathOut (now (line .entry)) (now (listing .entry)) start end skip (length (now (out .entry)))) ⌝ }
+    ensures output { λ _. ⌜ now (out .exit) ≡ after (now (out .entry)) (pathOut (now (line .entry)) (now (listing .entry)) start end skip (length (now (out .entry)))) ⌝ }
+{
+    match check(line, listing) {
+        Checked::Refused(r) => Written::Refused(r),
+        Checked::Readable(chars, count) => {
+            if !is_inside(chars, Query::Span(start, end)) {
+                return Written::Refused(Refusal::BadPlace);
+            }
+            path_in(listing, count, start.0, end.0, skip, out)
+        }
+    }
+}

@@ -1,2 +1,0 @@
--- The definitions that the contracts of `read_line` cite.
-pub mod Line

@@ -1,2 +1,0 @@
--- The stages after the passes.
-pub mod Rest

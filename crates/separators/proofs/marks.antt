@@ -1,0 +1,2 @@
+-- The laws of `separators::marks`.
+pub mod MarkLaws

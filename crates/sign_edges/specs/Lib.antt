@@ -1,2 +1,0 @@
--- The definitions that the contracts of `sign_edges` cite.
-pub mod SignEdges

@@ -1,0 +1,132 @@
+// The edges for the signs of one list that stand directly before an item of the pass list (01, "The rest of the call", G6). A sign is given by its ASCII byte.
+use lattice::Lattice;
+use markers::Sign;
+use pass_list::record::PassEdge;
+use table::layout::Part;
+use table::layout::TextAt;
+use text::Place;
+ghost use mathlib.Core.Path.{_≡_};
+ghost use mathlib.Core.Bool.{true};
+ghost use mathlib.Core.List.{List, _∷_, [], _++_};
+ghost use Prim.Native.Nat.{_+_, _≤_};
+ghost use lib.ListN.{length, drop};
+ghost use Rattle.text.specs.Text.{chars, wellFormed};
+ghost use Rattle.table.specs.Layout.{listAt};
+ghost use Rattle.table.specs.Answers.{partOf, Within};
+ghost use Rattle.edge.specs.Edge.{Edge};
+ghost use Rattle.lattice.specs.Lattice.{add};
+ghost use Rattle.lattice.specs.Kept.{Holds};
+ghost use Rattle.pass_list.specs.StoredEdge.{StoredEdge, EdgeIs};
+ghost use Rattle.pass_list.specs.Edges.{txtOf, edgeOf};
+ghost use Rattle.numbers.specs.Ready.{Offsets};
+ghost use Rattle.pass_edge.specs.Sound.{Rooted, StoredIs};
+ghost use Rattle.pass_edge.specs.Texts.{typeOf};
+ghost use Rattle.pass_edge.specs.Adding.{Asks};
+ghost use Rattle.markers.specs.Marks.{Formed};
+ghost use Rattle.signs.specs.SignEdges.{signEdgeAt, Signs, Begins};
+
+// The type of a sign's edge goes to the front of a buffer: the item's, a space and the sign.
+fn sign_type(buf: &mut [u8], table: &[u8], x: PassEdge, sign: u8) -> usize
+    requires { ⌜ (62 ≤ length (now buf)) × ((i : StoredEdge) × EdgeIs x i × (length (typeOf (now table) i) ≤ 60) × Rooted (now table) i) ⌝ }
+    ensures { λ r. ⌜ ((i : StoredEdge) → EdgeIs x i → Begins (now (buf .exit)) r (typeOf (now (table .entry)) i ++ (32 ∷ sign ∷ []))) ⌝ }
+{
+    let n = pass_edge::edge_type::type_of(buf, table, x);
+    buf[n] = b' ';
+    buf[n + 1] = sign;
+    n + 2
+}
+
+// The txt of a sign's edge goes to the front of a buffer: the sign and the item's.
+fn sign_txt(
+    buf: &mut [u8],
+    line: &[u8],
+    offs: &[usize; 257],
+    table: &[u8],
+    x: PassEdge,
+    sign: u8,
+) -> usize
+    requires { ⌜ Offsets (now line) (now offs) × ((i : StoredEdge) × StoredIs (now line) (now table) x i) × (length (chars (now line)) ≤ 256) × (257 ≤ length (now buf)) ⌝ }
+    ensures { λ r. ⌜ ((i : StoredEdge) → EdgeIs x i → Begins (now (buf .exit)) r (sign ∷ txtOf (chars (now (line .entry))) (now (table .entry)) i)) ⌝ }
+{
+    buf[0] = sign;
+    let n = pass_edge::txt::txt_of(&mut buf[1..], line, offs, table, x);
+    n + 1
+}
+
+// The edge for a sign that stands at place start: its texts are put together only here.
+fn add_signed(
+    w: &mut [u8],
+    l: Lattice,
+    line: &[u8],
+    offs: &[usize; 257],
+    table: &[u8],
+    x: PassEdge,
+    sign: u8,
+    start: Place,
+) -> Lattice
+    requires { ⌜ Asks (now w) l (now line) (now offs) (now table) x × (start .0 ≤ 256) ⌝ }
+    ensures { λ r. ⌜ (drop 39424 (now (w .exit)) ≡ drop 39424 (now (w .entry))) × ((es : List Edge) (i : StoredEdge) → Holds (now (w .entry)) l es → EdgeIs x i → Holds (now (w .exit)) r (add es (signEdgeAt (start .0) sign (edgeOf (chars (now (line .entry))) (now (table .entry)) i)))) ⌝ }
+{
+    let mut ty = [0u8; 62];
+    let mut txt = [0u8; 257];
+    let n = sign_type(&mut ty, table, x, sign);
+    let k = sign_txt(&mut txt, line, offs, table, x, sign);
+    lattice_add::regular::add_regular(w, l, start, x.end, &ty[..n], &txt[..k])
+}
+
+// The edge for one sign of the table, where it stands directly before the item.
+fn add_sign(
+    w: &mut [u8],
+    l: Lattice,
+    line: &[u8],
+    offs: &[usize; 257],
+    table: &[u8],
+    x: PassEdge,
+    sign: u8,
+    m: Part,
+) -> Lattice
+    requires { ⌜ Asks (now w) l (now line) (now offs) (now table) x × Within (now table) m × (wellFormed (partOf (now table) m) ≡ true) ⌝ }
+    ensures { λ r. ⌜ Signs (now (line .entry)) (now (table .entry)) x sign (partOf (now (table .entry)) m ∷ []) (now (w .entry)) l (now (w .exit)) r ⌝ }
+{
+    let from = m.at;
+    let to = m.at + m.len;
+    match markers::sign_before(line, offs, x.start, &table[from..to]) {
+        Sign::Before(size) => add_signed(w, l, line, offs, table, x, sign, Place(x.start.0 - size)),
+        Sign::NoSign => l,
+    }
+}
+
+// The edges for the signs of a list of the table, in their order.
+pub fn add_signs_of(
+    w: &mut [u8],
+    l: Lattice,
+    line: &[u8],
+    offs: &[usize; 257],
+    table: &[u8],
+    list: usize,
+    x: PassEdge,
+    sign: u8,
+) -> Lattice
+    requires { ⌜ Asks (now w) l (now line) (now offs) (now table) x × Formed (listAt (now table) list) ⌝ }
+    ensures { λ r. ⌜ Signs (now (line .entry)) (now (table .entry)) x sign (listAt (now (table .entry)) list) (now (w .entry)) l (now (w .exit)) r ⌝ }
+{
+    if table.len() <= list {
+        return l;
+    }
+    let mut grown = l;
+    let mut next = list + 1;
+    let mut left = table[list] as usize;
+    while 0 < left {
+        match table::layout::text_at(table, next) {
+            TextAt::Text(m, behind) => {
+                grown = add_sign(w, grown, line, offs, table, x, sign, m);
+                next = behind;
+                left -= 1;
+            }
+            TextAt::Fault => {
+                return grown;
+            }
+        }
+    }
+    grown
+}

@@ -1,4 +1,0 @@
--- What the stages of the call share.
-pub mod Ready
-pub mod CallEdge
-pub mod Marks

@@ -1,0 +1,10 @@
+// The table of characters: reading its bytes (the Rust's dicts).
+// The table of characters that a call is lent (01, "Table" and "Record"): reading its bytes. Crate `table_check` checks them, `table::index` looks a character up.
+// The definitions that these and the crates `table_..` below the check cite stand here.
+// Every `at` and `next` here is an offset in the table's bytes.
+pub mod layout; // layout.rt: a string at an offset, and what reading a record gives
+pub mod shape; // shape.rt: the answers of the check
+pub mod digit; // digit.rt: the type "digit", and the rom that it asks for
+pub mod record; // record.rt: a record whose layout was checked before
+pub mod index; // index.rt: the record of a character, by an index over the records
+pub mod theorems; // theorems.rt: the bytes of a table as a value, and what the check accepts (theorems)

@@ -1,2 +1,0 @@
--- The bytes of a table.
-pub mod TableBytes

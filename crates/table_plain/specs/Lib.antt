@@ -1,2 +1,0 @@
--- The definitions that the contracts of `table_plain` cite besides those of `dicts`.
-pub mod Plain

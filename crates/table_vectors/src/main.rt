@@ -1,0 +1,49 @@
+// Replays a list of tables, most of them damaged, against `table_check::check_table`: a line of standard input is a table in
+// hexadecimal, a space, and what is wrong with it. The answer goes to standard output with the same words, one line each.
+use table::shape::TableCheck;
+
+fn say(word: &[u8], n: u64) {
+    io::write_all(1, word);
+    io::print_decimal(1, n);
+}
+
+fn report(table: &[u8]) {
+    let mut offs = [0u32; 256];
+    let mut entries: usize = 0;
+    match table_check::check_table(table, &mut offs, &mut entries) {
+        TableCheck::Table(shape) => say(b"table of ", shape.count as u64),
+        TableCheck::Refused(number, at) => {
+            say(b"refused ", number as u64);
+            say(b" ", at as u64);
+        }
+    }
+}
+
+// Takes a line's digits apart into the table's buffer, and reports.
+fn try_line(digits: &[u8], table: &mut [u8]) {
+    let n = vectors::unhex(digits, table);
+    report(&table[0..n]);
+}
+
+fn answer(line: &[u8]) {
+    let mut table = io::buffer();
+    let space = vectors::until(line, 0, b' ');
+    try_line(&line[0..space], &mut table);
+    io::write_all(1, &line[space..]);
+    io::write_all(1, b"\n");
+}
+
+fn replay(s: &[u8]) {
+    let mut at = 0;
+    while at < s.len() {
+        let end = vectors::until(s, at, b'\n');
+        answer(&s[at..end]);
+        at = end + 1;
+    }
+}
+
+fn main() {
+    let mut input = io::large_buffer();
+    let got = io::read_full(0, &mut input);
+    replay(&input[..got]);
+}

@@ -1,0 +1,2 @@
+-- What the proofs of `text::known`, and its callers', share.
+pub mod KnownLaws

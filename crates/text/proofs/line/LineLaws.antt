@@ -1,0 +1,65 @@
+-- Laws of a whole line (`specs/Line.antt`): a walk with the line's length as the most characters, and the answers of `text::check::check_line` by its tests.
+use mathlib.Core.Path.{_≡_, sym, ap, _∙_}
+use mathlib.Core.Bool.{true}
+use mathlib.Core.List.{List, [], _∷_}
+use Prim.Native.Nat.{ℕ, _+_, _≤_, _<_}
+use native.Mathlib.Omega.{arith}
+use lib.ListN.{length, take, length-append}
+use lib.Seq.{take-all}
+use lib.Dec.{eqb}
+use borrow.Author.Tests.{eq-eqb, ne-eqb, le-leb, lt-leb}
+use Rattle.text.specs.declared.Walked.{Walked}
+use Rattle.text.specs.declared.LineCheck.the-variants.{Chars, IllFormed, TooLong}
+use Rattle.text.specs.Text.{chars, left, isNil, wellFormed, encodes, offsetOf, illAt}
+use Rattle.text.specs.Line.{walked, maxChars, lineCheck}
+use Rattle.text.proofs.EncodeLaws.{encode-pos}
+use Rattle.text.proofs.TextLaws.{text-split}
+
+length-encodes : (cs : List ℕ) → length cs ≤ length (encodes cs)
+unfolding encodes
+length-encodes [] = omega arith
+length-encodes (c ∷ cs) = rw length-append (omega (arith, encode-pos c, length-encodes cs))
+
+module _ (s : List ℕ) where
+  length-split : length s ≡ length (encodes (chars s)) + length (left s)
+  length-split = ap length (text-split s) ∙ length-append (encodes (chars s)) (left s)
+
+  take-chars : take (length s) (chars s) ≡ chars s
+  take-chars = take-all (length s) (chars s) (omega (arith, length-encodes (chars s), length-split))
+
+  pub count-whole : walked s (length s) .count ≡ length (chars s)
+  count-whole = ap length take-chars
+
+  pub at-whole : walked s (length s) .at ≡ illAt s
+  at-whole = rw take-chars (omega (arith, length-split))
+
+  well-formed-ill-at : wellFormed s ≡ eqb (illAt s) (length s)
+  well-formed-ill-at = by-left (left s) (omega (arith, length-split))
+    where
+      by-left : (t : List ℕ) → illAt s + length t ≡ length s → isNil t ≡ eqb (illAt s) (length s)
+      by-left [] e = sym (eq-eqb (illAt s) (length s) (omega arith))
+      by-left (b ∷ t) e = sym (ne-eqb (illAt s) (length s) (λ h. omega arith))
+
+  pub well-formed-whole : eqb (walked s (length s) .at) (length s) ≡ wellFormed s
+  well-formed-whole = rw at-whole (sym well-formed-ill-at)
+
+  -- the answers of `check_line`, by its tests
+  module _ (w : Walked) (e : w ≡ walked s (length s)) where
+    stopped : w .at ≡ illAt s
+    stopped = ap (λ (v : Walked). v .at) e ∙ at-whole
+
+    counted : w .count ≡ length (chars s)
+    counted = ap (λ (v : Walked). v .count) e ∙ count-whole
+
+    pub check-ill : w .at < length s → IllFormed (record { 0 = w .at }) ≡ lineCheck s
+    check-ill h = rw (stopped, well-formed-ill-at, ne-eqb (illAt s) (length s) (λ p. omega (arith, stopped)))
+
+    module _ (h : length s ≤ w .at) where
+      whole : wellFormed s ≡ true
+      whole = well-formed-ill-at ∙ eq-eqb (illAt s) (length s) (omega (arith, stopped))
+
+      pub check-ok : w .count ≤ maxChars → Chars (w .count) ≡ lineCheck s
+      check-ok k = rw (counted, whole, le-leb (length (chars s)) maxChars (omega (arith, counted)))
+
+      pub check-long : maxChars < w .count → (v : ℕ) → v ≡ offsetOf s maxChars → TooLong (record { 0 = v }) ≡ lineCheck s
+      check-long k v p = rw (p, whole, lt-leb (length (chars s)) maxChars (omega (arith, counted)))

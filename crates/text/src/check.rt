@@ -1,0 +1,23 @@
+// Refusals 2 and 3 of a line. The word of the contract is in `text`'s specs/Line.antt.
+use crate::LineCheck;
+use crate::Offset;
+use crate::Place;
+ghost use mathlib.Core.Path.{_≡_};
+ghost use Rattle.text.specs.Line.{lineCheck};
+
+// The most characters that a line may have.
+pub const MAX_CHARS: usize = 256;
+
+// Refusals 2 and 3. The whole line is looked at for 2 before 3 is asked; an accepted line is walked once.
+pub fn check_line(line: &[u8]) -> LineCheck
+    ensures { λ r. ⌜ r ≡ lineCheck (now (line .entry)) ⌝ }
+{
+    let w = crate::line::walk(line, line.len());
+    if w.at < line.len() {
+        return LineCheck::IllFormed(Offset(w.at));
+    }
+    if w.count <= MAX_CHARS {
+        return LineCheck::Chars(w.count);
+    }
+    LineCheck::TooLong(crate::line::offset_of(line, Place(MAX_CHARS)))
+}

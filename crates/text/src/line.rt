@@ -1,0 +1,48 @@
+// A text as characters: how far a walk over them comes, whether all of it is well-formed, and the offset of a place.
+// The words of the contracts are those of `text`, in its specs/Text.antt and specs/Line.antt.
+use crate::Offset;
+use crate::Place;
+use crate::Seq;
+use crate::Walked;
+ghost use mathlib.Core.Path.{_≡_};
+ghost use Rattle.text.specs.Text.{wellFormed, offsetOf};
+ghost use Rattle.text.specs.Line.{walked};
+
+// Over the characters from the start, at most so many, up to the end or an ill-formed sequence.
+pub fn walk(s: &[u8], most: usize) -> Walked
+    ensures { λ r. ⌜ r ≡ walked (now (s .entry)) most ⌝ }
+{
+    let mut count = 0;
+    let mut at = 0;
+    while count < most {
+        match crate::sequence::seq_at(s, Offset(at)) {
+            Seq::Char(_, len) => {
+                count += 1;
+                at += len;
+            }
+            Seq::Ill => {
+                return Walked { count, at };
+            }
+            Seq::End => {
+                return Walked { count, at };
+            }
+        }
+    }
+    Walked { count, at }
+}
+
+// Whether all of s is well-formed.
+pub fn well_formed(s: &[u8]) -> bool
+    ensures { λ r. ⌜ r ≡ wellFormed (now (s .entry)) ⌝ }
+{
+    let w = walk(s, s.len());
+    w.at == s.len()
+}
+
+// The offset of a place of the line; the line's length for a place behind its end.
+pub fn offset_of(line: &[u8], place: Place) -> Offset
+    ensures { λ r. ⌜ r .0 ≡ offsetOf (now (line .entry)) (place .0) ⌝ }
+{
+    let w = walk(line, place.0);
+    Offset(w.at)
+}

@@ -1,3 +1,0 @@
--- The laws of `turned_off`.
-pub mod KeepsLaws
-pub mod TurnedLaws

@@ -1,2 +1,0 @@
--- The definitions that the contracts of `turned_off` cite.
-pub mod Mades

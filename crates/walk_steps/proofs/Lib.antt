@@ -1,2 +1,0 @@
--- The laws that the proofs of `walk_steps` and `walker` share.
-pub mod WalkLaws

@@ -1,2 +1,0 @@
--- The definitions that the contracts of `walk_steps` and `walker` cite.
-pub mod Walk

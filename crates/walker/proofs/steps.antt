@@ -1,0 +1,2 @@
+-- The laws that the proofs of `walker::steps` and `walker` share.
+pub mod WalkLaws

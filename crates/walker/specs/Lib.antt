@@ -1,0 +1,2 @@
+-- The definitions that the contracts of `walker::steps` and `walker` cite.
+pub mod Walk
