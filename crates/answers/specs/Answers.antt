@@ -9,7 +9,7 @@ use Rattle.answers.specs.declared.Refusal.{Refusal}
 use Rattle.answers.specs.declared.Refusal.the-variants.{ShortWork, NotUtf8, OverLong, BadTable, BadContent, BadEdges, AboveTop, TooLong}
 use Rattle.answers.specs.declared.Answer.{Answer}
 use Rattle.answers.specs.declared.Answer.the-variants as Answer
-use Rattle.answers.specs.declared.Told.{Told}
+use Rattle.answers.specs.declared.CStatus.{CStatus}
 
 abbrev pub number : Refusal → ℕ
 number ShortWork = 1
@@ -31,7 +31,7 @@ place (BadEdges at) = at .0
 place (AboveTop p) = p .0
 place TooLong = 0
 
-abbrev pub refusalTold : Refusal → Told
+abbrev pub refusalTold : Refusal → CStatus
 refusalTold r = record { status = number r; at = place r }
 
 pub data Brief : Type 0 where
@@ -42,6 +42,6 @@ abbrev pub answerOf : Answer → Brief
 answerOf (Answer.Listing n) = of-length n
 answerOf (Answer.Refused r) = refused (number r) (place r)
 
-abbrev pub told : Brief → Told
+abbrev pub told : Brief → CStatus
 told (of-length n) = record { status = 0; at = n }
 told (refused n p) = record { status = n; at = p }

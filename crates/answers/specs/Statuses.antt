@@ -6,15 +6,15 @@
 --     shownTold a            the text shown: its offset and length, and whether it is a part of the listing (1) or of the line (0)
 --     Assumes nothing.
 use Prim.Native.Nat.{ℕ}
-use Rattle.answers.specs.declared.Told.{Told}
-use Rattle.answers.specs.declared.reading.ToldText.{ToldText}
-use Rattle.paths.specs.declared.Refusal.{Refusal}
+use Rattle.answers.specs.declared.CStatus.{CStatus}
+use Rattle.answers.specs.declared.reading.CText.{CText}
+use Rattle.paths.specs.declared.ReadRefusal.{ReadRefusal}
 use Rattle.paths.specs.declared.Found.{Found}
 use Rattle.paths.specs.declared.Found.the-variants.{At, Nothing}
-use Rattle.paths.specs.declared.Answer.{Answer}
-use Rattle.paths.specs.declared.Answer.the-variants as Answer
-use Rattle.paths.specs.declared.Written.{Written}
-use Rattle.paths.specs.declared.Written.the-variants as Written
+use Rattle.paths.specs.declared.EdgeAnswer.{EdgeAnswer}
+use Rattle.paths.specs.declared.EdgeAnswer.the-variants as EdgeAnswer
+use Rattle.paths.specs.declared.PathAnswer.{PathAnswer}
+use Rattle.paths.specs.declared.PathAnswer.the-variants as PathAnswer
 use Rattle.paths.specs.declared.Shown.{Shown}
 use Rattle.paths.specs.declared.Shown.the-variants as Shown
 use Rattle.paths.specs.Reading.{number, place}
@@ -26,18 +26,18 @@ abbrev pub foundAt : Found → ℕ
 foundAt (At o) = o .0
 foundAt Nothing = NONE
 
-abbrev pub refusalTold : Refusal → Told
+abbrev pub refusalTold : ReadRefusal → CStatus
 refusalTold r = record { status = number r; at = place r }
 
-abbrev pub answerTold : Answer → Told
-answerTold (Answer.Best f) = record { status = 0; at = foundAt f }
-answerTold (Answer.Refused r) = refusalTold r
+abbrev pub answerTold : EdgeAnswer → CStatus
+answerTold (EdgeAnswer.Best f) = record { status = 0; at = foundAt f }
+answerTold (EdgeAnswer.Refused r) = refusalTold r
 
-abbrev pub writtenTold : Written → Told
-writtenTold (Written.Bytes n) = record { status = 0; at = n }
-writtenTold (Written.Refused r) = refusalTold r
+abbrev pub writtenTold : PathAnswer → CStatus
+writtenTold (PathAnswer.Bytes n) = record { status = 0; at = n }
+writtenTold (PathAnswer.Refused r) = refusalTold r
 
-abbrev pub shownTold : Shown → ToldText
+abbrev pub shownTold : Shown → CText
 shownTold (Shown.Listing p) = record { status = 0; at = p .at; len = p .len; in_listing = 1 }
 shownTold (Shown.Line p) = record { status = 0; at = p .at; len = p .len; in_listing = 0 }
 shownTold (Shown.Refused r) = record { status = number r; at = place r; len = 0; in_listing = 0 }

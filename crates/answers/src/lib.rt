@@ -1,4 +1,3 @@
-// What the calls answer, and what C is told of it.
 // What the call answers, 01's numbers of its refusals (01, the table of refusals), and what C is told of an answer.
 pub mod reading; // reading.rt: the same of the calls that read a listing
 
@@ -26,51 +25,51 @@ pub enum Answer {
 }
 
 // What C is told of an answer: a status, 0 or the refusal's number, and the number that goes with it.
-pub struct Told {
+pub struct CStatus {
     pub status: u32,
     pub at: u64,
 }
 
 // 01's number of a refusal, and the place or offset that is returned with it, or 0.
-pub fn refusal_told(r: Refusal) -> Told
+pub fn refusal_told(r: Refusal) -> CStatus
     ensures { λ t. ⌜ t ≡ refusalTold r ⌝ }
 {
     match r {
-        Refusal::ShortWork => Told { status: 1, at: 0 },
-        Refusal::NotUtf8(at) => Told {
+        Refusal::ShortWork => CStatus { status: 1, at: 0 },
+        Refusal::NotUtf8(at) => CStatus {
             status: 2,
             at: at.0 as u64,
         },
-        Refusal::OverLong(at) => Told {
+        Refusal::OverLong(at) => CStatus {
             status: 3,
             at: at.0 as u64,
         },
-        Refusal::BadTable(at) => Told {
+        Refusal::BadTable(at) => CStatus {
             status: 4,
             at: at.0 as u64,
         },
-        Refusal::BadContent(at) => Told {
+        Refusal::BadContent(at) => CStatus {
             status: 5,
             at: at.0 as u64,
         },
-        Refusal::BadEdges(at) => Told {
+        Refusal::BadEdges(at) => CStatus {
             status: 6,
             at: at.0 as u64,
         },
-        Refusal::AboveTop(p) => Told {
+        Refusal::AboveTop(p) => CStatus {
             status: 7,
             at: p.0 as u64,
         },
-        Refusal::TooLong => Told { status: 8, at: 0 },
+        Refusal::TooLong => CStatus { status: 8, at: 0 },
     }
 }
 
 // 0 and the bytes of the listing, or the refusal.
-pub fn answer_told(a: Answer) -> Told
+pub fn answer_told(a: Answer) -> CStatus
     ensures { λ t. ⌜ t ≡ told (answerOf a) ⌝ }
 {
     match a {
-        Answer::Listing(n) => Told {
+        Answer::Listing(n) => CStatus {
             status: 0,
             at: n as u64,
         },

@@ -1,15 +1,15 @@
 // What C is told of an answer of the reading calls: a status, 0 or the refusal's number, and the numbers that go with it.
 ghost use mathlib.Core.Path.{_≡_};
 ghost use Rattle.answers.specs.Statuses.{foundAt, refusalTold, answerTold, writtenTold, shownTold};
-use crate::Told;
-use paths::Answer;
+use crate::CStatus;
+use paths::EdgeAnswer;
 use paths::Found;
-use paths::Refusal;
+use paths::PathAnswer;
+use paths::ReadRefusal;
 use paths::Shown;
-use paths::Written;
 
 // What C is told of a text shown: its status, offset and length, and 1 where it is a part of the listing.
-pub struct ToldText {
+pub struct CText {
     pub status: u32,
     pub at: u64,
     pub len: u64,
@@ -17,24 +17,24 @@ pub struct ToldText {
 }
 
 // 01's number of a refusal, and the offset that is returned with it, or 0.
-fn refusal_told(r: Refusal) -> Told
+fn refusal_told(r: ReadRefusal) -> CStatus
     ensures { λ t. ⌜ t ≡ refusalTold r ⌝ }
 {
     match r {
-        Refusal::NotUtf8(at) => Told {
+        ReadRefusal::NotUtf8(at) => CStatus {
             status: 2,
             at: at.0 as u64,
         },
-        Refusal::OverLong(at) => Told {
+        ReadRefusal::OverLong(at) => CStatus {
             status: 3,
             at: at.0 as u64,
         },
-        Refusal::BadListing(at) => Told {
+        ReadRefusal::BadListing(at) => CStatus {
             status: 6,
             at: at.0 as u64,
         },
-        Refusal::ShortOutput => Told { status: 8, at: 0 },
-        Refusal::BadPlace => Told { status: 9, at: 0 },
+        ReadRefusal::ShortOutput => CStatus { status: 8, at: 0 },
+        ReadRefusal::BadPlace => CStatus { status: 9, at: 0 },
     }
 }
 
@@ -49,43 +49,43 @@ fn found_at(f: Found) -> u64
 }
 
 // A best edge or a neighbour: the offset of the edge, or the refusal.
-pub fn answer_told(a: Answer) -> Told
+pub fn answer_told(a: EdgeAnswer) -> CStatus
     ensures { λ t. ⌜ t ≡ answerTold a ⌝ }
 {
     match a {
-        Answer::Best(f) => Told {
+        EdgeAnswer::Best(f) => CStatus {
             status: 0,
             at: found_at(f),
         },
-        Answer::Refused(r) => refusal_told(r),
+        EdgeAnswer::Refused(r) => refusal_told(r),
     }
 }
 
 // A path: the bytes of its listing, or the refusal.
-pub fn written_told(a: Written) -> Told
+pub fn written_told(a: PathAnswer) -> CStatus
     ensures { λ t. ⌜ t ≡ writtenTold a ⌝ }
 {
     match a {
-        Written::Bytes(n) => Told {
+        PathAnswer::Bytes(n) => CStatus {
             status: 0,
             at: n as u64,
         },
-        Written::Refused(r) => refusal_told(r),
+        PathAnswer::Refused(r) => refusal_told(r),
     }
 }
 
 // A text shown: its part of the listing or of the line, or the refusal.
-pub fn shown_told(a: Shown) -> ToldText
+pub fn shown_told(a: Shown) -> CText
     ensures { λ t. ⌜ t ≡ shownTold a ⌝ }
 {
     match a {
-        Shown::Listing(p) => ToldText {
+        Shown::Listing(p) => CText {
             status: 0,
             at: p.at as u64,
             len: p.len as u64,
             in_listing: 1,
         },
-        Shown::Line(p) => ToldText {
+        Shown::Line(p) => CText {
             status: 0,
             at: p.at as u64,
             len: p.len as u64,
@@ -93,7 +93,7 @@ pub fn shown_told(a: Shown) -> ToldText
         },
         Shown::Refused(r) => {
             let t = refusal_told(r);
-            ToldText {
+            CText {
                 status: t.status,
                 at: t.at,
                 len: 0,

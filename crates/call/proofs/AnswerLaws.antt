@@ -15,24 +15,24 @@ use Rattle.table.specs.declared.shape.Shape.{Shape}
 use Rattle.passes.specs.Passes.{aboveAt}
 use Rattle.edge.specs.Edge.{Edge}
 use Rattle.edge.specs.Layout.{listed}
-use Rattle.numbers.specs.Call.{finished, latticeOf, withAll, withLine, addNumbers}
+use Rattle.numbers.specs.Call.{finished, latticeOf, afterChecks, afterLineCheck, addNumbers}
 use Rattle.answers.specs.declared.Refusal.{Refusal}
 use Rattle.answers.specs.declared.Refusal.the-variants.{ShortWork, AboveTop}
-use Rattle.call.specs.declared.checks.Lent.the-variants as Lent
+use Rattle.call.specs.declared.checks.CallCheck.the-variants as CallCheck
 use Rattle.answers.specs.declared.Answer.{Answer}
 use Rattle.answers.specs.declared.Answer.the-variants as Answer
 use Rattle.call.specs.Answers.{AnswerIs}
-use Rattle.call.specs.Checks.{Sound, LentIs}
+use Rattle.call.specs.Checks.{Accepted, LentIs}
 use Rattle.call.proofs.checks.CheckLaws.{sound-answer}
 
 -- ---- the stages
 module _ (t : Table) (w : List ℕ) (out : List ℕ) (given : List Edge) where
-  pub answer-above : (p : Place) → aboveAt t w ≡ some (p .0) → AnswerIs out out (Answer.Refused (AboveTop p)) (withAll t w (length out) given)
-  unfolding withAll
+  pub answer-above : (p : Place) → aboveAt t w ≡ some (p .0) → AnswerIs out out (Answer.Refused (AboveTop p)) (afterChecks t w (length out) given)
+  unfolding afterChecks
   answer-above p e = record { answer = rw e; output = rw e }
 
-  pub answer-below : aboveAt t w ≡ none → (now : List ℕ) (r : Answer) → AnswerIs out now r (finished (length out) (latticeOf t w given)) → AnswerIs out now r (withAll t w (length out) given)
-  unfolding withAll
+  pub answer-below : aboveAt t w ≡ none → (now : List ℕ) (r : Answer) → AnswerIs out now r (finished (length out) (latticeOf t w given)) → AnswerIs out now r (afterChecks t w (length out) given)
+  unfolding afterChecks
   answer-below e now r q = rw e q
 
 -- ---- the checks
@@ -41,14 +41,14 @@ module _ (line table given out : List ℕ) (work : ℕ) where
   unfolding addNumbers
   answer-short h = let e = lt-ltb work 65536 h in record { answer = rw e; output = rw e }
 
-  by-line : 65536 ≤ work → addNumbers line table given work (length out) ≡ withLine line table given (length out) (lineCheck line)
+  by-line : 65536 ≤ work → addNumbers line table given work (length out) ≡ afterLineCheck line table given (length out) (lineCheck line)
   unfolding addNumbers
   by-line h = rw (le-ltb work 65536 h)
 
-  pub answer-refused : 65536 ≤ work → (r : Refusal) → LentIs line table given (Lent.Refused r) → AnswerIs out out (Answer.Refused r) (addNumbers line table given work (length out))
+  pub answer-refused : 65536 ≤ work → (r : Refusal) → LentIs line table given (CallCheck.Refused r) → AnswerIs out out (Answer.Refused r) (addNumbers line table given work (length out))
   unfolding LentIs
   answer-refused h r q = let e = by-line h ∙ q (length out) in record { answer = rw e; output = rw e }
 
-  pub answer-sound : 65536 ≤ work → {n : ℕ} {h : Shape} {count : ℕ} → Sound line table given n h count → (now : List ℕ) (r : Answer)
-      → AnswerIs out now r (withAll (tableOf table h) (chars line) (length out) (listed given)) → AnswerIs out now r (addNumbers line table given work (length out))
+  pub answer-sound : 65536 ≤ work → {n : ℕ} {h : Shape} {count : ℕ} → Accepted line table given n h count → (now : List ℕ) (r : Answer)
+      → AnswerIs out now r (afterChecks (tableOf table h) (chars line) (length out) (listed given)) → AnswerIs out now r (addNumbers line table given work (length out))
   answer-sound k s now r q = subst (AnswerIs out now r) (sym (by-line k ∙ sound-answer s (length out))) q

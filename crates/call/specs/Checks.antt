@@ -1,6 +1,6 @@
 -- What the checks 2 to 6 of the call find. Definitions only.
 --     tableRefusal n at          the refusal of a table, by its number
---     Sound line table given ..  line, table and given edges passed their checks: so many characters, the table's shape, so many edges
+--     Accepted line table given ..  line, table and given edges passed their checks: so many characters, the table's shape, so many edges
 --     LentIs line table given r  the checks 2 to 6 found r: the definition's answer is that refusal, or they are passed
 --     RestIs n table given r     the same of the checks 4 to 6, after a line of n characters
 --     LentIndexed table os k r   where the checks are passed, the index over the table's records has k entries, their offsets os
@@ -19,28 +19,28 @@ use Rattle.edge.specs.Check.{checkListing}
 use Rattle.edge.specs.declared.ListingCheck.the-variants.{Edges}
 use Rattle.table_check.specs.Indexed.{RecordIndex}
 use Rattle.numbers.specs.Ready.{Ready}
-use Rattle.numbers.specs.Call.{refused, withTable, withLine}
+use Rattle.numbers.specs.Call.{refused, afterTableCheck, afterLineCheck}
 use Rattle.answers.specs.declared.Refusal.{Refusal}
 use Rattle.answers.specs.declared.Refusal.the-variants.{BadTable, BadContent}
-use Rattle.call.specs.declared.checks.Lent.{Lent}
-use Rattle.call.specs.declared.checks.Lent.the-variants as Lent
+use Rattle.call.specs.declared.checks.CallCheck.{CallCheck}
+use Rattle.call.specs.declared.checks.CallCheck.the-variants as CallCheck
 use Rattle.answers.specs.Answers.{number, place}
 
 unfoldable pub tableRefusal : ℕ → ℕ → Refusal
 tableRefusal n at = cond (eqb n 4) (BadTable (record { 0 = at })) (BadContent (record { 0 = at }))
 
-pub record Sound (line table given : List ℕ) (n : ℕ) (h : Shape) (count : ℕ) : Type 0 where
+pub record Accepted (line table given : List ℕ) (n : ℕ) (h : Shape) (count : ℕ) : Type 0 where
   pub ready : Ready line table h n
   pub edges : checkListing true n given ≡ Edges count
 
-unfoldable pub LentIs : List ℕ → List ℕ → List ℕ → Lent → Type 0
-LentIs line table given (Lent.Sound n h count) = Sound line table given n h count
-LentIs line table given (Lent.Refused r) = (out : ℕ) → withLine line table given out (lineCheck line) ≡ refused (number r) (place r)
+unfoldable pub LentIs : List ℕ → List ℕ → List ℕ → CallCheck → Type 0
+LentIs line table given (CallCheck.Accepted n h count) = Accepted line table given n h count
+LentIs line table given (CallCheck.Refused r) = (out : ℕ) → afterLineCheck line table given out (lineCheck line) ≡ refused (number r) (place r)
 
-unfoldable pub RestIs : ℕ → List ℕ → List ℕ → Lent → Type 0
-RestIs n table given (Lent.Sound m h count) = (m ≡ n) × (readTable table ≡ Fine (tableOf table h) (length table)) × (checkListing true n given ≡ Edges count)
-RestIs n table given (Lent.Refused r) = (w : List ℕ) → length w ≡ n → (out : ℕ) → withTable w out given (readTable table) ≡ refused (number r) (place r)
+unfoldable pub RestIs : ℕ → List ℕ → List ℕ → CallCheck → Type 0
+RestIs n table given (CallCheck.Accepted m h count) = (m ≡ n) × (readTable table ≡ Fine (tableOf table h) (length table)) × (checkListing true n given ≡ Edges count)
+RestIs n table given (CallCheck.Refused r) = (w : List ℕ) → length w ≡ n → (out : ℕ) → afterTableCheck w out given (readTable table) ≡ refused (number r) (place r)
 
-unfoldable pub LentIndexed : List ℕ → List ℕ → ℕ → Lent → Type 0
-LentIndexed table os k (Lent.Sound n h count) = RecordIndex table h os k
-LentIndexed table os k (Lent.Refused r) = Unit {0}
+unfoldable pub LentIndexed : List ℕ → List ℕ → ℕ → CallCheck → Type 0
+LentIndexed table os k (CallCheck.Accepted n h count) = RecordIndex table h os k
+LentIndexed table os k (CallCheck.Refused r) = Unit {0}

@@ -9,8 +9,8 @@ use text::LineCheck;
 use text::Offset;
 
 // What the checks find: so many characters, the table's shape and so many given edges, or a refusal.
-pub enum Lent {
-    Sound(usize, Shape, usize),
+pub enum CallCheck {
+    Accepted(usize, Shape, usize),
     Refused(Refusal),
 }
 
@@ -31,15 +31,15 @@ fn check_rest(
     edges: &[u8],
     offs: &mut [u32; 256],
     entries: &mut usize,
-) -> Lent
+) -> CallCheck
     ensures { λ r. ⌜ RestIs chars (now (table .entry)) (now (edges .entry)) r ⌝ }
     ensures indexed { λ r. ⌜ LentIndexed (now (table .entry)) (now (offs .exit)) (now (entries .exit)) r ⌝ }
 {
     match table_check::check_table(table, offs, entries) {
-        TableCheck::Refused(number, at) => Lent::Refused(table_refusal(number, at)),
+        TableCheck::Refused(number, at) => CallCheck::Refused(table_refusal(number, at)),
         TableCheck::Table(h) => match edge_check::check_listing(edges, chars, true) {
-            ListingCheck::Refused(at) => Lent::Refused(Refusal::BadEdges(at)),
-            ListingCheck::Edges(count) => Lent::Sound(chars, h, count),
+            ListingCheck::Refused(at) => CallCheck::Refused(Refusal::BadEdges(at)),
+            ListingCheck::Edges(count) => CallCheck::Accepted(chars, h, count),
         },
     }
 }
@@ -51,13 +51,13 @@ pub fn check(
     edges: &[u8],
     offs: &mut [u32; 256],
     entries: &mut usize,
-) -> Lent
+) -> CallCheck
     ensures { λ r. ⌜ LentIs (now (line .entry)) (now (table .entry)) (now (edges .entry)) r ⌝ }
     ensures indexed { λ r. ⌜ LentIndexed (now (table .entry)) (now (offs .exit)) (now (entries .exit)) r ⌝ }
 {
     match text::check::check_line(line) {
-        LineCheck::IllFormed(at) => Lent::Refused(Refusal::NotUtf8(at)),
-        LineCheck::TooLong(at) => Lent::Refused(Refusal::OverLong(at)),
+        LineCheck::IllFormed(at) => CallCheck::Refused(Refusal::NotUtf8(at)),
+        LineCheck::TooLong(at) => CallCheck::Refused(Refusal::OverLong(at)),
         LineCheck::Chars(chars) => check_rest(chars, table, edges, offs, entries),
     }
 }

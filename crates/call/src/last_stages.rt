@@ -9,13 +9,13 @@ ghost use Rattle.lattice.specs.Kept.{Holds};
 ghost use Rattle.pass_list.specs.Edges.{edgeOf};
 ghost use Rattle.numbers.specs.Ready.{Ready, Offsets};
 ghost use Rattle.numbers.specs.CallEdge.{CallEdges};
-ghost use Rattle.pass_edge.specs.Sound.{Sounds};
+ghost use Rattle.pass_edge.specs.Grounded.{AllGrounded};
 ghost use Rattle.first_stages.specs.Five.{listedStored, behind};
 ghost use Rattle.call.specs.Rest.{restOf};
 use lattice::Lattice;
 use table::shape::Shape;
 
-// The stages after the passes, for a line of n characters; k items are in the list after G4.
+// The stages after the passes, for a line of n characters; k stored edges are in the list after G4.
 pub fn run_last_stages(
     w: &mut [u8],
     l: Lattice,
@@ -26,7 +26,7 @@ pub fn run_last_stages(
     n: usize,
     k: usize,
 ) -> Lattice
-    requires { ⌜ Ready (now line) (now table) h n × ((es : List Edge) × Holds (now w) l es × CallEdges n es) × Offsets (now line) (now offs) × Sounds (chars (now line)) (now table) (behind (now w) k) × CallEdges n (listedStored (chars (now line)) (now table) (behind (now w) k)) × (39424 + k * 56 ≤ length (now w)) ⌝ }
+    requires { ⌜ Ready (now line) (now table) h n × ((es : List Edge) × Holds (now w) l es × CallEdges n es) × Offsets (now line) (now offs) × AllGrounded (chars (now line)) (now table) (behind (now w) k) × CallEdges n (listedStored (chars (now line)) (now table) (behind (now w) k)) × (39424 + k * 56 ≤ length (now w)) ⌝ }
     ensures { λ r. ⌜ ((es : List Edge) → Holds (now (w .entry)) l es → CallEdges n es → Holds (now (w .exit)) r (restOf (tableOf (now (table .entry)) h) (chars (now (line .entry))) (map (edgeOf (chars (now (line .entry))) (now (table .entry))) (behind (now (w .entry)) k)) es)) ⌝ }
 {
     let made = fractions::fractions(w, l, line, offs, table, h, n);

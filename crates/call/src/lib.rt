@@ -1,4 +1,3 @@
-// The whole call, `add_numbers`.
 // The whole call, `add_numbers` (01, "What a call is lent", "The rest of the call"): the checks in their order, then the stages.
 pub mod checks; // checks.rt: the checks 2 to 6
 pub mod last_stages; // last_stages.rt: the stages after the passes, in turn
@@ -11,15 +10,15 @@ ghost use Rattle.numbers.specs.Ready.{Offsets};
 ghost use Rattle.text.specs.Text.{chars};
 ghost use Rattle.table.specs.Answers.{tableOf};
 ghost use Rattle.edge.specs.Layout.{listed};
-ghost use Rattle.numbers.specs.Call.{withAll, addNumbers};
+ghost use Rattle.numbers.specs.Call.{afterChecks, addNumbers};
 ghost use Rattle.table_check.specs.Indexed.{RecordIndex};
-ghost use Rattle.call.specs.Checks.{Sound};
+ghost use Rattle.call.specs.Checks.{Accepted};
 ghost use Rattle.call.specs.Answers.{AnswerIs};
-use crate::checks::Lent;
+use crate::checks::CallCheck;
 pub use answers::Answer;
 pub use answers::Refusal;
 pub use answers::refusal_told;
-use first_stages::five_passes::Passes;
+use first_stages::five_passes::PassesAnswer;
 use table::shape::Shape;
 
 // The stages, for what passed its checks. The output is written only at the end.
@@ -36,12 +35,12 @@ fn checked_call(
     work: &mut [u8],
     out: &mut [u8],
 ) -> Answer
-    requires { ⌜ Offsets (now line) (now offs) × (65536 ≤ length (now work)) × Sound (now line) (now table) (now edges) n h count × RecordIndex (now table) h (now index) entries ⌝ }
-    ensures { λ r. ⌜ AnswerIs (now (out .entry)) (now (out .exit)) r (withAll (tableOf (now (table .entry)) h) (chars (now (line .entry))) (length (now (out .entry))) (listed (now (edges .entry)))) ⌝ }
+    requires { ⌜ Offsets (now line) (now offs) × (65536 ≤ length (now work)) × Accepted (now line) (now table) (now edges) n h count × RecordIndex (now table) h (now index) entries ⌝ }
+    ensures { λ r. ⌜ AnswerIs (now (out .entry)) (now (out .exit)) r (afterChecks (tableOf (now (table .entry)) h) (chars (now (line .entry))) (length (now (out .entry))) (listed (now (edges .entry)))) ⌝ }
 {
-    match first_stages::passed(work, line, offs, table, h, edges, count, index, entries) {
-        Passes::Above(p) => Answer::Refused(Refusal::AboveTop(p)),
-        Passes::Added(m, k) => {
+    match first_stages::run_first_stages(work, line, offs, table, h, edges, count, index, entries) {
+        PassesAnswer::Above(p) => Answer::Refused(Refusal::AboveTop(p)),
+        PassesAnswer::Added(m, k) => {
             let l = crate::last_stages::run_last_stages(work, m, line, offs, table, h, n, k);
             crate::ending::finish_call(work, l, out)
         }
@@ -64,8 +63,8 @@ pub fn add_numbers(
     let mut index = [0u32; 256];
     let mut entries: usize = 0;
     match crate::checks::check(line, table, edges, &mut index, &mut entries) {
-        Lent::Refused(r) => Answer::Refused(r),
-        Lent::Sound(n, h, count) => {
+        CallCheck::Refused(r) => Answer::Refused(r),
+        CallCheck::Accepted(n, h, count) => {
             let mut offs = [0usize; 257];
             pass_edge::places::place_offsets(line, &mut offs);
             checked_call(

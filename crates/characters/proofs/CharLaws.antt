@@ -1,4 +1,4 @@
--- The item of a character (specs/CharStored.antt) stands for the definition's edge, and is well made and small, where its record is legal. No contract cites this file.
+-- The stored edge of a character (specs/CharStored.antt) stands for the definition's edge, and is well made and small, where its record is legal. No contract cites this file.
 -- In order: texts of one character; numbers that may be absent; the edge; the marks; the bounds.
 -- Assumes nothing.
 use mathlib.Core.Path.{_≡_, refl, sym, ap, _∙_}
@@ -117,14 +117,14 @@ legal-parts least r h = and-true (legalNumbers (numbersIn r)) (digitRule r) (and
 
 -- ---- one character: c stands at place i of the line w, and the record p that is read at the offset at of the table t is its record
 module _ (w t : List ℕ) (p : NumProp) (at i c : ℕ) where
-  abbrev item : StoredEdge
-  item = charStored t p at i c
+  abbrev stored-edge : StoredEdge
+  stored-edge = charStored t p at i c
 
   module _ (inside : i < length w) (here : getD w i 0 ≡ c) (reads : Is (recordOf t p) (p .next) ≡ readRecord t at) where
     here-text : between w i (i + 1) ≡ encode c
     here-text = between-one w i inside ∙ ap encode here
 
-    pub char-edge-is : edgeOf w t item ≡ charEdge i c (recordOf t p)
+    pub char-edge-is : edgeOf w t stored-edge ≡ charEdge i c (recordOf t p)
     unfolding edgeOf charStored charEdge recordOf
     char-edge-is =
         rw (
@@ -137,7 +137,7 @@ module _ (w t : List ℕ) (p : NumProp) (at i c : ℕ) where
         )
 
     -- ---- the marks
-    digit-is : digitEdge (charEdge i c (recordOf t p)) ≡ item .digit
+    digit-is : digitEdge (charEdge i c (recordOf t p)) ≡ stored-edge .digit
     unfolding digitEdge charEdge charStored recordOf
     digit-is =
         let one : eqb (suc i) (suc i) ≡ true = eq-eqb (suc i) (suc i) refl in
@@ -147,21 +147,21 @@ module _ (w t : List ℕ) (p : NumProp) (at i c : ℕ) where
       here-scalar : scalar c ≡ true
       here-scalar = rw here at (scalars-at i w scalars inside)
 
-      gap-is : passes.gap (charEdge i c (recordOf t p)) ≡ item .gap
+      gap-is : passes.gap (charEdge i c (recordOf t p)) ≡ stored-edge .gap
       unfolding passes.gap charEdge charStored
       gap-is = rw (same-encode c 0x96F6 here-scalar refl, same-encode c 0x3007 here-scalar refl)
 
-      script-same : isScript (charEdge i c (recordOf t p) .script) cjk ≡ item .cjk
+      script-same : isScript (charEdge i c (recordOf t p) .script) cjk ≡ stored-edge .cjk
       unfolding charEdge charStored recordOf
       script-same = script-is (bit (p .map) 5) (partOf t (p .script)) cjk
 
-      digit-text : digitRule (recordOf t p) ≡ true → item .digit ≡ true → charEdge i c (recordOf t p) .txt ≡ padded (i + 1 - i) (item .value)
+      digit-text : digitRule (recordOf t p) ≡ true → stored-edge .digit ≡ true → charEdge i c (recordOf t p) .txt ≡ padded (i + 1 - i) (stored-edge .value)
       unfolding charEdge charStored recordOf digitRule
       digit-text legal d =
           let one : i + 1 - i ≡ 1 = omega arith in
           rw one (digit-txt (partOf t (p .«num_type»)) (bit (p .map) 1) (p .numbers .value) (optionally (bit (p .map) 0) (partOf t (p .rom))) (encode c) legal d)
 
-      pub char-made : digitRule (recordOf t p) ≡ true → WellMade w t item
+      pub char-made : digitRule (recordOf t p) ≡ true → WellMade w t stored-edge
       unfolding charStored
       char-made legal = record {
         ordered = omega arith;

@@ -1,5 +1,5 @@
 -- Laws of the pass list before D1 (`specs/Initial.antt`), for a loop over the line. No contract cites this file.
--- In order: the records by the table's count; what the table's check gives; the item of a character; one character more, without and with a record; no character;
+-- In order: the records by the table's count; what the table's check gives; the stored edge of a character; one character more, without and with a record; no character;
 -- the end of the line.
 use mathlib.Core.Path.{_≡_, sym, ap, _∙_}
 use mathlib.Core.Bool.{true}
@@ -19,12 +19,12 @@ use Rattle.table.specs.declared.shape.Shape.{Shape}
 use Rattle.table.specs.declared.layout.NumProp.{NumProp}
 use Rattle.table.proofs.LookupLaws.{table-rises}
 use Rattle.table.specs.Index.{FoundAt, Whole}
-use Rattle.table.specs.declared.index.Rest.{Rest}
+use Rattle.table.specs.declared.index.RecordRun.{RecordRun}
 use Rattle.pass_list.specs.StoredEdge.{Every, Small, nil, cons}
 use Rattle.pass_list.specs.Stored.{storedListAt}
 use Rattle.pass_list.proofs.in_turn.EveryLaws.{every-append}
-use Rattle.pass_list.proofs.in_turn.FirstItemsLaws.{first-items-none, first-items-skip, first-items-more}
-use Rattle.pass_edge.specs.Sound.{Rooted, Sound}
+use Rattle.pass_list.proofs.in_turn.FirstStoredLaws.{first-stored-edges-none, first-stored-edges-skip, first-stored-edges-more}
+use Rattle.pass_edge.specs.Grounded.{Rooted, Grounded}
 use Rattle.characters.specs.CharStored.{charStored}
 use Rattle.characters.specs.Initial.{recordsIn, Records, SoFar, Initial}
 use Rattle.characters.proofs.CharLaws.{legal-parts, char-edge-is, char-made, char-kind, char-small}
@@ -47,7 +47,7 @@ module _ (t : List ℕ) (h : Shape) (ok : readTable t ≡ Fine (tableOf t h) (le
   said-initial line so = rw (← said-same) so
 
 -- ---- what the table's check gives
-module _ (t : List ℕ) (all : Rest) (ok : Records t all) where
+module _ (t : List ℕ) (all : RecordRun) (ok : Records t all) where
   pub records-whole : Whole t (all .at) (all .left)
   records-whole = record { full = ok .full; rises = rw (← (ok .these)) (table-rises t (ok .checked)) }
 
@@ -65,15 +65,15 @@ module _ (t : List ℕ) (all : Rest) (ok : Records t all) where
 
   -- ---- c stands at place k of the line
   module _ (w : List ℕ) (scalars : Scalars w) (k c : ℕ) (inside : k < length w) (here : getD w k 0 ≡ c) where
-    pub found-sound : (p : NumProp) (at : ℕ) → FoundAt t (recordsIn t all) c p at → Sound w t (charStored t p at k c)
+    pub found-sound : (p : NumProp) (at : ℕ) → FoundAt t (recordsIn t all) c p at → Grounded w t (charStored t p at k c)
     found-sound p at f = record { made = char-made w t p at k c inside here (f .reads) scalars (legal c p at f .1); small = char-small t p at k c (legal c p at f .0); rooted = found-rooted c p at f k }
 
-    -- ---- a turn: s begins with the n items of the characters before place k
+    -- ---- a turn: s begins with the n stored edges of the characters before place k
     module _ (n : ℕ) (s : List ℕ) (so : SoFar w t (recordsIn t all) k s n) where
       pub so-far-skip : find (recordsIn t all) c ≡ none → SoFar w t (recordsIn t all) (k + 1) s n
       so-far-skip e =
           let few = so .few in
-          record { items = first-items-skip w t (recordsIn t all) k c (storedListAt s 0 n) inside here (so .items) e; few = omega arith; small = so .small; rooted = so .rooted }
+          record { stored-edges = first-stored-edges-skip w t (recordsIn t all) k c (storedListAt s 0 n) inside here (so .stored-edges) e; few = omega arith; small = so .small; rooted = so .rooted }
 
       pub so-far-more : (p : NumProp) (at : ℕ) (u : List ℕ) → FoundAt t (recordsIn t all) c p at → storedListAt u 0 (n + 1) ≡ storedListAt s 0 n ++ (charStored t p at k c ∷ [])
           → SoFar w t (recordsIn t all) (k + 1) u (n + 1)
@@ -82,7 +82,7 @@ module _ (t : List ℕ) (all : Rest) (ok : Records t all) where
           let x = charStored t p at k c in
           let sound = found-sound p at f in
           record {
-            items = rw put (first-items-more w t (recordsIn t all) k c (storedListAt s 0 n) inside here (so .items) (recordOf t p) x (f .found)
+            stored-edges = rw put (first-stored-edges-more w t (recordsIn t all) k c (storedListAt s 0 n) inside here (so .stored-edges) (recordOf t p) x (f .found)
                 (char-edge-is w t p at k c inside here (f .reads)) (sound .made) (char-kind t p at k c));
             few = omega arith;
             small = rw put (every-append Small (storedListAt s 0 n) (x ∷ []) (so .small) (cons (sound .small) nil));
@@ -91,7 +91,7 @@ module _ (t : List ℕ) (all : Rest) (ok : Records t all) where
 
 pub so-far-none : (w t : List ℕ) (rs : List Record) (s : List ℕ) → SoFar w t rs 0 s 0
 unfolding storedListAt
-so-far-none w t rs s = record { items = first-items-none w t rs; few = omega arith; small = nil; rooted = nil }
+so-far-none w t rs s = record { stored-edges = first-stored-edges-none w t rs; few = omega arith; small = nil; rooted = nil }
 
 -- the line ends at place k
 pub so-far-all : (line t : List ℕ) (rs : List Record) (k at n : ℕ) (s : List ℕ) → Reached line k at → chars (drop at line) ≡ [] → SoFar (chars line) t rs k s n

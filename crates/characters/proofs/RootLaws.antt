@@ -1,4 +1,4 @@
--- The item of a character takes what it needs from the table (items/specs/Sound.antt): its record, which the table's check accepted, and its script. No
+-- The stored edge of a character takes what it needs from the table (pass_edge/specs/Grounded.antt): its record, which the table's check accepted, and its script. No
 -- contract cites this file. Assumes nothing.
 use mathlib.Core.Path.{_≡_, sym}
 use mathlib.Core.Bool.{true}
@@ -17,7 +17,7 @@ use Rattle.table.specs.Layout.{bit, numbersIn}
 use Rattle.table.specs.Check.{allOf, legalCodePoint, legalTexts, legalNumbers, legalRecord}
 use Rattle.table.specs.Answers.{recordOf}
 use Rattle.table.specs.declared.layout.NumProp.{NumProp}
-use Rattle.pass_edge.specs.Sound.{ScriptAt, Rooted}
+use Rattle.pass_edge.specs.Grounded.{ScriptAt, Rooted}
 use Rattle.pass_edge.proofs.RecordLaws.{record-short, at-most}
 use Rattle.characters.specs.CharStored.{charStored}
 use Rattle.table.specs.Index.{FoundAt}

@@ -10,4 +10,4 @@ use Rattle.pass_list.proofs.in_turn.Theorems.{FiveAre, five-are}
 use Rattle.characters.specs.Initial.{Initial}
 
 pub initial-five : (line t : List ℕ) (h : Shape) (s : List ℕ) (n : ℕ) → Initial line t h s n → FiveAre (chars line) t (tableOf t h) (storedListAt s 0 n)
-initial-five line t h s n i = five-are (chars line) t (chars-scalars line) (tableOf t h) (storedListAt s 0 n) (i .items)
+initial-five line t h s n i = five-are (chars line) t (chars-scalars line) (tableOf t h) (storedListAt s 0 n) (i .stored-edges)

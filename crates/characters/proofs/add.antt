@@ -1,2 +1,2 @@
--- Laws of the texts of an item.
+-- Laws of the texts of a stored edge.
 pub mod TextsLaws

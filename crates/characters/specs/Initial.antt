@@ -1,7 +1,7 @@
 -- The pass list before D1 (01, "From characters to edges"). Definitions only.
 --     recordsIn t all        the records of the table t that all says: where they begin, and how many
 --     Records t all          the table t passed its check, and these are its records, so many
---     SoFar w t rs k s n     s begins with n items: those of the first k characters of the line w (code points), by the records rs of the table t
+--     SoFar w t rs k s n     s begins with n stored edges: those of the first k characters of the line w (code points), by the records rs of the table t
 --     Initial line t h s n   the same of the whole line, by the table t of shape h: what `initialize_num_edges` leaves
 -- Assumes nothing.
 use mathlib.Core.Path.{_≡_}
@@ -14,23 +14,23 @@ use Rattle.table.specs.Layout.{recordsAt}
 use Rattle.table.specs.Check.{Fine, readTable}
 use Rattle.table.specs.Answers.{tableOf}
 use Rattle.table.specs.declared.shape.Shape.{Shape}
-use Rattle.table.specs.declared.index.Rest.{Rest}
+use Rattle.table.specs.declared.index.RecordRun.{RecordRun}
 use Rattle.pass_list.specs.StoredEdge.{Every, AllSmall}
 use Rattle.pass_list.specs.Stored.{storedListAt}
 use Rattle.pass_list.specs.FirstStored.{FirstStored}
-use Rattle.pass_edge.specs.Sound.{Rooted}
+use Rattle.pass_edge.specs.Grounded.{Rooted}
 
-abbrev pub recordsIn : List ℕ → Rest → List Record
+abbrev pub recordsIn : List ℕ → RecordRun → List Record
 recordsIn t all = recordsAt (all .left) t (all .at)
 
-pub record Records (t : List ℕ) (all : Rest) : Type 0 where
+pub record Records (t : List ℕ) (all : RecordRun) : Type 0 where
   pub table : Table
   pub checked : readTable t ≡ Fine table (length t)
   pub these : table .records ≡ recordsIn t all
   pub full : length (recordsIn t all) ≡ all .left
 
 pub record SoFar (w t : List ℕ) (rs : List Record) (k : ℕ) (s : List ℕ) (n : ℕ) : Type 0 where
-  pub items : FirstStored w t rs k (storedListAt s 0 n)
+  pub stored-edges : FirstStored w t rs k (storedListAt s 0 n)
   pub few : n ≤ k
   pub small : AllSmall (storedListAt s 0 n)
   pub rooted : Every (Rooted t) (storedListAt s 0 n)

@@ -1,8 +1,8 @@
 // A character of the line is added to the lattice, by its record (01, "From characters to edges").
 ghost use mathlib.Core.Path.{_≡_};
-ghost use Rattle.pass_edge.specs.Sound.{LegalAt};
+ghost use Rattle.pass_edge.specs.Grounded.{LegalAt};
 ghost use Rattle.pass_edge.specs.Fields.{storedFraction, FractionIs};
-ghost use Rattle.pass_edge.specs.Adding.{Asks, Adds};
+ghost use Rattle.pass_edge.specs.Adding.{Addable, Added};
 use lattice::Lattice;
 use pass_edge::Fraction;
 use pass_list::record::PassEdge;
@@ -32,8 +32,8 @@ pub fn add_char(
     table: &[u8],
     x: PassEdge,
 ) -> Lattice
-    requires { ⌜ Asks (now w) l (now line) (now offs) (now table) x × (x .kind ≡ 0) ⌝ }
-    ensures { λ r. ⌜ Adds (now (line .entry)) (now (table .entry)) x (now (w .entry)) l (now (w .exit)) r ⌝ }
+    requires { ⌜ Addable (now w) l (now line) (now offs) (now table) x × (x .kind ≡ 0) ⌝ }
+    ensures { λ r. ⌜ Added (now (line .entry)) (now (table .entry)) x (now (w .entry)) l (now (w .exit)) r ⌝ }
 {
     let at = x.record_at.0;
     let f = fraction_at(table, at);
@@ -42,6 +42,6 @@ pub fn add_char(
         let rom = pass_edge::rom_at(table, at);
         return pass_edge::listed::add_texts(w, l, line, offs, table, x, f, ty, rom);
     }
-    let own = pass_edge::own_at(line, offs, x.start.0, x.end.0);
+    let own = pass_edge::line_part(line, offs, x.start.0, x.end.0);
     pass_edge::listed::add_texts(w, l, line, offs, table, x, f, ty, own)
 }

@@ -1,4 +1,4 @@
-// The fraction of a record (01, "From characters to edges"), as an item of the pass list has it.
+// The fraction of a record (01, "From characters to edges"), as a stored edge of the pass list has it.
 ghost use mathlib.Core.Path.{_≡_};
 ghost use Prim.Native.Nat.{_/_, _%_, _<_};
 ghost use Rattle.pass_edge.specs.Fields.{recordFraction, FractionIs};

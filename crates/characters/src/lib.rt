@@ -1,4 +1,3 @@
-// The edge of a character.
 // The edge of one character in the pass list, from its record in the table. The definition is charStored of specs/CharStored.antt.
 pub mod fraction; // fraction.rt: the fraction of its record
 pub mod add; // add.rt: a character added to the lattice
@@ -10,7 +9,7 @@ ghost use Rattle.table.specs.Answers.{partOf, Within, Inside};
 ghost use Rattle.passes.specs.Passes.{cjk};
 ghost use Rattle.pass_list.specs.StoredEdge.{numData, Small, EdgeIs};
 ghost use Rattle.characters.specs.CharStored.{numberIf, charStored};
-use pass_list::record::NumData;
+use pass_list::record::PassData;
 use pass_list::record::PassEdge;
 use table::digit::is_digit_type;
 use table::layout::NumProp;
@@ -34,7 +33,7 @@ fn is_cjk(table: &[u8], p: Part) -> bool
     text::same_bytes(&table[at..end], b"CJK")
 }
 
-fn char_num(table: &[u8], p: NumProp, record_at: usize, place: usize, c: u32) -> NumData
+fn char_num(table: &[u8], p: NumProp, record_at: usize, place: usize, c: u32) -> PassData
     requires { ⌜ Inside (now table) p × Small (charStored (now table) p «record_at» place c) ⌝ }
     ensures { λ r. ⌜ r ≡ numData (charStored (now (table .entry)) p «record_at» place c) ⌝ }
 {
@@ -46,9 +45,9 @@ fn char_num(table: &[u8], p: NumProp, record_at: usize, place: usize, c: u32) ->
     let has_mult = p.map / 16 % 2 == 1;
     let has_script = p.map / 32 % 2 == 1;
     let value = number_if(has_value, n.value);
-    NumData {
-        value: whole::f64_of(value),
-        base_multiplier: whole::f64_of(number_if(has_mult, n.mult)),
+    PassData {
+        value: whole::exact_f64(value),
+        base_multiplier: whole::exact_f64(number_if(has_mult, n.mult)),
         base: number_if(has_base, n.base),
         has_value: has_value,
         has_base: has_base,

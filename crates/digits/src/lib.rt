@@ -1,4 +1,3 @@
-// The 680 decimal digits of Unicode 15.0.
 // Decimal digits: the 680 characters of general category Nd in Unicode 15.0 (UAX #44), 68 runs of ten. The word of the contract is in specs/Digits.antt;
 // specs/TextEnds.antt has those of `digits::ends`.
 pub mod ends; // ends.rt: whether a text begins or ends with one

@@ -1,4 +1,4 @@
--- Laws of the offsets of an edge's items (`specs/Layout.antt`). No contract cites this file.
+-- Laws of the offsets of an edge's fields (`specs/Layout.antt`). No contract cites this file.
 use mathlib.Core.Path.{_≡_, refl, _∙_}
 use mathlib.Core.Bool.{Bool, true, false, cond}
 use mathlib.Core.List.{List, _∷_}
@@ -38,7 +38,7 @@ module _ (s : List ℕ) (at : ℕ) {m t h : ℕ} {b : Bool} (map : m ≡ mapAt s
   unfolding nextAt
   next-regular off = if-off (stands 0 (mapAt s at)) _ _ (cc) (cc)
 
--- ---- the items of an edge that ends within n bytes are within them too
+-- ---- the fields of an edge that ends within n bytes are within them too
 pub string-end-ge : (s : List ℕ) (at : ℕ) → at + 2 ≤ stringEnd s at
 unfolding stringEnd
 string-end-ge s at = omega arith

@@ -1,4 +1,4 @@
--- Where the items of an edge stand in a list of bytes, each behind the one before, and the edge that they say (01, "Listing"). Definitions only.
+-- Where the fields of an edge stand in a list of bytes, each behind the one before, and the edge that they say (01, "Listing"). Definitions only.
 --     bit k m           bit k of the map m, 0 or 1
 --     stands k m        whether it is 1
 --     textAt s at       the string whose u16 length is at an offset; stringEnd s at is behind it
@@ -69,7 +69,7 @@ fieldsEnd m s at = stringEndIf (stands 8 m) s (valueSAt m s (stringEnd s at))
 unfoldable pub nextAt : List ℕ → ℕ → ℕ
 nextAt s at = cond (stands 0 (mapAt s at)) (fieldsEnd (mapAt s at) s (headEnd s at)) (headEnd s at)
 
--- ---- what the items say
+-- ---- what the fields say
 abbrev pub only : {A : Type 0} → Bool → A → Option A
 only on a = cond on (some a) none
 

@@ -1,5 +1,5 @@
-// Edges in their listing: reading one (the Rust's edge.rs).
-// Edges in their listing (01, "Listing"): what is read of them and written, and the bits of a map. `edge::head`, `edge::numeric` and `edge::next` read whatever stands there, `edge_check` refuses, `edge_write::numeric` writes.
+// Edges in their listing (01, "Listing"; the Rust's edge.rs): what is read of them and written, and the bits of a map. The modules read whatever stands there;
+// `edge_check` refuses, `edge_write` writes.
 pub mod head; // head.rt: the head of an edge
 pub mod next; // next.rt: where the next edge begins
 pub mod numeric; // numeric.rt: the fields of a numeric edge

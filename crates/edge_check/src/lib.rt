@@ -1,4 +1,3 @@
-// Refusal 6: the check of a listing.
 // Refusal 6 (01, "Listing"): whether bytes are a listing over a line, and where they are not.
 pub mod sound; // sound.rt: whether one edge may stand
 

@@ -1,4 +1,3 @@
-// The fallback for ASCII digits.
 // The fallback (01, "The rest of the call"): an ASCII digit without a numeric edge on its place adds a regular edge there. The last stage of the call.
 pub mod marks; // marks.rt: which places a numeric edge covers
 

@@ -1,5 +1,4 @@
-// Little-endian numbers and copies of bytes in slices.
-// Little-endian numbers read in slices of bytes (01: "Multi-byte numbers are little-endian"): what stands at an offset is `leAt` of specs/Fields.antt.
+// Little-endian numbers and copies of bytes in slices (01: "Multi-byte numbers are little-endian"): what stands at an offset is `leAt` of specs/Fields.antt.
 pub mod write; // write.rt: numbers written
 pub mod copy; // copy.rt: bytes copied in
 

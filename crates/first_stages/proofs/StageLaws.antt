@@ -28,20 +28,20 @@ use Rattle.lattice.proofs.HoldsLaws.{add-all-append}
 use Rattle.numbers.specs.Ready.{Ready}
 use Rattle.numbers.specs.CallEdge.{CallEdges}
 use Rattle.numbers.proofs.stages.CallLaws.{add-all-call}
-use Rattle.pass_edge.specs.Sound.{Sounds}
-use Rattle.pass_edge.proofs.theorems.Theorems.{items-call}
+use Rattle.pass_edge.specs.Grounded.{AllGrounded}
+use Rattle.pass_edge.proofs.theorems.Theorems.{stored-edges-call}
 use Rattle.characters.specs.Initial.{Initial}
 use Rattle.characters.proofs.Theorems.{initial-five}
 use Rattle.first_stages.proofs.given.GivenLaws.{given-call}
-use Rattle.first_stages.specs.declared.five_passes.Passes.{Passes}
-use Rattle.first_stages.specs.declared.five_passes.Passes.the-variants.{Added, Above}
-use Rattle.first_stages.specs.Five.{listedStored, behind, FiveIs}
+use Rattle.first_stages.specs.declared.five_passes.PassesAnswer.{PassesAnswer}
+use Rattle.first_stages.specs.declared.five_passes.PassesAnswer.the-variants.{Added, Above}
+use Rattle.first_stages.specs.Five.{listedStored, behind, FivePasses}
 use Rattle.numbers.specs.Listed.{listedEdge}
 use Rattle.numbers.specs.Call.{afterPasses}
-use Rattle.first_stages.specs.declared.chars.First.{First}
+use Rattle.first_stages.specs.declared.chars.CharsAnswer.{CharsAnswer}
 use Rattle.first_stages.specs.Stages.{CallPassed}
 
-module _ (line t : List ℕ) (h : Shape) (given : List ℕ) {n count : ℕ} (ready : Ready line t h n) (legal : checkListing true n given ≡ Edges count) (bytes : (j : ℕ) → getD given j 0 < 256) (s : List ℕ) (r : First) (i : Initial line t h (drop 39424 s) (r .count)) where
+module _ (line t : List ℕ) (h : Shape) (given : List ℕ) {n count : ℕ} (ready : Ready line t h n) (legal : checkListing true n given ≡ Edges count) (bytes : (j : ℕ) → getD given j 0 < 256) (s : List ℕ) (r : CharsAnswer) (i : Initial line t h (drop 39424 s) (r .count)) where
   abbrev w : List ℕ
   w = chars line
 
@@ -54,8 +54,8 @@ module _ (line t : List ℕ) (h : Shape) (given : List ℕ) {n count : ℕ} (rea
   few-chars : length w ≤ 256
   few-chars = omega (arith, ready .few, ready .count)
 
-  pub call-above : (u : List ℕ) (p : Place) → FiveIs w t s (r .lattice) (r .count) u (Above p) → CallPassed line t h given u (Above p)
-  unfolding FiveIs CallPassed
+  pub call-above : (u : List ℕ) (p : Place) → FivePasses w t s (r .lattice) (r .count) u (Above p) → CallPassed line t h given u (Above p)
+  unfolding FivePasses CallPassed
   call-above u p f = sym (initial-five line t h (drop 39424 s) (r .count) i .above) ∙ f
 
   -- the edges of the characters, then the joined ones
@@ -70,9 +70,9 @@ module _ (line t : List ℕ) (h : Shape) (given : List ℕ) {n count : ℕ} (rea
   given-edges : CallEdges (length w) (listed given)
   given-edges = rw (ready .count) (given-call n given bytes count legal)
 
-  pub call-done : (u : List ℕ) (m : Lattice) (k : ℕ) → Holds s (r .lattice) (addAll (addAll [] (listed given)) (listedStored w t first)) → Sounds w t first
-      → FiveIs w t s (r .lattice) (r .count) u (Added m k) → CallPassed line t h given u (Added m k)
-  unfolding FiveIs CallPassed afterPasses
+  pub call-done : (u : List ℕ) (m : Lattice) (k : ℕ) → Holds s (r .lattice) (addAll (addAll [] (listed given)) (listedStored w t first)) → AllGrounded w t first
+      → FivePasses w t s (r .lattice) (r .count) u (Added m k) → CallPassed line t h given u (Added m k)
+  unfolding FivePasses CallPassed afterPasses
   call-done u m k q sounds f =
       let a = initial-five line t h (drop 39424 s) (r .count) i in
       let e = in-a-row (addAll [] (listed given)) in
@@ -80,13 +80,13 @@ module _ (line t : List ℕ) (h : Shape) (given : List ℕ) {n count : ℕ} (rea
         above = sym (a .above) ∙ f .below;
         holds = subst (Holds u m) e (f .holds (addAll (addAll [] (listed given)) (listedStored w t first)) q);
         call = subst (CallEdges (length w)) e
-            (add-all-call (add-all-call (add-all-call nil given-edges) (items-call w t (chars-scalars line) few-chars first sounds)) (items-call w t (chars-scalars line) few-chars (addedBy five first) (f .joined)));
+            (add-all-call (add-all-call (add-all-call nil given-edges) (stored-edges-call w t (chars-scalars line) few-chars first sounds)) (stored-edges-call w t (chars-scalars line) few-chars (addedBy five first) (f .joined)));
         fifth = ap (map (edgeOf w t)) (f .list) ∙ a .fifth;
         sounds = f .sounds;
         few = f .few;
       }
 
-  pub call-passed : (u : List ℕ) (x : Passes) → Holds s (r .lattice) (addAll (addAll [] (listed given)) (listedStored w t first)) → Sounds w t first
-      → FiveIs w t s (r .lattice) (r .count) u x → CallPassed line t h given u x
+  pub call-passed : (u : List ℕ) (x : PassesAnswer) → Holds s (r .lattice) (addAll (addAll [] (listed given)) (listedStored w t first)) → AllGrounded w t first
+      → FivePasses w t s (r .lattice) (r .count) u x → CallPassed line t h given u x
   call-passed u (Above p) q sounds f = call-above u p f
   call-passed u (Added m k) q sounds f = call-done u m k q sounds f

@@ -1,8 +1,8 @@
 -- What the stage of the line's characters leaves. Definitions only.
---     Room s l line offs             what adding a line's characters asks: a lattice l in the work space s, room for the items behind it, the line's offsets
---     Grown line t s l u r           from the work space s with lattice l to u: the lattice r has the edges of the items behind it besides
+--     Room s l line offs             what adding a line's characters asks: a lattice l in the work space s, room for the stored edges behind it, the line's offsets
+--     Grown line t s l u r           from the work space s with lattice l to u: the lattice r has the edges of the stored edges behind it besides
 --     Adding line t rs k s l u r     of the first k characters those with a record among rs were added, from the work space s with lattice l to u: as r says
---     FirstDone line t h s l u r     the edges of the line's characters were added, from the work space s with lattice l to u: the lattice and the items' count r
+--     FirstDone line t h s l u r     the edges of the line's characters were added, from the work space s with lattice l to u: the lattice and the stored edges' count r
 --     Assumes nothing.
 use mathlib.Core.List.{List}
 use Prim.Native.Nat.{ℕ, _≤_}
@@ -17,7 +17,7 @@ use Rattle.lattice.specs.Kept.{Holds}
 use Rattle.numbers.specs.Ready.{Offsets}
 use Rattle.characters.specs.Initial.{SoFar, Initial}
 use Rattle.first_stages.specs.Five.{listedStored, behind, PassList}
-use Rattle.first_stages.specs.declared.chars.First.{First}
+use Rattle.first_stages.specs.declared.chars.CharsAnswer.{CharsAnswer}
 
 pub record Room (s : List ℕ) (l : Lattice) (line offs : List ℕ) : Type 0 where
   pub holds : (es : List Edge) × Holds s l es
@@ -25,15 +25,15 @@ pub record Room (s : List ℕ) (l : Lattice) (line offs : List ℕ) : Type 0 whe
   pub few : length (chars line) ≤ 256
   pub long : 65536 ≤ length s
 
--- the lattice l and the edges of the items behind it
-abbrev pub Grown : List ℕ → List ℕ → List ℕ → Lattice → List ℕ → First → Type 0
+-- the lattice l and the edges of the stored edges behind it
+abbrev pub Grown : List ℕ → List ℕ → List ℕ → Lattice → List ℕ → CharsAnswer → Type 0
 Grown line t s l u r = (es : List Edge) → Holds s l es → Holds u (r .lattice) (addAll es (listedStored (chars line) t (behind u (r .count))))
 
-pub record Adding (line t : List ℕ) (rs : List Record) (k : ℕ) (s : List ℕ) (l : Lattice) (u : List ℕ) (r : First) : Type 0 where
+pub record Adding (line t : List ℕ) (rs : List Record) (k : ℕ) (s : List ℕ) (l : Lattice) (u : List ℕ) (r : CharsAnswer) : Type 0 where
   pub so-far : SoFar (chars line) t rs k (drop 39424 u) (r .count)
   pub holds : Grown line t s l u r
 
-pub record FirstDone (line t : List ℕ) (h : Shape) (s : List ℕ) (l : Lattice) (u : List ℕ) (r : First) : Type 0 where
+pub record FirstDone (line t : List ℕ) (h : Shape) (s : List ℕ) (l : Lattice) (u : List ℕ) (r : CharsAnswer) : Type 0 where
   pub initial : Initial line t h (drop 39424 u) (r .count)
   pub list : PassList (chars line) t 1 u (r .count)
   pub holds : Grown line t s l u r

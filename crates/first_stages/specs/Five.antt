@@ -1,6 +1,6 @@
 -- The five passes in the work space, and what they add to the lattice. w are the line's code points, t the table's bytes. Definitions only.
---     listedStored w t l         the edges that the items l stand for, as they are listed
---     PassList w t k s n        s begins with a pass list of n items, all sound and of kinds before k
+--     listedStored w t l         the edges that the stored edges l stand for, as they are listed
+--     PassList w t k s n        s begins with a pass list of n stored edges, all sound and of kinds before k
 --     OneIs .. r, FiveIs .. r   the i-th pass, and all five, answered r: the start of the first joined edge above TOP, or the lattice with the joined edges
 --     Assumes nothing.
 use mathlib.Core.Path.{_≡_}
@@ -19,10 +19,10 @@ use Rattle.edge.specs.Edge.{Edge}
 use Rattle.lattice.specs.declared.Lattice.{Lattice}
 use Rattle.lattice.specs.Lattice.{addAll}
 use Rattle.lattice.specs.Kept.{Holds}
-use Rattle.pass_edge.specs.Sound.{Sounds}
+use Rattle.pass_edge.specs.Grounded.{AllGrounded}
 use Rattle.numbers.specs.Listed.{listedEdge}
-use Rattle.first_stages.specs.declared.five_passes.Passes.{Passes}
-use Rattle.first_stages.specs.declared.five_passes.Passes.the-variants.{Added, Above}
+use Rattle.first_stages.specs.declared.five_passes.PassesAnswer.{PassesAnswer}
+use Rattle.first_stages.specs.declared.five_passes.PassesAnswer.the-variants.{Added, Above}
 
 abbrev pub listedStored : List ℕ → List ℕ → List StoredEdge → List Edge
 listedStored w t l = map listedEdge (map (edgeOf w t) l)
@@ -32,7 +32,7 @@ abbrev pub behind : List ℕ → ℕ → List StoredEdge
 behind s n = storedListAt (drop 39424 s) 0 n
 
 pub record PassList (w t : List ℕ) (k : ℕ) (s : List ℕ) (n : ℕ) : Type 0 where
-  pub sounds : Sounds w t (behind s n)
+  pub sounds : AllGrounded w t (behind s n)
   pub kinds : Every (λ x. x .kind < k) (behind s n)
   pub few : n ≤ 256
 
@@ -40,21 +40,21 @@ pub record OneDone (w t : List ℕ) (i : ℕ) (s : List ℕ) (l : Lattice) (n : 
   pub below : firstAbove (added (nth i) (behind s n)) ≡ none
   pub list : behind u k ≡ after (nth i) (behind s n)
   pub next : PassList w t (suc (suc i)) u k
-  pub joined : Sounds w t (added (nth i) (behind s n))
+  pub joined : AllGrounded w t (added (nth i) (behind s n))
   pub holds : (es : List Edge) → Holds s l es → Holds u m (addAll es (listedStored w t (added (nth i) (behind s n))))
 
-unfoldable pub OneIs : List ℕ → List ℕ → ℕ → List ℕ → Lattice → ℕ → List ℕ → Passes → Type 0
-OneIs w t i s l n u (Above p) = firstAbove (added (nth i) (behind s n)) ≡ some (p .0)
-OneIs w t i s l n u (Added m k) = OneDone w t i s l n u m k
+unfoldable pub OnePass : List ℕ → List ℕ → ℕ → List ℕ → Lattice → ℕ → List ℕ → PassesAnswer → Type 0
+OnePass w t i s l n u (Above p) = firstAbove (added (nth i) (behind s n)) ≡ some (p .0)
+OnePass w t i s l n u (Added m k) = OneDone w t i s l n u m k
 
 pub record FiveDone (w t s : List ℕ) (l : Lattice) (n : ℕ) (u : List ℕ) (m : Lattice) (k : ℕ) : Type 0 where
   pub below : firstAbove (addedBy five (behind s n)) ≡ none
   pub list : behind u k ≡ through five (behind s n)
-  pub sounds : Sounds w t (behind u k)
+  pub sounds : AllGrounded w t (behind u k)
   pub few : k ≤ 256
-  pub joined : Sounds w t (addedBy five (behind s n))
+  pub joined : AllGrounded w t (addedBy five (behind s n))
   pub holds : (es : List Edge) → Holds s l es → Holds u m (addAll es (listedStored w t (addedBy five (behind s n))))
 
-unfoldable pub FiveIs : List ℕ → List ℕ → List ℕ → Lattice → ℕ → List ℕ → Passes → Type 0
-FiveIs w t s l n u (Above p) = firstAbove (addedBy five (behind s n)) ≡ some (p .0)
-FiveIs w t s l n u (Added m k) = FiveDone w t s l n u m k
+unfoldable pub FivePasses : List ℕ → List ℕ → List ℕ → Lattice → ℕ → List ℕ → PassesAnswer → Type 0
+FivePasses w t s l n u (Above p) = firstAbove (addedBy five (behind s n)) ≡ some (p .0)
+FivePasses w t s l n u (Added m k) = FiveDone w t s l n u m k

@@ -1,5 +1,5 @@
 -- What the stages of the call leave up to the five passes. Definitions only.
---     CallDone line t h given u m k  the lattice m after the passes, and the list after G4 of k items
+--     CallDone line t h given u m k  the lattice m after the passes, and the list after G4 of k stored edges
 --     CallPassed line t h given u r  the passes answered r: refusal 7's place, or the lattice after them with the list after G4
 --     Assumes nothing.
 use mathlib.Core.Path.{_≡_}
@@ -16,9 +16,9 @@ use Rattle.edge.specs.Layout.{listed}
 use Rattle.lattice.specs.declared.Lattice.{Lattice}
 use Rattle.lattice.specs.Kept.{Holds}
 use Rattle.numbers.specs.CallEdge.{CallEdges}
-use Rattle.pass_edge.specs.Sound.{Sounds}
-use Rattle.first_stages.specs.declared.five_passes.Passes.{Passes}
-use Rattle.first_stages.specs.declared.five_passes.Passes.the-variants.{Added, Above}
+use Rattle.pass_edge.specs.Grounded.{AllGrounded}
+use Rattle.first_stages.specs.declared.five_passes.PassesAnswer.{PassesAnswer}
+use Rattle.first_stages.specs.declared.five_passes.PassesAnswer.the-variants.{Added, Above}
 use Rattle.first_stages.specs.Five.{behind}
 use Rattle.numbers.specs.Call.{afterPasses}
 
@@ -27,9 +27,9 @@ pub record CallDone (line t : List ℕ) (h : Shape) (given u : List ℕ) (m : La
   pub holds : Holds u m (afterPasses (tableOf t h) (chars line) (listed given))
   pub call : CallEdges (length (chars line)) (afterPasses (tableOf t h) (chars line) (listed given))
   pub fifth : map (edgeOf (chars line) t) (behind u k) ≡ fifthList (tableOf t h) (chars line)
-  pub sounds : Sounds (chars line) t (behind u k)
+  pub sounds : AllGrounded (chars line) t (behind u k)
   pub few : k ≤ 256
 
-unfoldable pub CallPassed : List ℕ → List ℕ → Shape → List ℕ → List ℕ → Passes → Type 0
+unfoldable pub CallPassed : List ℕ → List ℕ → Shape → List ℕ → List ℕ → PassesAnswer → Type 0
 CallPassed line t h given u (Above p) = aboveAt (tableOf t h) (chars line) ≡ some (p .0)
 CallPassed line t h given u (Added m k) = CallDone line t h given u m k

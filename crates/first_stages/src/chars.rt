@@ -1,4 +1,4 @@
-// The stage of the line's characters (01, "From characters to edges"): the edge of each that has a record is added, and its item stands behind the lattice, for
+// The stage of the line's characters (01, "From characters to edges"): the edge of each that has a record is added, and its stored edge stands behind the lattice, for
 // the passes.
 ghost use mathlib.Core.Path.{_≡_};
 ghost use mathlib.Core.Bool.{true};
@@ -15,28 +15,28 @@ ghost use Rattle.pass_list.specs.Edges.{edgeOf};
 ghost use Rattle.table_check.specs.Indexed.{RecordIndex};
 ghost use Rattle.numbers.specs.Listed.{listedEdge};
 ghost use Rattle.numbers.specs.Ready.{Ready, Offsets};
-ghost use Rattle.pass_edge.specs.Sound.{Sound};
+ghost use Rattle.pass_edge.specs.Grounded.{Grounded};
 ghost use Rattle.characters.specs.CharStored.{charStored};
 ghost use Rattle.characters.specs.Initial.{recordsIn, Records};
 ghost use Rattle.first_stages.specs.Five.{behind};
 ghost use Rattle.first_stages.specs.CharStage.{Room, Adding, FirstDone};
 use characters::char_edge;
 use lattice::Lattice;
-use pass_list::write::put;
+use pass_list::write::write_edge;
 use table::index::CharRecord;
-use table::index::Rest;
+use table::index::RecordRun;
 use table::index::find_char;
 use table::layout::NumProp;
 use table::shape::Shape;
 use text::Offset;
 
-// The lattice, and how many items the pass list has.
-pub struct First {
+// The lattice, and how many stored edges the pass list has.
+pub struct CharsAnswer {
     pub lattice: Lattice,
     pub count: usize,
 }
 
-// The edge of the code point c, whose record p stands at record_at: it is stored as the n-th item behind the lattice, and added to the lattice while it is at hand.
+// The edge of the code point c, whose record p stands at record_at: it is stored as the n-th stored edge behind the lattice, and added to the lattice while it is at hand.
 fn put_and_add(
     w: &mut [u8],
     l: Lattice,
@@ -49,34 +49,34 @@ fn put_and_add(
     place: usize,
     c: u32,
 ) -> Lattice
-    requires { ⌜ Room (now w) l (now line) (now offs) × (n < 256) × (place < 256) × Inside (now table) p × Sound (chars (now line)) (now table) (charStored (now table) p «record_at» place c) ⌝ }
+    requires { ⌜ Room (now w) l (now line) (now offs) × (n < 256) × (place < 256) × Inside (now table) p × Grounded (chars (now line)) (now table) (charStored (now table) p «record_at» place c) ⌝ }
     ensures { λ r. ⌜ (behind (now (w .exit)) (n + 1) ≡ behind (now (w .entry)) n ++ (charStored (now (table .entry)) p «record_at» place c ∷ [])) × ((es : List Edge) → Holds (now (w .entry)) l es → Holds (now (w .exit)) r (add es (listedEdge (edgeOf (chars (now (line .entry))) (now (table .entry)) (charStored (now (table .entry)) p «record_at» place c))))) ⌝ }
 {
     let e = char_edge(table, p, record_at, place, c);
-    put(w, 39424 + n * 56, e);
+    write_edge(w, 39424 + n * 56, e);
     characters::add::add_char(w, l, line, offs, table, e)
 }
 
 // One character more: its edge behind those of the characters before it, if it has a record.
 fn add_char(
     w: &mut [u8],
-    done: First,
+    done: CharsAnswer,
     line: &[u8],
     offs: &[usize; 257],
     table: &[u8],
-    all: Rest,
+    all: RecordRun,
     index: &[u32; 256],
     entries: usize,
     place: usize,
     c: u32,
-) -> First
+) -> CharsAnswer
     requires { ⌜ Room (now w) (done .lattice) (now line) (now offs) × Records (now table) all × Indexed (now table) (recordsIn (now table) all) (now index) (all .left) entries × (done .count ≤ place) × (place < length (chars (now line))) × (getD (chars (now line)) place 0 ≡ c) ⌝ }
     ensures { λ r. ⌜ ((s : List ℕ) (l : Lattice) → Adding (now (line .entry)) (now (table .entry)) (recordsIn (now (table .entry)) all) place s l (now (w .entry)) done → Adding (now (line .entry)) (now (table .entry)) (recordsIn (now (table .entry)) all) (place + 1) s l (now (w .exit)) r) ⌝ }
 {
     let l = done.lattice;
     let n = done.count;
     match find_char(table, all, index, entries, c) {
-        CharRecord::At(p, at) => First {
+        CharRecord::At(p, at) => CharsAnswer {
             lattice: put_and_add(w, l, n, line, offs, table, p, at, place, c),
             count: n + 1,
         },
@@ -91,14 +91,14 @@ fn add_chars(
     line: &[u8],
     offs: &[usize; 257],
     table: &[u8],
-    all: Rest,
+    all: RecordRun,
     index: &[u32; 256],
     entries: usize,
-) -> First
+) -> CharsAnswer
     requires { ⌜ Room (now w) l (now line) (now offs) × (wellFormed (now line) ≡ true) × Records (now table) all × Indexed (now table) (recordsIn (now table) all) (now index) (all .left) entries ⌝ }
     ensures { λ r. ⌜ Adding (now (line .entry)) (now (table .entry)) (recordsIn (now (table .entry)) all) (length (chars (now (line .entry)))) (now (w .entry)) l (now (w .exit)) r ⌝ }
 {
-    let mut done = First {
+    let mut done = CharsAnswer {
         lattice: l,
         count: 0,
     };
@@ -124,7 +124,7 @@ fn add_chars(
     done
 }
 
-// The edges of the line's characters are added to the lattice, and their items stand behind it. index is that over the table's records.
+// The edges of the line's characters are added to the lattice, and their stored edges stand behind it. index is that over the table's records.
 pub fn initialize_num_edges(
     w: &mut [u8],
     l: Lattice,
@@ -134,13 +134,13 @@ pub fn initialize_num_edges(
     h: Shape,
     index: &[u32; 256],
     entries: usize,
-) -> First
+) -> CharsAnswer
     requires { ⌜ ((es : List Edge) × Holds (now w) l es) × Offsets (now line) (now offs) × (65536 ≤ length (now w)) × ((n : ℕ) × Ready (now line) (now table) h n) × RecordIndex (now table) h (now index) entries ⌝ }
     ensures { λ r. ⌜ FirstDone (now (line .entry)) (now (table .entry)) h (now (w .entry)) l (now (w .exit)) r ⌝ }
 {
     // the table begins with the count of its records
     let count = fields::u16_at(table, 0) as usize;
-    let all = Rest {
+    let all = RecordRun {
         at: h.records,
         left: count,
     };

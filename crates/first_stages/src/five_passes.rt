@@ -12,22 +12,22 @@ ghost use Rattle.edge.specs.Edge.{Edge};
 ghost use Rattle.lattice.specs.Lattice.{addAll};
 ghost use Rattle.lattice.specs.Kept.{Holds};
 ghost use Rattle.numbers.specs.Listed.{listedEdge};
-ghost use Rattle.pass_edge.specs.Sound.{Sound, Sounds};
-ghost use Rattle.pass_edge.specs.Adding.{Asks, Adds, addIf};
-ghost use Rattle.first_stages.specs.Five.{PassList, OneIs, FiveIs};
+ghost use Rattle.pass_edge.specs.Grounded.{Grounded, AllGrounded};
+ghost use Rattle.pass_edge.specs.Adding.{Addable, Added, addIf};
+ghost use Rattle.first_stages.specs.Five.{PassList, OnePass, FivePasses};
 use lattice::Lattice;
 use pass_edge::Fraction;
 use pass_list::record::PassEdge;
-use pass_list::run::Passed;
+use pass_list::run::PassAnswer;
 use text::Place;
 
 // What the passes give: the lattice with the joined edges and how many edges the list has then; or the start of the first joined edge above TOP.
-pub enum Passes {
+pub enum PassesAnswer {
     Added(Lattice, usize),
     Above(Place),
 }
 
-// A joined item is added: its type is the pass, its txt its digits or its value.
+// A joined stored edge is added: its type is the pass, its txt its digits or its value.
 fn add_joined(
     w: &mut [u8],
     l: Lattice,
@@ -36,8 +36,8 @@ fn add_joined(
     table: &[u8],
     x: PassEdge,
 ) -> Lattice
-    requires { ⌜ Asks (now w) l (now line) (now offs) (now table) x × (x .kind ≡ 0 → ⊥) ⌝ }
-    ensures { λ r. ⌜ Adds (now (line .entry)) (now (table .entry)) x (now (w .entry)) l (now (w .exit)) r ⌝ }
+    requires { ⌜ Addable (now w) l (now line) (now offs) (now table) x × (x .kind ≡ 0 → ⊥) ⌝ }
+    ensures { λ r. ⌜ Added (now (line .entry)) (now (table .entry)) x (now (w .entry)) l (now (w .exit)) r ⌝ }
 {
     let mut ty = [0u8; 60];
     let mut txt = [0u8; 256];
@@ -60,7 +60,7 @@ fn add_joined(
     )
 }
 
-// The i-th item of the list behind the lattice is added, if it is of this kind. The others are told by their kind alone: most are of another.
+// The i-th stored edge of the list behind the lattice is added, if it is of this kind. The others are told by their kind alone: most are of another.
 fn add_if(
     w: &mut [u8],
     l: Lattice,
@@ -70,7 +70,7 @@ fn add_if(
     i: usize,
     kind: u16,
 ) -> Lattice
-    requires { ⌜ ((es : List Edge) × Holds (now w) l es) × Offsets (now line) (now offs) × (length (chars (now line)) ≤ 256) × Sound (chars (now line)) (now table) (storedAt (drop 39424 (now w)) (i * 56)) × (39424 + i * 56 + 56 ≤ length (now w)) × (kind ≡ 0 → ⊥) ⌝ }
+    requires { ⌜ ((es : List Edge) × Holds (now w) l es) × Offsets (now line) (now offs) × (length (chars (now line)) ≤ 256) × Grounded (chars (now line)) (now table) (storedAt (drop 39424 (now w)) (i * 56)) × (39424 + i * 56 + 56 ≤ length (now w)) × (kind ≡ 0 → ⊥) ⌝ }
     ensures { λ r. ⌜ (drop 39424 (now (w .exit)) ≡ drop 39424 (now (w .entry))) × ((es : List Edge) → Holds (now (w .entry)) l es → Holds (now (w .exit)) r (addIf (chars (now (line .entry))) (now (table .entry)) kind es (storedAt (drop 39424 (now (w .entry))) (i * 56)))) ⌝ }
 {
     let at = 39424 + i * 56;
@@ -78,11 +78,11 @@ fn add_if(
     if found != kind {
         return l;
     }
-    let x = pass_list::read::get(w, at);
+    let x = pass_list::read::read_edge(w, at);
     add_joined(w, l, line, offs, table, x)
 }
 
-// The stage: of the n items of the list behind the lattice, those of a kind are added in turn.
+// The stage: of the n stored edges of the list behind the lattice, those of a kind are added in turn.
 fn add_of_kind(
     w: &mut [u8],
     l: Lattice,
@@ -92,7 +92,7 @@ fn add_of_kind(
     n: usize,
     kind: u16,
 ) -> Lattice
-    requires { ⌜ ((es : List Edge) × Holds (now w) l es) × Offsets (now line) (now offs) × (length (chars (now line)) ≤ 256) × Sounds (chars (now line)) (now table) (storedListAt (drop 39424 (now w)) 0 n) × (39424 + n * 56 ≤ length (now w)) × (kind ≡ 0 → ⊥) ⌝ }
+    requires { ⌜ ((es : List Edge) × Holds (now w) l es) × Offsets (now line) (now offs) × (length (chars (now line)) ≤ 256) × AllGrounded (chars (now line)) (now table) (storedListAt (drop 39424 (now w)) 0 n) × (39424 + n * 56 ≤ length (now w)) × (kind ≡ 0 → ⊥) ⌝ }
     ensures { λ r. ⌜ (drop 39424 (now (w .exit)) ≡ drop 39424 (now (w .entry))) × ((es : List Edge) → Holds (now (w .entry)) l es → Holds (now (w .exit)) r (addAll es (map listedEdge (map (edgeOf (chars (now (line .entry))) (now (table .entry))) (ofKind kind (storedListAt (drop 39424 (now (w .entry))) 0 n)))))) ⌝ }
 {
     // two words, not a structure: one that is handed back in two pieces and copied as a whole makes the processor wait
@@ -117,24 +117,24 @@ fn one_pass(
     table: &[u8],
     n: usize,
     i: usize,
-) -> Passes
+) -> PassesAnswer
     requires { ⌜ ((es : List Edge) × Holds (now w) l es) × Offsets (now line) (now offs) × (length (chars (now line)) ≤ 256) × (65536 ≤ length (now w)) × PassList (chars (now line)) (now table) (suc i) (now w) n × (i < 5) ⌝ }
-    ensures { λ r. ⌜ OneIs (chars (now (line .entry))) (now (table .entry)) i (now (w .entry)) l n (now (w .exit)) r ⌝ }
+    ensures { λ r. ⌜ OnePass (chars (now (line .entry))) (now (table .entry)) i (now (w .entry)) l n (now (w .exit)) r ⌝ }
 {
     match pass_run::nth::pass_behind(w, n, i) {
-        Passed::Above(p) => Passes::Above(p),
-        Passed::Edges(k) => {
+        PassAnswer::Above(p) => PassesAnswer::Above(p),
+        PassAnswer::Edges(k) => {
             // as many edges as before: none is joined
             if k == n {
-                return Passes::Added(l, k);
+                return PassesAnswer::Added(l, k);
             }
             let m = add_of_kind(w, l, line, offs, table, k, (i + 1) as u16);
-            Passes::Added(m, k)
+            PassesAnswer::Added(m, k)
         }
     }
 }
 
-// The five passes in turn over the n items behind the lattice.
+// The five passes in turn over the n stored edges behind the lattice.
 pub fn five_passes(
     w: &mut [u8],
     l: Lattice,
@@ -142,24 +142,24 @@ pub fn five_passes(
     offs: &[usize; 257],
     table: &[u8],
     n: usize,
-) -> Passes
+) -> PassesAnswer
     requires { ⌜ ((es : List Edge) × Holds (now w) l es) × Offsets (now line) (now offs) × (length (chars (now line)) ≤ 256) × (65536 ≤ length (now w)) × PassList (chars (now line)) (now table) 1 (now w) n ⌝ }
-    ensures { λ r. ⌜ FiveIs (chars (now (line .entry))) (now (table .entry)) (now (w .entry)) l n (now (w .exit)) r ⌝ }
+    ensures { λ r. ⌜ FivePasses (chars (now (line .entry))) (now (table .entry)) (now (w .entry)) l n (now (w .exit)) r ⌝ }
 {
     let mut grown = l;
     let mut count = n;
     let mut i = 0;
     while i < 5 {
         match one_pass(w, grown, line, offs, table, count, i) {
-            Passes::Above(p) => {
-                return Passes::Above(p);
+            PassesAnswer::Above(p) => {
+                return PassesAnswer::Above(p);
             }
-            Passes::Added(m, k) => {
+            PassesAnswer::Added(m, k) => {
                 grown = m;
                 count = k;
                 i += 1;
             }
         }
     }
-    Passes::Added(grown, count)
+    PassesAnswer::Added(grown, count)
 }

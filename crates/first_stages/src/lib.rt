@@ -1,4 +1,3 @@
-// The stages up to the five passes.
 // The stages of the call up to the five passes: the given edges, those of the characters, and those that the passes join.
 pub mod given; // given.rt: the given edges
 pub mod five_passes; // five_passes.rt: the five passes, and their joined edges
@@ -13,11 +12,11 @@ ghost use Rattle.edge.specs.declared.ListingCheck.the-variants.{Edges};
 ghost use Rattle.table_check.specs.Indexed.{RecordIndex};
 ghost use Rattle.numbers.specs.Ready.{Ready, Offsets};
 ghost use Rattle.first_stages.specs.Stages.{CallPassed};
-use crate::five_passes::Passes;
+use crate::five_passes::PassesAnswer;
 use table::shape::Shape;
 
 // The given edges, those of the characters, and those that the five passes join.
-pub fn passed(
+pub fn run_first_stages(
     w: &mut [u8],
     line: &[u8],
     offs: &[usize; 257],
@@ -27,7 +26,7 @@ pub fn passed(
     count: usize,
     index: &[u32; 256],
     entries: usize,
-) -> Passes
+) -> PassesAnswer
     requires { ⌜ Offsets (now line) (now offs) × (65536 ≤ length (now w)) × ((n : ℕ) × Ready (now line) (now table) h n × (checkListing true n (now edges) ≡ Edges count)) × RecordIndex (now table) h (now index) entries ⌝ }
     ensures { λ r. ⌜ CallPassed (now (line .entry)) (now (table .entry)) h (now (edges .entry)) (now (w .exit)) r ⌝ }
 {

@@ -20,7 +20,7 @@ use Rattle.paths.specs.declared.Query.the-variants.{Right, Left}
 use Rattle.paths.specs.Best.{Best, best, numbered}
 use Rattle.numbers.specs.CallEdge.{CallEdges}
 
-pub record Keeps (w : List ℕ) (l : Lattice) (es : List Edge) : Type 0 where
+pub record HoldsLine (w : List ℕ) (l : Lattice) (es : List Edge) : Type 0 where
   pub chars : ℕ
   pub few : chars ≤ 256
   pub not-full : (l .len ≡ 0 → ⊥)
@@ -43,7 +43,7 @@ keptOf es (suc i) = some (i, getD es i noEdge)
 pub record Neighbors (right : Bool) (es : List Edge) (table : List ℕ) : Type 0 where
   pub at : (p : ℕ) → p ≤ 256 → keptOf es (getD table p 0) ≡ best false (sideOf right p) (numbered 0 es)
 
-pub record Around (w : List ℕ) (l : Lattice) (lefts rights : List ℕ) (es : List Edge) : Type 0 where
-  pub keeps : Keeps w l es
+pub record HoldsNeighbors (w : List ℕ) (l : Lattice) (lefts rights : List ℕ) (es : List Edge) : Type 0 where
+  pub keeps : HoldsLine w l es
   pub left : Neighbors false es lefts
   pub right : Neighbors true es rights

@@ -19,8 +19,8 @@ use Rattle.lattice.specs.Kept.{noEdge}
 use Rattle.numbers.specs.Listed.{wholeValue}
 use Rattle.numbers.specs.Fractions.{Marker, percentage, connector, noMarker, isNumeric}
 use Rattle.fraction_choices.specs.declared.decision.Choice.{Choice}
-use Rattle.fraction_choices.specs.declared.decision.Value.{Value}
-use Rattle.fraction_choices.specs.declared.decision.Value.the-variants.{Whole, Nothing}
+use Rattle.fraction_choices.specs.declared.decision.WholeValue.{WholeValue}
+use Rattle.fraction_choices.specs.declared.decision.WholeValue.the-variants.{Whole, Nothing}
 
 abbrev pub sizeOf : Marker → ℕ
 sizeOf (percentage n) = n
@@ -33,7 +33,7 @@ choice f i j = record { form = f; left = i; right = j }
 abbrev pub noChoice : Choice
 noChoice = choice 0 0 0
 
-abbrev pub optionOf : Value → Option ℕ
+abbrev pub optionOf : WholeValue → Option ℕ
 optionOf (Whole v) = some v
 optionOf Nothing = none
 

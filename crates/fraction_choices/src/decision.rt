@@ -10,7 +10,7 @@ ghost use Rattle.numbers.specs.Listed.{wholeValue};
 ghost use Rattle.numbers.specs.Fractions.{isNumeric, marked, byMarker};
 ghost use Rattle.markers.specs.Marks.{markerOf};
 ghost use Rattle.fraction_choices.specs.Choice.{outcomeOf, Valid};
-ghost use Rattle.fraction_choices.specs.Around.{Keeps, Around};
+ghost use Rattle.fraction_choices.specs.Around.{HoldsLine, HoldsNeighbors};
 ghost use Rattle.fraction_choices.specs.Decision.{sizeOf, optionOf, WholeValued, otherwiseOf, bothOf, withValuesOf, betweenOf};
 use lattice::Lattice;
 use markers::Marker;
@@ -25,31 +25,31 @@ pub struct Choice {
 }
 
 // The value of an edge as a whole number, where it has one.
-pub enum Value {
+pub enum WholeValue {
     Whole(u64),
     Nothing,
 }
 
 // The value of the edge at an offset.
-fn whole_value_at(w: &[u8], at: usize) -> Value
+fn whole_value_at(w: &[u8], at: usize) -> WholeValue
     requires { ⌜ (nextAt (now w) at ≤ length (now w)) × WholeValued (edgeAt (now w) at) ⌝ }
     ensures { λ r. ⌜ optionOf r ≡ wholeValue (edgeAt (now (w .entry)) at) ⌝ }
 {
     let e = edge::head::edge_at(w, at);
     if !edge::bit(e.map, 1) {
-        return Value::Nothing;
+        return WholeValue::Nothing;
     }
     if !edge::bit(e.map, 2) {
-        return Value::Nothing;
+        return WholeValue::Nothing;
     }
     let d = edge::numeric::fields_at(e.map, w, e.fields);
-    Value::Whole(whole::to_u64(f64::from_bits(d.value)))
+    WholeValue::Whole(whole::whole_part(f64::from_bits(d.value)))
 }
 
 // The value of the i-th edge.
-fn whole_value(w: &[u8], l: Lattice, i: usize) -> Value
-    requires { ⌜ ((es : List Edge) × Keeps (now w) l es) × (i < l .count) ⌝ }
-    ensures { λ r. ⌜ ((es : List Edge) → Keeps (now (w .entry)) l es → optionOf r ≡ wholeValue (getD es i noEdge)) ⌝ }
+fn whole_value(w: &[u8], l: Lattice, i: usize) -> WholeValue
+    requires { ⌜ ((es : List Edge) × HoldsLine (now w) l es) × (i < l .count) ⌝ }
+    ensures { λ r. ⌜ ((es : List Edge) → HoldsLine (now (w .entry)) l es → optionOf r ≡ wholeValue (getD es i noEdge)) ⌝ }
 {
     let at = lattice::offset_at(w, l, i);
     whole_value_at(w, at)
@@ -57,8 +57,8 @@ fn whole_value(w: &[u8], l: Lattice, i: usize) -> Value
 
 // Whether the i-th edge is numeric.
 fn is_numeric(w: &[u8], l: Lattice, i: usize) -> bool
-    requires { ⌜ ((es : List Edge) × Keeps (now w) l es) × (i < l .count) ⌝ }
-    ensures { λ r. ⌜ ((es : List Edge) → Keeps (now (w .entry)) l es → r ≡ isNumeric (getD es i noEdge)) ⌝ }
+    requires { ⌜ ((es : List Edge) × HoldsLine (now w) l es) × (i < l .count) ⌝ }
+    ensures { λ r. ⌜ ((es : List Edge) → HoldsLine (now (w .entry)) l es → r ≡ isNumeric (getD es i noEdge)) ⌝ }
 {
     let at = lattice::offset_at(w, l, i);
     edge::bit(fields::u16_at(w, at), 1)
@@ -66,8 +66,8 @@ fn is_numeric(w: &[u8], l: Lattice, i: usize) -> bool
 
 // "Otherwise a percentage marker with a numeric right neighbour": right is one more than its index, 0 for none.
 fn otherwise(w: &[u8], l: Lattice, percent: bool, right: usize) -> Choice
-    requires { ⌜ ((es : List Edge) × Keeps (now w) l es) × (right ≤ l .count) ⌝ }
-    ensures { λ r. ⌜ ((es : List Edge) → Keeps (now (w .entry)) l es → r ≡ otherwiseOf percent es right) ⌝ }
+    requires { ⌜ ((es : List Edge) × HoldsLine (now w) l es) × (right ≤ l .count) ⌝ }
+    ensures { λ r. ⌜ ((es : List Edge) → HoldsLine (now (w .entry)) l es → r ≡ otherwiseOf percent es right) ⌝ }
 {
     if !percent {
         return Choice {
@@ -126,25 +126,25 @@ fn with_values(
     percent: bool,
     other: Choice,
     left: usize,
-    left_value: Value,
+    left_value: WholeValue,
     right: usize,
-    right_value: Value,
+    right_value: WholeValue,
 ) -> Choice
     ensures { λ r. ⌜ r ≡ withValuesOf percent other left (optionOf «left_value») right (optionOf «right_value») ⌝ }
 {
     match left_value {
-        Value::Nothing => other,
-        Value::Whole(v) => match right_value {
-            Value::Nothing => other,
-            Value::Whole(_) => both(percent, other, left, v, right),
+        WholeValue::Nothing => other,
+        WholeValue::Whole(v) => match right_value {
+            WholeValue::Nothing => other,
+            WholeValue::Whole(_) => both(percent, other, left, v, right),
         },
     }
 }
 
 // The choice between two neighbours, each one more than its index, 0 for none.
 fn between(w: &[u8], l: Lattice, percent: bool, other: Choice, left: usize, right: usize) -> Choice
-    requires { ⌜ ((es : List Edge) × Keeps (now w) l es) × (left ≤ l .count) × (right ≤ l .count) ⌝ }
-    ensures { λ r. ⌜ ((es : List Edge) → Keeps (now (w .entry)) l es → r ≡ betweenOf percent other es left right) ⌝ }
+    requires { ⌜ ((es : List Edge) × HoldsLine (now w) l es) × (left ≤ l .count) × (right ≤ l .count) ⌝ }
+    ensures { λ r. ⌜ ((es : List Edge) → HoldsLine (now (w .entry)) l es → r ≡ betweenOf percent other es left right) ⌝ }
 {
     if left == 0 {
         return other;
@@ -169,8 +169,8 @@ fn marked(
     p: usize,
     n: usize,
 ) -> Choice
-    requires { ⌜ ((es : List Edge) × Around (now w) l (now lefts) (now rights) es) × (p + n ≤ 256) ⌝ }
-    ensures { λ r. ⌜ ((es : List Edge) → Around (now (w .entry)) l (now (lefts .entry)) (now (rights .entry)) es → (outcomeOf es p r ≡ marked percent es p n) × Valid es r) ⌝ }
+    requires { ⌜ ((es : List Edge) × HoldsNeighbors (now w) l (now lefts) (now rights) es) × (p + n ≤ 256) ⌝ }
+    ensures { λ r. ⌜ ((es : List Edge) → HoldsNeighbors (now (w .entry)) l (now (lefts .entry)) (now (rights .entry)) es → (outcomeOf es p r ≡ marked percent es p n) × Valid es r) ⌝ }
 {
     let left = lefts[p];
     let right = rights[p + n];
@@ -187,8 +187,8 @@ pub fn outcome_at(
     marker: Marker,
     p: Place,
 ) -> Choice
-    requires { ⌜ ((es : List Edge) × Around (now w) l (now lefts) (now rights) es) × (p .0 + sizeOf (markerOf marker) ≤ 256) ⌝ }
-    ensures { λ r. ⌜ ((es : List Edge) → Around (now (w .entry)) l (now (lefts .entry)) (now (rights .entry)) es → (outcomeOf es (p .0) r ≡ byMarker es (p .0) (markerOf marker)) × Valid es r) ⌝ }
+    requires { ⌜ ((es : List Edge) × HoldsNeighbors (now w) l (now lefts) (now rights) es) × (p .0 + sizeOf (markerOf marker) ≤ 256) ⌝ }
+    ensures { λ r. ⌜ ((es : List Edge) → HoldsNeighbors (now (w .entry)) l (now (lefts .entry)) (now (rights .entry)) es → (outcomeOf es (p .0) r ≡ byMarker es (p .0) (markerOf marker)) × Valid es r) ⌝ }
 {
     let place = p.0;
     match marker {

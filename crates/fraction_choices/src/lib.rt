@@ -1,5 +1,4 @@
-// Fractions and percentages: what the marker at each place leads to.
-// What the markers of a line lead to (01, "The rest of the call"): the choice of each place, decided over the lattice as it stands.
+// What the markers of a line lead to (01, "The rest of the call", fractions and percentages): the choice of each place, decided over the lattice as it stands.
 pub mod decision; // decision.rt: what the marker at one place leads to
 pub mod neighbors; // neighbors.rt: the neighbours of all places
 
@@ -13,7 +12,7 @@ ghost use Rattle.edge.specs.Edge.{Edge};
 ghost use Rattle.numbers.specs.Ready.{Ready, Offsets};
 ghost use Rattle.numbers.specs.Fractions.{outcomeAt};
 ghost use Rattle.fraction_choices.specs.Choice.{outcomeOf, Valid};
-ghost use Rattle.fraction_choices.specs.Around.{Keeps, Around};
+ghost use Rattle.fraction_choices.specs.Around.{HoldsLine, HoldsNeighbors};
 ghost use Rattle.fraction_choices.specs.Choices.{Decided};
 use crate::decision::Choice;
 use lattice::Lattice;
@@ -32,8 +31,8 @@ fn choice_at(
     behind: &[usize; 257],
     p: usize,
 ) -> Choice
-    requires { ⌜ ((n : ℕ) × Ready (now line) (now table) h n) × Offsets (now line) (now offs) × ((es : List Edge) × Around (now w) l (now before) (now behind) es) × (p < length (chars (now line))) ⌝ }
-    ensures { λ r. ⌜ ((es : List Edge) → Around (now (w .entry)) l (now (before .entry)) (now (behind .entry)) es → (outcomeOf es p r ≡ outcomeAt (tableOf (now (table .entry)) h) (chars (now (line .entry))) es p) × Valid es r) ⌝ }
+    requires { ⌜ ((n : ℕ) × Ready (now line) (now table) h n) × Offsets (now line) (now offs) × ((es : List Edge) × HoldsNeighbors (now w) l (now before) (now behind) es) × (p < length (chars (now line))) ⌝ }
+    ensures { λ r. ⌜ ((es : List Edge) → HoldsNeighbors (now (w .entry)) l (now (before .entry)) (now (behind .entry)) es → (outcomeOf es p r ≡ outcomeAt (tableOf (now (table .entry)) h) (chars (now (line .entry))) es p) × Valid es r) ⌝ }
 {
     let marker = markers::find::marker_at(line, offs, table, h, Place(p));
     crate::decision::outcome_at(w, l, before, behind, marker, Place(p))
@@ -54,8 +53,8 @@ fn choose_all(
     lefts: &mut [usize; 256],
     rights: &mut [usize; 256],
 )
-    requires { ⌜ Ready (now line) (now table) h n × Offsets (now line) (now offs) × ((es : List Edge) × Around (now w) l (now before) (now behind) es) × (length (now forms) ≡ 256) × (length (now lefts) ≡ 256) × (length (now rights) ≡ 256) ⌝ }
-    ensures { λ _. ⌜ ((es : List Edge) → Around (now (w .entry)) l (now (before .entry)) (now (behind .entry)) es → Decided (tableOf (now (table .entry)) h) (chars (now (line .entry))) es (now (forms .exit)) (now (lefts .exit)) (now (rights .exit)) n) ⌝ }
+    requires { ⌜ Ready (now line) (now table) h n × Offsets (now line) (now offs) × ((es : List Edge) × HoldsNeighbors (now w) l (now before) (now behind) es) × (length (now forms) ≡ 256) × (length (now lefts) ≡ 256) × (length (now rights) ≡ 256) ⌝ }
+    ensures { λ _. ⌜ ((es : List Edge) → HoldsNeighbors (now (w .entry)) l (now (before .entry)) (now (behind .entry)) es → Decided (tableOf (now (table .entry)) h) (chars (now (line .entry))) es (now (forms .exit)) (now (lefts .exit)) (now (rights .exit)) n) ⌝ }
 {
     let mut p = 0;
     while p < n {
@@ -80,8 +79,8 @@ pub fn choose(
     lefts: &mut [usize; 256],
     rights: &mut [usize; 256],
 )
-    requires { ⌜ Ready (now line) (now table) h n × Offsets (now line) (now offs) × ((es : List Edge) × Keeps (now w) l es) × (length (now forms) ≡ 256) × (length (now lefts) ≡ 256) × (length (now rights) ≡ 256) ⌝ }
-    ensures { λ _. ⌜ ((es : List Edge) → Keeps (now (w .entry)) l es → Decided (tableOf (now (table .entry)) h) (chars (now (line .entry))) es (now (forms .exit)) (now (lefts .exit)) (now (rights .exit)) n) ⌝ }
+    requires { ⌜ Ready (now line) (now table) h n × Offsets (now line) (now offs) × ((es : List Edge) × HoldsLine (now w) l es) × (length (now forms) ≡ 256) × (length (now lefts) ≡ 256) × (length (now rights) ≡ 256) ⌝ }
+    ensures { λ _. ⌜ ((es : List Edge) → HoldsLine (now (w .entry)) l es → Decided (tableOf (now (table .entry)) h) (chars (now (line .entry))) es (now (forms .exit)) (now (lefts .exit)) (now (rights .exit)) n) ⌝ }
 {
     let mut before = [0usize; 257];
     let mut behind = [0usize; 257];

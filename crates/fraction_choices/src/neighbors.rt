@@ -7,7 +7,7 @@ ghost use lib.ListN.{length, getD, set, replicate};
 ghost use lib.Dec.{ltb};
 ghost use Rattle.edge.specs.Edge.{Edge};
 ghost use Rattle.edge.specs.Layout.{edgeAt};
-ghost use Rattle.fraction_choices.specs.Around.{Keeps, sideOf, placeOf, Neighbors};
+ghost use Rattle.fraction_choices.specs.Around.{HoldsLine, sideOf, placeOf, Neighbors};
 use lattice::Lattice;
 use paths::Query;
 use text::Place;
@@ -55,8 +55,8 @@ fn scored_neighbors(
     tops: &mut [usize; 257],
     table: &mut [usize; 257],
 )
-    requires { ⌜ ((es : List Edge) × Keeps (now w) l es) × (now tops ≡ replicate 257 0) × (now table ≡ replicate 257 0) ⌝ }
-    ensures { λ _. ⌜ ((es : List Edge) → Keeps (now (w .entry)) l es → Neighbors right es (now (table .exit))) ⌝ }
+    requires { ⌜ ((es : List Edge) × HoldsLine (now w) l es) × (now tops ≡ replicate 257 0) × (now table ≡ replicate 257 0) ⌝ }
+    ensures { λ _. ⌜ ((es : List Edge) → HoldsLine (now (w .entry)) l es → Neighbors right es (now (table .exit))) ⌝ }
 {
     let mut at = 2;
     let mut i = 0;
@@ -71,8 +71,8 @@ fn scored_neighbors(
 
 // The right or the left neighbours of all places: one more than their indices, 0 for none.
 pub fn neighbors(w: &[u8], l: Lattice, right: bool, table: &mut [usize; 257])
-    requires { ⌜ ((es : List Edge) × Keeps (now w) l es) × (now table ≡ replicate 257 0) ⌝ }
-    ensures { λ _. ⌜ ((es : List Edge) → Keeps (now (w .entry)) l es → Neighbors right es (now (table .exit))) ⌝ }
+    requires { ⌜ ((es : List Edge) × HoldsLine (now w) l es) × (now table ≡ replicate 257 0) ⌝ }
+    ensures { λ _. ⌜ ((es : List Edge) → HoldsLine (now (w .entry)) l es → Neighbors right es (now (table .exit))) ⌝ }
 {
     let mut tops = [0usize; 257];
     scored_neighbors(w, l, right, &mut tops, table);

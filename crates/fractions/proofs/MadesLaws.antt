@@ -17,7 +17,7 @@ use Rattle.numbers.proofs.stages.CallLaws.{add-all-call}
 use Rattle.numbers.specs.Fractions.{Outcome, made, nothing, outcomeAt, outcomesFrom, newEdges}
 use Rattle.fraction_choices.specs.Choice.{outcomeOf, Valid}
 use Rattle.fraction_choices.specs.Choices.{choiceAt}
-use Rattle.fractions.specs.NewEdge.{Over, addOutcome}
+use Rattle.fractions.specs.NewEdge.{HoldsChoice, addOutcome}
 use Rattle.fractions.specs.Outcomes.{outcomesOf, AllValid}
 use Rattle.fractions.proofs.deactivate.KeepsLaws.{Keeps, valid-keeps}
 use Rattle.fractions.proofs.deactivate.TurnedLaws.{mades-more}
@@ -75,7 +75,7 @@ module _ {es ds : List Edge} (k : Keeps es ds) (fs ls rs : List ℕ) where
 
 -- ---- a turn of the loop that adds edges
 module _ {n : ℕ} {w u : List ℕ} {l k : Lattice} {es : List Edge} {fs ls rs : List ℕ} (q : Planned n w l es fs ls rs) (p : ℕ) (h : p < n) (holds : Holds u k (addAll es (newEdges (outcomesOf es fs ls rs 0 p)))) where
-  pub add-over : Over n u k (addAll es (newEdges (outcomesOf es fs ls rs 0 p))) (choiceAt fs ls rs p)
+  pub add-over : HoldsChoice n u k (addAll es (newEdges (outcomesOf es fs ls rs 0 p))) (choiceAt fs ls rs p)
   add-over = record {
     has = record { holds = holds; call = add-all-call (q .has .call) (new-before es fs ls rs p n (omega arith) (q .new)) };
     valid = valid-keeps (keeps-add-all es (newEdges (outcomesOf es fs ls rs 0 p))) (q .valid p h);
@@ -103,11 +103,11 @@ unfolding outcomesOf newEdges addAll
 grown-start w l fs ls rs n = record { most = omega arith; long = refl; frame = refl; holds = λ es k. k .has .holds }
 
 module _ {w₀ : List ℕ} {l₀ : Lattice} {fs ls rs : List ℕ} {n : ℕ} {w : List ℕ} {l : Lattice} {p : ℕ} (q : Grown w₀ l₀ fs ls rs n w l p) where
-  pub grown-next : p < n → {es : List Edge} → Planned n w₀ l₀ es fs ls rs → (ds : List Edge) × Over n w l ds (choiceAt fs ls rs p)
+  pub grown-next : p < n → {es : List Edge} → Planned n w₀ l₀ es fs ls rs → (ds : List Edge) × HoldsChoice n w l ds (choiceAt fs ls rs p)
   grown-next h {es} k = (addAll es (newEdges (outcomesOf es fs ls rs 0 p)), add-over k p h (q .holds es k))
 
   pub grown-more : p < n → {u : List ℕ} {m : Lattice} → length u ≡ length w → drop 39424 u ≡ drop 39424 w
-      → ((j : ℕ) (ds : List Edge) → Over j w l ds (choiceAt fs ls rs p) → Holds u m (addOutcome ds (outcomeOf ds p (choiceAt fs ls rs p)))) → Grown w₀ l₀ fs ls rs n u m (p + 1)
+      → ((j : ℕ) (ds : List Edge) → HoldsChoice j w l ds (choiceAt fs ls rs p) → Holds u m (addOutcome ds (outcomeOf ds p (choiceAt fs ls rs p)))) → Grown w₀ l₀ fs ls rs n u m (p + 1)
   grown-more h {u} {m} x y f = record {
     most = omega arith;
     long = x ∙ q .long;

@@ -14,7 +14,7 @@ use Rattle.numbers.specs.CallEdge.{CallEdges}
 use Rattle.numbers.proofs.stages.OverLaws.{holds-full, over-add-all, over-turn-off}
 use Rattle.numbers.proofs.stages.CallLaws.{turn-off-call}
 use Rattle.numbers.specs.Fractions.{Outcome, outcomesFrom, newEdges, usedEdges, fractions}
-use Rattle.fraction_choices.specs.Around.{Keeps}
+use Rattle.fraction_choices.specs.Around.{HoldsLine}
 use Rattle.fraction_choices.specs.Choices.{Decided}
 use Rattle.fractions.specs.Outcomes.{outcomesOf, AllValid}
 use Rattle.fractions.specs.Planned.{Planned}
@@ -30,7 +30,7 @@ full-stage t c {es = es} q f =
     holds-full q f (over-add-all (turnOff es (usedEdges ms)) (newEdges ms) (over-turn-off es (usedEdges ms) ∙ over-of q f))
 
 -- what `choose` asks for
-pub keeps-of : {n : ℕ} {w : List ℕ} {l : Lattice} {es : List Edge} → n ≤ 256 → (l .len ≡ 0 → ⊥) → Holds w l es → CallEdges n es → Keeps w l es
+pub keeps-of : {n : ℕ} {w : List ℕ} {l : Lattice} {es : List Edge} → n ≤ 256 → (l .len ≡ 0 → ⊥) → Holds w l es → CallEdges n es → HoldsLine w l es
 keeps-of {n} few f q c = record { chars = n; few = few; not-full = f; holds = q; edges = c }
 
 -- t and c are the table and the line's characters

@@ -91,6 +91,6 @@ abbrev pub txtPercentOf : List Edge → ℕ → ℕ → Edge
 txtPercentOf es p j = percentEdge p (getD es j noEdge .end) (getD es j noEdge .txt)
 
 -- ---- the lattice
-pub record Has (n : ℕ) (w : List ℕ) (l : Lattice) (es : List Edge) : Type 0 where
+pub record HoldsCall (n : ℕ) (w : List ℕ) (l : Lattice) (es : List Edge) : Type 0 where
   pub holds : Holds w l es
   pub call : CallEdges n es

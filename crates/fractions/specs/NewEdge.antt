@@ -13,7 +13,7 @@ use Rattle.lattice.specs.Lattice.{add}
 use Rattle.lattice.specs.Kept.{noEdge}
 use Rattle.numbers.specs.Fractions.{Outcome, made, nothing, percentEdge, fractionEdge}
 use Rattle.fraction_choices.specs.declared.decision.Choice.{Choice}
-use Rattle.fractions.specs.MadeParts.{Has}
+use Rattle.fractions.specs.MadeParts.{HoldsCall}
 use Rattle.fraction_choices.specs.Choice.{valueOr, Valid}
 
 -- ---- the edges, of the edges i and j of es
@@ -24,8 +24,8 @@ abbrev pub fractionOf : List Edge → ℕ → ℕ → Edge
 fractionOf es i j = fractionEdge (getD es i noEdge) (valueOr (getD es i noEdge)) (getD es j noEdge) (valueOr (getD es j noEdge))
 
 -- ---- the lattice
-pub record Over (n : ℕ) (w : List ℕ) (l : Lattice) (es : List Edge) (c : Choice) : Type 0 where
-  pub has : Has n w l es
+pub record HoldsChoice (n : ℕ) (w : List ℕ) (l : Lattice) (es : List Edge) (c : Choice) : Type 0 where
+  pub has : HoldsCall n w l es
   pub valid : Valid es c
 
 abbrev pub addOutcome : List Edge → Outcome → List Edge

@@ -7,10 +7,10 @@ use Rattle.edge.specs.Edge.{Edge}
 use Rattle.lattice.specs.declared.Lattice.{Lattice}
 use Rattle.numbers.specs.CallEdge.{CallEdges}
 use Rattle.numbers.specs.Fractions.{newEdges}
-use Rattle.fractions.specs.MadeParts.{Has}
+use Rattle.fractions.specs.MadeParts.{HoldsCall}
 use Rattle.fractions.specs.Outcomes.{outcomesOf, AllValid}
 
 pub record Planned (n : ℕ) (w : List ℕ) (l : Lattice) (es : List Edge) (fs ls rs : List ℕ) : Type 0 where
-  pub has : Has n w l es
+  pub has : HoldsCall n w l es
   pub valid : AllValid es fs ls rs n
   pub new : CallEdges n (newEdges (outcomesOf es fs ls rs 0 n))

@@ -1,4 +1,3 @@
-// The stage of fractions and percentages.
 // The stage of fractions and percentages (01, "The rest of the call"): every place is decided before an edge changes; then the used edges turn
 // inactive, and the new ones are added.
 pub mod deactivate; // deactivate.rt: the used edges turn inactive

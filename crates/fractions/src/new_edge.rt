@@ -7,16 +7,16 @@ ghost use Rattle.edge.specs.Edge.{Edge};
 ghost use Rattle.lattice.specs.Lattice.{add};
 ghost use Rattle.lattice.specs.Kept.{noEdge, Holds};
 ghost use Rattle.fraction_choices.specs.Choice.{outcomeOf, valueOr, Two};
-ghost use Rattle.fractions.specs.MadeParts.{Has};
-ghost use Rattle.fractions.specs.NewEdge.{percentOf, fractionOf, Over, addOutcome};
+ghost use Rattle.fractions.specs.MadeParts.{HoldsCall};
+ghost use Rattle.fractions.specs.NewEdge.{percentOf, fractionOf, HoldsChoice, addOutcome};
 use fraction_choices::decision::Choice;
 use lattice::Lattice;
 use text::Place;
 
 // "right%" over all three.
 fn add_percent(w: &mut [u8], l: Lattice, left: usize, right: usize) -> Lattice
-    requires { ⌜ ((n : ℕ) × ((es : List Edge) × Has n (now w) l es × Two es left right)) × (l .len ≡ 0 → ⊥) ⌝ }
-    ensures { λ r. ⌜ (drop 39424 (now (w .exit)) ≡ drop 39424 (now (w .entry))) × ((n : ℕ) (es : List Edge) → Has n (now (w .entry)) l es → Two es left right → Holds (now (w .exit)) r (add es (percentOf es left right))) ⌝ }
+    requires { ⌜ ((n : ℕ) × ((es : List Edge) × HoldsCall n (now w) l es × Two es left right)) × (l .len ≡ 0 → ⊥) ⌝ }
+    ensures { λ r. ⌜ (drop 39424 (now (w .exit)) ≡ drop 39424 (now (w .entry))) × ((n : ℕ) (es : List Edge) → HoldsCall n (now (w .entry)) l es → Two es left right → Holds (now (w .exit)) r (add es (percentOf es left right))) ⌝ }
 {
     let a = crate::parts::head_of(w, l, left);
     let b = crate::parts::head_of(w, l, right);
@@ -28,8 +28,8 @@ fn add_percent(w: &mut [u8], l: Lattice, left: usize, right: usize) -> Lattice
 
 // "right/left" over all three.
 fn add_fraction(w: &mut [u8], l: Lattice, left: usize, right: usize) -> Lattice
-    requires { ⌜ ((n : ℕ) × ((es : List Edge) × Has n (now w) l es × Two es left right × (0 < valueOr (getD es left noEdge)))) × (l .len ≡ 0 → ⊥) ⌝ }
-    ensures { λ r. ⌜ (drop 39424 (now (w .exit)) ≡ drop 39424 (now (w .entry))) × ((n : ℕ) (es : List Edge) → Has n (now (w .entry)) l es → Two es left right → Holds (now (w .exit)) r (add es (fractionOf es left right))) ⌝ }
+    requires { ⌜ ((n : ℕ) × ((es : List Edge) × HoldsCall n (now w) l es × Two es left right × (0 < valueOr (getD es left noEdge)))) × (l .len ≡ 0 → ⊥) ⌝ }
+    ensures { λ r. ⌜ (drop 39424 (now (w .exit)) ≡ drop 39424 (now (w .entry))) × ((n : ℕ) (es : List Edge) → HoldsCall n (now (w .entry)) l es → Two es left right → Holds (now (w .exit)) r (add es (fractionOf es left right))) ⌝ }
 {
     let a = crate::parts::head_of(w, l, left);
     let b = crate::parts::head_of(w, l, right);
@@ -45,8 +45,8 @@ fn add_fraction(w: &mut [u8], l: Lattice, left: usize, right: usize) -> Lattice
 
 // The edge that the choice at a place makes is added; a lattice that is full stays as it is.
 pub fn add_choice(w: &mut [u8], l: Lattice, p: usize, c: Choice) -> Lattice
-    requires { ⌜ ((n : ℕ) × ((es : List Edge) × Over n (now w) l es c)) × (p < 65536) ⌝ }
-    ensures { λ r. ⌜ (drop 39424 (now (w .exit)) ≡ drop 39424 (now (w .entry))) × ((n : ℕ) (es : List Edge) → Over n (now (w .entry)) l es c → Holds (now (w .exit)) r (addOutcome es (outcomeOf es p c))) ⌝ }
+    requires { ⌜ ((n : ℕ) × ((es : List Edge) × HoldsChoice n (now w) l es c)) × (p < 65536) ⌝ }
+    ensures { λ r. ⌜ (drop 39424 (now (w .exit)) ≡ drop 39424 (now (w .entry))) × ((n : ℕ) (es : List Edge) → HoldsChoice n (now (w .entry)) l es c → Holds (now (w .exit)) r (addOutcome es (outcomeOf es p c))) ⌝ }
 {
     if l.len == 0 {
         return l;

@@ -11,7 +11,7 @@ ghost use Rattle.edge.specs.View.{textOf};
 ghost use Rattle.lattice.specs.Lattice.{add};
 ghost use Rattle.lattice.specs.Kept.{noEdge, Holds};
 ghost use Rattle.fraction_choices.specs.Choice.{valueOr, HasValue, One};
-ghost use Rattle.fractions.specs.MadeParts.{HeadIs, scriptFrom, scriptLen, fractionFields, Has, fractionWith, txtPercentOf};
+ghost use Rattle.fractions.specs.MadeParts.{HeadIs, scriptFrom, scriptLen, fractionFields, HoldsCall, fractionWith, txtPercentOf};
 use edge::EdgeView;
 use edge::NumFields;
 use edge::Part;
@@ -77,8 +77,8 @@ fn fraction_fields(n: usize, q: Ratio, s: Script) -> NumFields
 
 // The head of the i-th edge.
 pub fn head_of(w: &[u8], l: Lattice, i: usize) -> EdgeView
-    requires { ⌜ ((n : ℕ) × ((es : List Edge) × Has n (now w) l es)) × (l .len ≡ 0 → ⊥) × (i < l .count) ⌝ }
-    ensures { λ r. ⌜ ((n : ℕ) (es : List Edge) → Has n (now (w .entry)) l es → HeadIs (now (w .entry)) (getD es i noEdge) r) ⌝ }
+    requires { ⌜ ((n : ℕ) × ((es : List Edge) × HoldsCall n (now w) l es)) × (l .len ≡ 0 → ⊥) × (i < l .count) ⌝ }
+    ensures { λ r. ⌜ ((n : ℕ) (es : List Edge) → HoldsCall n (now (w .entry)) l es → HeadIs (now (w .entry)) (getD es i noEdge) r) ⌝ }
 {
     let at = lattice::offset_at(w, l, i);
     edge::head::edge_at(w, at)
@@ -86,20 +86,20 @@ pub fn head_of(w: &[u8], l: Lattice, i: usize) -> EdgeView
 
 // The value of the i-th edge, which has one.
 pub fn value_of(w: &[u8], l: Lattice, i: usize) -> u64
-    requires { ⌜ ((n : ℕ) × ((es : List Edge) × Has n (now w) l es × HasValue (getD es i noEdge))) × (l .len ≡ 0 → ⊥) × (i < l .count) ⌝ }
-    ensures { λ r. ⌜ ((n : ℕ) (es : List Edge) → Has n (now (w .entry)) l es → HasValue (getD es i noEdge) → r ≡ valueOr (getD es i noEdge)) ⌝ }
+    requires { ⌜ ((n : ℕ) × ((es : List Edge) × HoldsCall n (now w) l es × HasValue (getD es i noEdge))) × (l .len ≡ 0 → ⊥) × (i < l .count) ⌝ }
+    ensures { λ r. ⌜ ((n : ℕ) (es : List Edge) → HoldsCall n (now (w .entry)) l es → HasValue (getD es i noEdge) → r ≡ valueOr (getD es i noEdge)) ⌝ }
 {
     let e = head_of(w, l, i);
     let d = edge::numeric::fields_at(e.map, w, e.fields);
-    whole::to_u64(f64::from_bits(d.value))
+    whole::whole_part(f64::from_bits(d.value))
 }
 
 // ---- adding
 
 // The right edge's txt and "%", from a place on.
 pub fn add_txt_percent(w: &mut [u8], l: Lattice, p: Place, right: usize) -> Lattice
-    requires { ⌜ ((n : ℕ) × ((es : List Edge) × Has n (now w) l es × One es right)) × (l .len ≡ 0 → ⊥) × (p .0 < 65536) ⌝ }
-    ensures { λ r. ⌜ (drop 39424 (now (w .exit)) ≡ drop 39424 (now (w .entry))) × ((n : ℕ) (es : List Edge) → Has n (now (w .entry)) l es → One es right → Holds (now (w .exit)) r (add es (txtPercentOf es (p .0) right))) ⌝ }
+    requires { ⌜ ((n : ℕ) × ((es : List Edge) × HoldsCall n (now w) l es × One es right)) × (l .len ≡ 0 → ⊥) × (p .0 < 65536) ⌝ }
+    ensures { λ r. ⌜ (drop 39424 (now (w .exit)) ≡ drop 39424 (now (w .entry))) × ((n : ℕ) (es : List Edge) → HoldsCall n (now (w .entry)) l es → One es right → Holds (now (w .exit)) r (add es (txtPercentOf es (p .0) right))) ⌝ }
 {
     let b = head_of(w, l, right);
     let mut buf = [0u8; 300];

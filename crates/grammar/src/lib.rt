@@ -1,3 +1,2 @@
-// The plain table, the grammar of numerals, demand 3: definitions and theorems.
-// The plain table, the grammar and demand 3: definitions in specs/, theorems in proofs/, no code.
+// The plain table, the grammar of numerals and demand 3: definitions in specs/, theorems in proofs/. The only code is the plain table's bytes.
 pub mod plain_table; // plain_table.rt: the plain table's bytes

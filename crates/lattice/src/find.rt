@@ -73,7 +73,7 @@ fn has_key(w: &[u8], s: &[u8], at: usize, n: usize, bucket: usize) -> bool
 
 // What is to be done with the edge of s that stands from at to the offset to and has a key of n bytes. It is looked for before the room is
 // tested: one that is there already is no overflow.
-pub fn how_to_add(w: &[u8], l: Lattice, s: &[u8], at: usize, n: usize, to: usize) -> Adding
+pub fn plan_add(w: &[u8], l: Lattice, s: &[u8], at: usize, n: usize, to: usize) -> Adding
     requires { ⌜ ((es : List Edge) × Holds (now w) l es) × ((e : Edge) × Stands (now s) at n to e) ⌝ }
     ensures { λ r. ⌜ ((es : List Edge) (e : Edge) → Holds (now (w .entry)) l es → Stands (now (s .entry)) at n to e → AddingIs l es e r) ⌝ }
 {

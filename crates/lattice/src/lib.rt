@@ -1,8 +1,5 @@
-// The lattice in lent work space: empty, searched, finished (the Rust's lattice/mod.rs).
-// The lattice, kept in lent work space: edges are added once (01: "edges equal in start, end, txt and type are one, the first"),
-// turned inactive, and written to the output in the order of their first addition. The layout of the work space is in specs/Kept.antt.
-// Here are the types, and what reads an edge's offset or turns an edge inactive. `lattice::ends` makes an empty lattice and writes the listing,
-// `lattice::find` looks for an edge, `lattice_add`, `lattice_add::regular` and `lattice_add::numeric` add one.
+// The lattice, kept in lent work space (the Rust's lattice/mod.rs): edges are added once (01: "edges equal in start, end, txt and type are one, the first"),
+// turned inactive, and written to the output in the order of their first addition. The layout of the work space is in specs/Kept.antt; `lattice_add` adds an edge.
 pub mod ends; // ends.rt: the lattice without edges, and its listing in the output
 pub mod find; // find.rt: whether it has an edge already, or room for it
 pub mod link; // link.rt: its cells with one edge more

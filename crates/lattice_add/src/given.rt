@@ -17,7 +17,7 @@ pub fn add_given(w: &mut [u8], l: Lattice, s: &[u8], at: usize, to: usize) -> La
 {
     let count = l.count;
     let len = l.len;
-    match lattice::find::how_to_add(w, l, s, at, to - at - 2, to) {
+    match lattice::find::plan_add(w, l, s, at, to - at - 2, to) {
         Adding::Nothing => l,
         Adding::TooMuch => Lattice { count, len: 0 },
         Adding::Into(bucket) => {

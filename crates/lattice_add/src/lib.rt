@@ -1,5 +1,4 @@
-// The ways in which an edge comes into the lattice.
-// An edge that is composed behind the lattice's listing is added where it is new and has room. `lattice_add::given` adds one of the caller's listing.
+// The ways in which an edge comes into the lattice: one that is composed behind the listing is added where it is new and has room.
 pub mod given; // given.rt: an edge of the caller's listing
 pub mod regular; // regular.rt: a new regular edge
 pub mod numeric; // numeric.rt: a new numeric edge
@@ -22,7 +21,7 @@ pub fn add_edge(w: &mut [u8], l: Lattice, n: usize, to: usize) -> Lattice
 {
     let count = l.count;
     let len = l.len;
-    match lattice::find::how_to_add(w, l, w, len, n, to) {
+    match lattice::find::plan_add(w, l, w, len, n, to) {
         Adding::Nothing => l,
         Adding::TooMuch => Lattice { count, len: 0 },
         Adding::Into(bucket) => {

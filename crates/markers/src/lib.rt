@@ -1,6 +1,4 @@
-// Markers and signs of the table in the line.
-// Texts of the table in the line (01, "The rest of the call"): whether one stands at an offset, and the sign before a place. What a marker at a place is, for
-// `markers::find`; `markers::any` asks whether there is any.
+// Markers and signs of the table in the line (01, "The rest of the call"): whether one stands at an offset, and the sign before a place.
 pub mod find; // find.rt: the marker that counts at a place
 pub mod any; // any.rt: whether a line has a marker at all
 

@@ -32,7 +32,7 @@ use Rattle.numbers.specs.Fractions.{standsAt, longest, markerAt, fractio
 use Rattle.numbers.specs.Signs.{signed, signs}
 use Rattle.numbers.specs.Separators.{endsBefore, apart, copyOf, copies, separate}
 use Rattle.numbers.specs.Fallback.{covered, fallback}
-use Rattle.numbers.specs.Call.{listing, refused, afterPasses, afterSigns, latticeOf, withAll, addNumbers}
+use Rattle.numbers.specs.Call.{listing, refused, afterPasses, afterSigns, latticeOf, afterChecks, addNumbers}
 
 -- what the program prints of an edge: start, end, type, txt, and whether it is active, none for a regular one
 abbrev row : Edge → ℕ × ℕ × Text × Text × Option Bool
@@ -58,5 +58,5 @@ pub order :
     × (addNumbers (49 ∷ []) empty (1 ∷ 0 ∷ []) 65536 0 ≡ refused 6 2)
     × (addNumbers (49 ∷ []) empty (0 ∷ 0 ∷ []) 65536 15 ≡ refused 8 0)
     × (addNumbers (49 ∷ []) empty (0 ∷ 0 ∷ []) 65536 16 ≡ listing (1 ∷ 0 ∷ 0 ∷ 0 ∷ 0 ∷ 0 ∷ 1 ∷ 0 ∷ 3 ∷ 0 ∷ 110 ∷ 117 ∷ 109 ∷ 1 ∷ 0 ∷ 49 ∷ []))
-unfolding addNumbers withAll latticeOf afterPasses afterSigns fractions outcomesFrom outcomeAt markerAt longest newEdges usedEdges signs separate copies fallback covered addAll add has turnOff overfull str headBytes edgeBytes edgesBytes listingBytes through addedBy after added chainsOf joinedOf charEdges from chains firstAbove checkListing checkEdges good nextAt stringEnd edgesAt le leAt bytesOf part readTable readRecords readList readTexts item number seq chars decode left find
+unfolding addNumbers afterChecks latticeOf afterPasses afterSigns fractions outcomesFrom outcomeAt markerAt longest newEdges usedEdges signs separate copies fallback covered addAll add has turnOff overfull str headBytes edgeBytes edgesBytes listingBytes through addedBy after added chainsOf joinedOf charEdges from chains firstAbove checkListing checkEdges good nextAt stringEnd edgesAt le leAt bytesOf part readTable readRecords readList readTexts item number seq chars decode left find
 order = (refl, refl, refl, refl, refl, refl)

@@ -25,7 +25,7 @@ use Rattle.grammar.specs.PlainBytes.{plainBytes}
 use Rattle.grammar.proofs.Demand3.{Carries, Settled, demand3}
 use Rattle.grammar.proofs.PlainTable.{plain-table}
 use Rattle.numbers.specs.Listed.{listedEdge}
-use Rattle.numbers.specs.Call.{Answer, listing, refused, addNumbers, withLine, withTable, withGiven, withAll, unlessAbove}
+use Rattle.numbers.specs.Call.{Answer, listing, refused, addNumbers, afterLineCheck, afterTableCheck, afterEdgesCheck, afterChecks, unlessAbove}
 
 -- the answer is a listing
 abbrev pub Listed : Answer → Type 0
@@ -36,17 +36,17 @@ above : (o : Option ℕ) (a : Answer) → Listed (unlessAbove o a) → o ≡ non
 above none a h = refl
 above (some p) a h = absurd h
 
-given-accepted : (line given : List ℕ) (out : ℕ) (c : ListingCheck) → Listed (withGiven plain (chars line) out given c) → aboveAt plain (chars line) ≡ none
-unfolding withAll
+given-accepted : (line given : List ℕ) (out : ℕ) (c : ListingCheck) → Listed (afterEdgesCheck plain (chars line) out given c) → aboveAt plain (chars line) ≡ none
+unfolding afterChecks
 given-accepted line given out (ListingCheck.Refused at) h = absurd h
 given-accepted line given out (ListingCheck.Edges n) h = above (aboveAt plain (chars line)) _ h
 
-table-accepted : (line given : List ℕ) (out : ℕ) → Listed (withTable (chars line) out given (readTable plainBytes)) → aboveAt plain (chars line) ≡ none
+table-accepted : (line given : List ℕ) (out : ℕ) → Listed (afterTableCheck (chars line) out given (readTable plainBytes)) → aboveAt plain (chars line) ≡ none
 table-accepted line given out h = given-accepted line given out (checkListing true (length (chars line)) given) (rw plain-table at h)
 
 -- what an accepted call says of the line
 line-accepted : (line given : List ℕ) (out n : ℕ) (at long : Offset) (ok fits : Bool) → wellFormed line ≡ ok
-    → Listed (withLine line plainBytes given out (cond ok (cond fits (Chars n) (TooLong long)) (IllFormed at)))
+    → Listed (afterLineCheck line plainBytes given out (cond ok (cond fits (Chars n) (TooLong long)) (IllFormed at)))
     → (wellFormed line ≡ true) × (aboveAt plain (chars line) ≡ none)
 line-accepted line given out n at long true true e h = (e, table-accepted line given out h)
 line-accepted line given out n at long true false e h = absurd h
@@ -56,7 +56,7 @@ accepted : (line given : List ℕ) (work out : ℕ) → Listed (addNumbers line 
 unfolding addNumbers
 accepted line given work out h = go (ltb work 65536) h
   where
-    go : (short : Bool) → Listed (cond short (refused 1 0) (withLine line plainBytes given out (lineCheck line))) → (wellFormed line ≡ true) × (aboveAt plain (chars line) ≡ none)
+    go : (short : Bool) → Listed (cond short (refused 1 0) (afterLineCheck line plainBytes given out (lineCheck line))) → (wellFormed line ≡ true) × (aboveAt plain (chars line) ≡ none)
     go true h = absurd h
     go false h = line-accepted line given out (length (chars line)) (record { 0 = illAt line }) (record { 0 = offsetOf line maxChars }) (wellFormed line) (leb (length (chars line)) maxChars) refl h
 

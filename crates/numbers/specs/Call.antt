@@ -54,28 +54,28 @@ abbrev pub unlessAbove : Option ℕ → Answer → Answer
 unlessAbove (some p) a = refused 7 p
 unlessAbove none a = a
 
-unfoldable pub withAll : Table → List ℕ → ℕ → List Edge → Answer
-withAll t w out given = unlessAbove (aboveAt t w) (finished out (latticeOf t w given))
+unfoldable pub afterChecks : Table → List ℕ → ℕ → List Edge → Answer
+afterChecks t w out given = unlessAbove (aboveAt t w) (finished out (latticeOf t w given))
 
 -- 6: the given edges
-abbrev pub withGiven : Table → List ℕ → ℕ → List ℕ → ListingCheck → Answer
-withGiven t w out given (ListingCheck.Refused at) = refused 6 (at .0)
-withGiven t w out given (ListingCheck.Edges n) = withAll t w out (listed given)
+abbrev pub afterEdgesCheck : Table → List ℕ → ℕ → List ℕ → ListingCheck → Answer
+afterEdgesCheck t w out given (ListingCheck.Refused at) = refused 6 (at .0)
+afterEdgesCheck t w out given (ListingCheck.Edges n) = afterChecks t w out (listed given)
 
 -- 4 and 5: the table
-abbrev pub withTable : List ℕ → ℕ → List ℕ → Checked Table → Answer
-withTable w out given (Refused number at) = refused number at
-withTable w out given (Fine t at) = withGiven t w out given (checkListing true (length w) given)
+abbrev pub afterTableCheck : List ℕ → ℕ → List ℕ → Checked Table → Answer
+afterTableCheck w out given (Refused number at) = refused number at
+afterTableCheck w out given (Fine t at) = afterEdgesCheck t w out given (checkListing true (length w) given)
 
 -- 2 and 3: the line
-abbrev pub withLine : List ℕ → List ℕ → List ℕ → ℕ → LineCheck → Answer
-withLine line table given out (IllFormed at) = refused 2 (at .0)
-withLine line table given out (TooLong at) = refused 3 (at .0)
-withLine line table given out (Chars n) = withTable (chars line) out given (readTable table)
+abbrev pub afterLineCheck : List ℕ → List ℕ → List ℕ → ℕ → LineCheck → Answer
+afterLineCheck line table given out (IllFormed at) = refused 2 (at .0)
+afterLineCheck line table given out (TooLong at) = refused 3 (at .0)
+afterLineCheck line table given out (Chars n) = afterTableCheck (chars line) out given (readTable table)
 
 -- 1: "work space under 65,536 bytes"
 unfoldable pub addNumbers : List ℕ → List ℕ → List ℕ → ℕ → ℕ → Answer
-addNumbers line table given work out = cond (ltb work 65536) (refused 1 0) (withLine line table given out (lineCheck line))
+addNumbers line table given work out = cond (ltb work 65536) (refused 1 0) (afterLineCheck line table given out (lineCheck line))
 
 -- "the output buffer holds what it held before"; behind a listing too
 abbrev pub outAfter : List ℕ → Answer → List ℕ

@@ -1,3 +1,2 @@
-// The whole call as definitions, demand 3 for it, and what its stages share (the Rust's lattice/numbers.rs).
-// The whole call: fractions and percentages, signs, separators, the fallback, and `add_numbers`.
+// The whole call as definitions (the Rust's lattice/numbers.rs): fractions and percentages, signs, separators, the fallback, the checks 1 to 8, demand 3 for it.
 pub mod stages; // stages.rt: what the stages share (definitions and laws)

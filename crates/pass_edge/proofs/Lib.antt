@@ -1,3 +1,3 @@
--- Laws of the definitions of `items`, for its own proofs and its callers'.
+-- Laws of the definitions of `pass_edge`, for its own proofs and its callers'.
 pub mod RecordLaws
 pub mod TextLaws

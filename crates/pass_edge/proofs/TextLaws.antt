@@ -1,5 +1,5 @@
--- Laws of an item's texts. In order: a character's bytes; a text at the front of a buffer; the txt and the type of a character whose record was checked;
--- bytes between two offsets, and the line's between two places; the names of the passes; the texts of an item, and that they are short.
+-- Laws of a stored edge's texts. In order: a character's bytes; a text at the front of a buffer; the txt and the type of a character whose record was checked;
+-- bytes between two offsets, and the line's between two places; the names of the passes; the texts of a stored edge, and that they are short.
 use mathlib.Core.Path.{_≡_, refl, sym, ap, _∙_, subst}
 use mathlib.Core.Bool.{Bool, true, false, cond}
 use mathlib.Core.List.{List, [], _∷_}
@@ -23,7 +23,7 @@ use Rattle.pass_list.specs.Edges.{between, kindName, txtOf, edgeOf}
 use Rattle.numbers.specs.Ready.{Offsets}
 use Rattle.pass_edge.proofs.places.PlacesLaws.{offset-rises, part-between}
 use Rattle.text.proofs.PlaceLaws.{offset-le}
-use Rattle.pass_edge.specs.Sound.{LegalAt, Rooted, Sound, StoredIs}
+use Rattle.pass_edge.specs.Grounded.{LegalAt, Rooted, Grounded, StoredIs}
 use Rattle.pass_edge.specs.Texts.{charTxt, charType, typeOf, Front}
 use Rattle.pass_edge.proofs.RecordLaws.{take-short, AtMost, record-short, typeEnd, Lies, type-lies, rom-lies, rom-absent}
 
@@ -125,7 +125,7 @@ module _ (k : ℕ) where
   pub name-g4 : (k ≡ 1 → ⊥) → (k ≡ 2 → ⊥) → (k ≡ 3 → ⊥) → (k ≡ 4 → ⊥) → 71 ∷ 52 ∷ [] ≡ kindName k
   name-g4 a b c d = rw (ne-eqb k 1 a, ne-eqb k 2 b, ne-eqb k 3 c, ne-eqb k 4 d)
 
--- ---- the texts of an item x, which the code has as e
+-- ---- the texts of a stored edge x, which the code has as e
 module _ (w t : List ℕ) (e : PassEdge) (x : StoredEdge) (h : EdgeIs e x) where
   pub kind-is : e .kind ≡ x .kind
   kind-is = ap (λ (e : PassEdge). e .kind) (h .is)
@@ -152,7 +152,7 @@ module _ (w t : List ℕ) (e : PassEdge) (x : StoredEdge) (h : EdgeIs e x) where
 pub rooted-char : (t : List ℕ) (e : PassEdge) (x : StoredEdge) → EdgeIs e x → Rooted t x → e .kind ≡ 0 → LegalAt t (e .«record_at» .0)
 rooted-char t e x h r z = let k : x .kind ≡ 0 = sym (kind-is [] t e x h) ∙ z in subst (LegalAt t) (ap (λ (e : PassEdge). e .«record_at» .0) (sym (h .is))) (r .legal k)
 
--- ---- the txt of a sound item is short
+-- ---- the txt of a sound stored edge is short
 get-short : (o : Option Text) (d : Text) → AtMost o → length d ≤ 60 → length (Option·getD o d) ≤ 60
 get-short none d h k = k
 get-short (some t) d h k = h
@@ -162,7 +162,7 @@ unfolding charTxt
 own-short w t at a b l o =
     rw (l .reads) (get-short (l .prop .rom) (between w a b) (record-short t at (l .reads) .rom) (omega (arith, between-short w a b)))
 
-pub txt-short : (w t : List ℕ) (x : StoredEdge) → Sound w t x → length w ≤ 256 → length (txtOf w t x) ≤ 256
+pub txt-short : (w t : List ℕ) (x : StoredEdge) → Grounded w t x → length w ≤ 256 → length (txtOf w t x) ≤ 256
 unfolding charTxt
 txt-short w t x s n = go (eqb (x .kind) 0) (eqb (x .kind) 1) refl
   where
@@ -181,11 +181,11 @@ module _ (line t : List ℕ) (e : PassEdge) (x : StoredEdge) (h : StoredIs line 
   pub char-fits : length (chars line) ≤ 256 → e .kind ≡ 0 → length (charTxt (chars line) t (e .«record_at» .0) (e .start .0) (e .end .0)) ≤ 256
   char-fits n z = rw (txt-char (chars line) t e x (h .is) z) (txt-short (chars line) t x (h .sound) n)
 
--- the value of an item, as the code has it
+-- the value of a stored edge, as the code has it
 pub value-is : (e : PassEdge) (x : StoredEdge) → EdgeIs e x → e .num .value ≡ ofNat (x .value)
 value-is e x h = ap (λ (e : PassEdge). e .num .value) (h .is)
 
--- ---- the type of a sound item
+-- ---- the type of a sound stored edge
 pub type-of-edge : (w t : List ℕ) (x : StoredEdge) → edgeOf w t x .type ≡ typeOf t x
 unfolding edgeOf typeOf charType
 type-of-edge w t x = refl
@@ -200,7 +200,7 @@ name-short k = go (eqb k 1) (eqb k 2) (eqb k 3) (eqb k 4)
     go false false false true = omega arith
     go false false false false = omega arith
 
-pub type-short : (w t : List ℕ) (x : StoredEdge) → Sound w t x → length (typeOf t x) ≤ 60
+pub type-short : (w t : List ℕ) (x : StoredEdge) → Grounded w t x → length (typeOf t x) ≤ 60
 unfolding typeOf
 type-short w t x s = go (eqb (x .kind) 0) refl
   where

@@ -1,3 +1,3 @@
--- The edges of sound items are edges of the call.
+-- The edges of sound stored edges are edges of the call.
 pub mod FormedLaws
 pub mod Theorems

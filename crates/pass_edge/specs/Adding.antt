@@ -1,7 +1,7 @@
--- Items added to the lattice: what one asks, and those of one kind in turn. Definitions only.
---     Asks s l line offs t e   what adding the code's edge e asks: a lattice l in the work space s, the line's offsets, and that e is a sound item
---     Adds line t e s l u r    the lattice r in u is l in s with the item's edge, and what is behind it is as it was
---     kindEdges w t k l        the edges of the items of l that are of kind k, as they are listed
+-- Stored edges added to the lattice: what one asks, and those of one kind in turn. Definitions only.
+--     Asks s l line offs t e   what adding the code's edge e asks: a lattice l in the work space s, the line's offsets, and that e is a sound stored edge
+--     Adds line t e s l u r    the lattice r in u is l in s with the stored edge's edge, and what is behind it is as it was
+--     kindEdges w t k l        the edges of the stored edges of l that are of kind k, as they are listed
 --     addIf w t k es x         es with the edge of x added, if x is of kind k
 --     Assumes nothing.
 use mathlib.Core.Path.{_≡_}
@@ -21,15 +21,15 @@ use Rattle.lattice.specs.declared.Lattice.{Lattice}
 use Rattle.lattice.specs.Kept.{Holds}
 use Rattle.numbers.specs.Ready.{Offsets}
 use Rattle.numbers.specs.Listed.{listedEdge}
-use Rattle.pass_edge.specs.Sound.{StoredIs}
+use Rattle.pass_edge.specs.Grounded.{StoredIs}
 
-pub record Asks (s : List ℕ) (l : Lattice) (line offs t : List ℕ) (e : PassEdge) : Type 0 where
+pub record Addable (s : List ℕ) (l : Lattice) (line offs t : List ℕ) (e : PassEdge) : Type 0 where
   pub holds : (es : List Edge) × Holds s l es
   pub offsets : Offsets line offs
-  pub item : (x : StoredEdge) × StoredIs line t e x
+  pub stored-edge : (x : StoredEdge) × StoredIs line t e x
   pub few : length (chars line) ≤ 256
 
-pub record Adds (line t : List ℕ) (e : PassEdge) (s : List ℕ) (l : Lattice) (u : List ℕ) (r : Lattice) : Type 0 where
+pub record Added (line t : List ℕ) (e : PassEdge) (s : List ℕ) (l : Lattice) (u : List ℕ) (r : Lattice) : Type 0 where
   pub frame : drop 39424 u ≡ drop 39424 s
   pub holds : (es : List Edge) (x : StoredEdge) → Holds s l es → StoredIs line t e x → Holds u r (add es (listedEdge (edgeOf (chars line) t x)))
 

@@ -1,5 +1,5 @@
--- The fields that an item is listed with. Definitions only.
---     storedFraction t k at   the fraction of an item of kind k whose record stands at an offset of the table, in lowest terms, where it has one
+-- The fields that a stored edge is listed with. Definitions only.
+--     storedFraction t k at   the fraction of a stored edge of kind k whose record stands at an offset of the table, in lowest terms, where it has one
 --     recordFraction p      the fraction of the record that a NumProp stands for, in lowest terms, where it has one
 --     FractionIs f o        the code's f is the fraction o, where there is one
 --     Listable offs e       the places of e have offsets that rise, and its floats are no NaN

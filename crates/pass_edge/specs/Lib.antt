@@ -1,5 +1,5 @@
--- The definitions that the contracts of `items` cite.
-pub mod Sound
+-- The definitions that the contracts of `pass_edge` cite.
+pub mod Grounded
 pub mod Texts
 pub mod Fields
 pub mod Adding

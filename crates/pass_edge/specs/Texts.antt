@@ -1,8 +1,8 @@
--- The texts of an item, and a text at the front of a buffer. Definitions only.
+-- The texts of a stored edge, and a text at the front of a buffer. Definitions only.
 --     charTxt w t at a b   the txt of a character from place a to place b whose record stands at an offset of the table
 --     charType t at        its type
---     typeOf t x           the type of an item
---     TextsAre ..          the code's edge e is the item x, sound, with type ty and txt tx
+--     typeOf t x           the type of a stored edge
+--     TextsAre ..          the code's edge e is the stored edge x, sound, with type ty and txt tx
 --     Front s u r txt      u is s with txt at its front, r bytes
 -- Assumes nothing.
 use mathlib.Core.Path.{_≡_}
@@ -18,7 +18,7 @@ use Rattle.text.specs.Text.{chars}
 use Rattle.pass_list.specs.declared.record.PassEdge.{PassEdge}
 use Rattle.pass_list.specs.StoredEdge.{StoredEdge}
 use Rattle.pass_list.specs.Edges.{between, ofRecord, kindName, txtOf}
-use Rattle.pass_edge.specs.Sound.{StoredIs}
+use Rattle.pass_edge.specs.Grounded.{StoredIs}
 
 unfoldable pub charTxt : List ℕ → List ℕ → ℕ → ℕ → ℕ → Text
 charTxt w t at a b = ofRecord t at (λ r. Option·getD (r .rom) (between w a b)) []
@@ -31,7 +31,7 @@ unfoldable pub typeOf : List ℕ → StoredEdge → Text
 typeOf t x = cond (eqb (x .kind) 0) (charType t (x .record-at)) (kindName (x .kind))
 
 pub record TextsAre (line table : List ℕ) (e : PassEdge) (ty tx : Text) (x : StoredEdge) : Type 0 where
-  pub item : StoredIs line table e x
+  pub stored-edge : StoredIs line table e x
   pub type : ty ≡ typeOf table x
   pub txt : tx ≡ txtOf (chars line) table x
 

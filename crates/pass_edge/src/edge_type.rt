@@ -1,10 +1,10 @@
-// The type of an item of the pass list (01, "From characters to edges", "Five passes"): its record's, or the name of the pass that joined it.
+// The type of a stored edge of the pass list (01, "From characters to edges", "Five passes"): its record's, or the name of the pass that joined it.
 ghost use Prim.Native.Nat.{_≤_};
 ghost use mathlib.Core.List.{[], _∷_};
 ghost use lib.ListN.{length};
 ghost use Rattle.pass_list.specs.StoredEdge.{StoredEdge, EdgeIs};
 ghost use Rattle.pass_list.specs.Edges.{kindName};
-ghost use Rattle.pass_edge.specs.Sound.{Rooted};
+ghost use Rattle.pass_edge.specs.Grounded.{Rooted};
 ghost use Rattle.pass_edge.specs.Texts.{typeOf, Front};
 use pass_list::record::PassEdge;
 
@@ -18,7 +18,7 @@ fn put_name(buf: &mut [u8], letter: u8, digit: u8) -> usize
     2
 }
 
-// The name of the pass that joined an item of this kind.
+// The name of the pass that joined a stored edge of this kind.
 fn put_kind(buf: &mut [u8], kind: u16) -> usize
     requires { ⌜ 2 ≤ length (now buf) ⌝ }
     ensures { λ r. ⌜ Front (now (buf .entry)) (now (buf .exit)) r (kindName kind) ⌝ }
@@ -38,7 +38,7 @@ fn put_kind(buf: &mut [u8], kind: u16) -> usize
     put_name(buf, b'G', b'4')
 }
 
-// The type of an item goes to the front of a buffer: how many bytes.
+// The type of a stored edge goes to the front of a buffer: how many bytes.
 pub fn type_of(buf: &mut [u8], table: &[u8], x: PassEdge) -> usize
     requires { ⌜ ((i : StoredEdge) × EdgeIs x i × Rooted (now table) i) × (60 ≤ length (now buf)) ⌝ }
     ensures { λ r. ⌜ ((i : StoredEdge) → EdgeIs x i → Front (now (buf .entry)) (now (buf .exit)) r (typeOf (now (table .entry)) i)) ⌝ }

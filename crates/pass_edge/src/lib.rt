@@ -1,7 +1,5 @@
-// An edge of the pass list as an edge of the lattice.
-// An item of the pass list as an edge of the lattice (01, "From characters to edges", "Five passes"): what an item needs for it is `Sound` of specs/Sound.antt;
-// and a character's texts, as parts of the table or of the line. An item's type and txt are put together in `pass_edge::edge_type` and `pass_edge::txt`, its fields are written in
-// `pass_edge::listed`, and the stage that adds the items of one kind is in `five`.
+// An edge of the pass list as an edge of the lattice (01, "From characters to edges", "Five passes"): what a stored edge needs for it is `Grounded` of specs/Grounded.antt;
+// and a character's texts, as parts of the table or of the line.
 pub mod places; // places.rt: the offsets of all places of a line
 pub mod txt; // txt.rt: its txt
 pub mod edge_type; // edge_type.rt: its type
@@ -15,7 +13,7 @@ ghost use lib.ListN.{length, getD};
 ghost use Rattle.text.specs.Text.{chars};
 ghost use Rattle.pass_list.specs.Edges.{between};
 ghost use Rattle.numbers.specs.Ready.{Offsets};
-ghost use Rattle.pass_edge.specs.Sound.{LegalAt};
+ghost use Rattle.pass_edge.specs.Grounded.{LegalAt};
 ghost use Rattle.pass_edge.specs.Texts.{charTxt, charType, Front};
 
 // The type of a character whose record was checked: its bytes in the table, by the length before them.
@@ -40,7 +38,7 @@ pub fn rom_at(table: &[u8], at: usize) -> &[u8]
 }
 
 // The bytes of the line between two places.
-pub fn own_at<'a>(line: &'a [u8], offs: &[usize; 257], start: usize, end: usize) -> &'a [u8]
+pub fn line_part<'a>(line: &'a [u8], offs: &[usize; 257], start: usize, end: usize) -> &'a [u8]
     requires { ⌜ Offsets (now line) (now offs) × (start ≤ end) × (end ≤ length (chars (now line))) × (length (chars (now line)) ≤ 256) ⌝ }
     ensures { λ r. ⌜ now r ≡ between (chars (now (line .entry))) start end ⌝ }
 {
@@ -58,7 +56,7 @@ pub fn put_text(buf: &mut [u8], t: &[u8]) -> usize
     t.len()
 }
 
-// The fraction of an item, where it has one.
+// The fraction of a stored edge, where it has one.
 pub struct Fraction {
     pub there: bool,
     pub numerator: u64,

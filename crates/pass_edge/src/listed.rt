@@ -1,4 +1,4 @@
-// An item of the pass list with its texts as an edge of the lattice (01, "From characters to edges"): the fields that it is listed with.
+// A stored edge of the pass list with its texts as an edge of the lattice (01, "From characters to edges"): the fields that it is listed with.
 ghost use mathlib.Core.Path.{_≡_};
 ghost use Prim.Native.Nat.{_*_, _≤_};
 ghost use mathlib.Core.List.{List};
@@ -21,24 +21,24 @@ use lattice::Lattice;
 use pass_list::record::PassEdge;
 
 // What a field adds to the map.
-fn worth(b: bool, of: u16) -> u16
+fn bit_if(b: bool, of: u16) -> u16
     ensures { λ r. ⌜ (r ≡ of * flag b) × (r ≤ of) ⌝ }
 {
     if b { of } else { 0 }
 }
 
-// The map of an item: which of its fields are there.
+// The map of a stored edge: which of its fields are there.
 fn map_of(x: PassEdge, fraction: bool) -> u16
     ensures { λ r. ⌜ r ≡ storedMap x fraction ⌝ }
 {
     129
-        + worth(x.num.has_value, 2)
-        + worth(fraction, 4)
-        + worth(x.num.has_base, 8)
-        + worth(x.num.has_mult, 16)
-        + worth(x.num.has_script, 32)
-        + worth(x.num.large_power, 64)
-        + worth(x.kind == 1, 256)
+        + bit_if(x.num.has_value, 2)
+        + bit_if(fraction, 4)
+        + bit_if(x.num.has_base, 8)
+        + bit_if(x.num.has_mult, 16)
+        + bit_if(x.num.has_script, 32)
+        + bit_if(x.num.large_power, 64)
+        + bit_if(x.kind == 1, 256)
 }
 
 // A part that is there, or none.
@@ -52,7 +52,7 @@ fn part_or(b: bool, at: usize, len: usize) -> Part
     }
 }
 
-// The fields of an item whose fraction is f and whose txt has so many bytes.
+// The fields of a stored edge whose fraction is f and whose txt has so many bytes.
 fn fields_of(offs: &[usize; 257], x: PassEdge, f: Fraction, len: usize) -> NumFields
     requires { ⌜ Listable (now offs) x ⌝ }
     ensures { λ r. ⌜ r ≡ storedFields (now (offs .entry)) x f len ⌝ }
@@ -80,7 +80,7 @@ fn fields_of(offs: &[usize; 257], x: PassEdge, f: Fraction, len: usize) -> NumFi
     })
 }
 
-// An item with this fraction and these texts is added to the lattice.
+// A stored edge with this fraction and these texts is added to the lattice.
 pub fn add_texts(
     w: &mut [u8],
     l: Lattice,

@@ -1,1 +1,1 @@
-// The edges of sound items are edges of the call, beyond the contracts of `items`: theorems in proofs/, no code.
+// The edges of sound stored edges are edges of the call, beyond the contracts of `pass_edge`: theorems in proofs/, no code.

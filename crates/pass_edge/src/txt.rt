@@ -1,11 +1,11 @@
-// The txt of an item of the pass list (01, "From characters to edges", "Five passes"): its record's rom or the character itself, its digits, or its value.
+// The txt of a stored edge of the pass list (01, "From characters to edges", "Five passes"): its record's rom or the character itself, its digits, or its value.
 ghost use Prim.Native.Nat.{_≤_};
 ghost use lib.ListN.{length};
 ghost use Rattle.text.specs.Text.{chars};
 ghost use Rattle.pass_list.specs.StoredEdge.{StoredEdge, EdgeIs};
 ghost use Rattle.pass_list.specs.Edges.{txtOf};
 ghost use Rattle.numbers.specs.Ready.{Offsets};
-ghost use Rattle.pass_edge.specs.Sound.{LegalAt, StoredIs};
+ghost use Rattle.pass_edge.specs.Grounded.{LegalAt, StoredIs};
 ghost use Rattle.pass_edge.specs.Texts.{charTxt, Front};
 use pass_list::record::PassEdge;
 
@@ -25,10 +25,10 @@ fn char_txt(
     if table[at + 4] / 1 % 2 == 1 {
         return crate::put_text(buf, crate::rom_at(table, at));
     }
-    crate::put_text(buf, crate::own_at(line, offs, start, end))
+    crate::put_text(buf, crate::line_part(line, offs, start, end))
 }
 
-// The txt of an item goes to the front of a buffer: how many bytes. D1 keeps leading zeros, the other joined txt is the value.
+// The txt of a stored edge goes to the front of a buffer: how many bytes. D1 keeps leading zeros, the other joined txt is the value.
 pub fn txt_of(buf: &mut [u8], line: &[u8], offs: &[usize; 257], table: &[u8], x: PassEdge) -> usize
     requires { ⌜ Offsets (now line) (now offs) × ((i : StoredEdge) × StoredIs (now line) (now table) x i) × (length (chars (now line)) ≤ 256) × (256 ≤ length (now buf)) ⌝ }
     ensures { λ r. ⌜ ((i : StoredEdge) → EdgeIs x i → Front (now (buf .entry)) (now (buf .exit)) r (txtOf (chars (now (line .entry))) (now (table .entry)) i)) ⌝ }
@@ -36,7 +36,7 @@ pub fn txt_of(buf: &mut [u8], line: &[u8], offs: &[usize; 257], table: &[u8], x:
     if x.kind == 0 {
         return char_txt(buf, line, offs, table, x.record_at.0, x.start.0, x.end.0);
     }
-    let value = whole::u64_of(x.num.value);
+    let value = whole::exact_u64(x.num.value);
     if x.kind == 1 {
         let len = x.end.0 - x.start.0;
         whole::decimal::put_padded(buf, 0, len, value);

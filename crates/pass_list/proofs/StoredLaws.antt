@@ -147,45 +147,45 @@ pub length-record : (x : StoredEdge) → length (recordBytes x) ≡ 56
 unfolding recordBytes numBytes bytesOf
 length-record x = refl
 
-pub item-same : (s : List ℕ) (at : ℕ) (x : StoredEdge) → Fits x → at + 56 ≤ length s → storedAt (sets s at (recordBytes x)) at ≡ x
+pub stored-edge-same : (s : List ℕ) (at : ℕ) (x : StoredEdge) → Fits x → at + 56 ≤ length s → storedAt (sets s at (recordBytes x)) at ≡ x
 unfolding storedAt
-item-same s at x f h = ap storedOf (part-sets s at (recordBytes x) 56 (length-record x) h) ∙ record-back x f
+stored-edge-same s at x f h = ap storedOf (part-sets s at (recordBytes x) 56 (length-record x) h) ∙ record-back x f
 
 -- ---- lists of records
 -- what lies behind k records is read as before
-pub item-behind : (s t : List ℕ) (at : ℕ) → drop at t ≡ drop at s → storedAt t at ≡ storedAt s at
+pub stored-edge-behind : (s t : List ℕ) (at : ℕ) → drop at t ≡ drop at s → storedAt t at ≡ storedAt s at
 unfolding storedAt part
-item-behind s t at e = ap (λ (l : List ℕ). storedOf (take 56 l)) e
+stored-edge-behind s t at e = ap (λ (l : List ℕ). storedOf (take 56 l)) e
 
-pub items-cons : (s : List ℕ) (i n : ℕ) → i < n → storedListAt s i (n - i) ≡ storedAt s (i * 56) ∷ storedListAt s (i + 1) (n - (i + 1))
+pub stored-edges-cons : (s : List ℕ) (i n : ℕ) → i < n → storedListAt s i (n - i) ≡ storedAt s (i * 56) ∷ storedListAt s (i + 1) (n - (i + 1))
 unfolding storedListAt
-items-cons s i n h = let e : n - i ≡ suc (n - suc i) = omega arith in rw (add-one i, e)
+stored-edges-cons s i n h = let e : n - i ≡ suc (n - suc i) = omega arith in rw (add-one i, e)
 
-pub items-none : (s : List ℕ) (i n : ℕ) → n ≤ i → storedListAt s i (n - i) ≡ []
+pub stored-edges-none : (s : List ℕ) (i n : ℕ) → n ≤ i → storedListAt s i (n - i) ≡ []
 unfolding storedListAt
-items-none s i n h = let e : n - i ≡ 0 = omega arith in rw e
+stored-edges-none s i n h = let e : n - i ≡ 0 = omega arith in rw e
 
-pub length-items : (s : List ℕ) (i n : ℕ) → length (storedListAt s i n) ≡ n
+pub length-stored-edges : (s : List ℕ) (i n : ℕ) → length (storedListAt s i n) ≡ n
 unfolding storedListAt
-length-items s i zero = refl
-length-items s i (suc n) = ap suc (length-items s (suc i) n)
+length-stored-edges s i zero = refl
+length-stored-edges s i (suc n) = ap suc (length-stored-edges s (suc i) n)
 
-pub items-other : (s : List ℕ) (at : ℕ) (bs : List ℕ) (i n : ℕ) → (i + n) * 56 ≤ at → storedListAt (sets s at bs) i n ≡ storedListAt s i n
+pub stored-edges-other : (s : List ℕ) (at : ℕ) (bs : List ℕ) (i n : ℕ) → (i + n) * 56 ≤ at → storedListAt (sets s at bs) i n ≡ storedListAt s i n
 unfolding storedListAt storedAt
-items-other s at bs i zero h = refl
-items-other s at bs i (suc n) h = rw (part-sets-other s at bs (i * 56) 56 (inr (omega arith)), items-other s at bs (suc i) n (omega arith))
+stored-edges-other s at bs i zero h = refl
+stored-edges-other s at bs i (suc n) h = rw (part-sets-other s at bs (i * 56) 56 (inr (omega arith)), stored-edges-other s at bs (suc i) n (omega arith))
 
-pub items-snoc : (s : List ℕ) (i n : ℕ) → storedListAt s i (n + 1) ≡ storedListAt s i n ++ (storedAt s ((i + n) * 56) ∷ [])
+pub stored-edges-snoc : (s : List ℕ) (i n : ℕ) → storedListAt s i (n + 1) ≡ storedListAt s i n ++ (storedAt s ((i + n) * 56) ∷ [])
 unfolding storedListAt
-items-snoc s i zero = rw add-zero
-items-snoc s i (suc n) = let e : i + suc n ≡ suc i + n = omega arith in rw (suc-add n 1, e) (ap (λ (l : List StoredEdge). storedAt s (i * 56) ∷ l) (items-snoc s (suc i) n))
+stored-edges-snoc s i zero = rw add-zero
+stored-edges-snoc s i (suc n) = let e : i + suc n ≡ suc i + n = omega arith in rw (suc-add n 1, e) (ap (λ (l : List StoredEdge). storedAt s (i * 56) ∷ l) (stored-edges-snoc s (suc i) n))
 
 -- one more record, written right behind n of them
-pub items-put : (s : List ℕ) (n : ℕ) (x : StoredEdge) → Fits x → n * 56 + 56 ≤ length s → storedListAt (sets s (n * 56) (recordBytes x)) 0 (n + 1) ≡ storedListAt s 0 n ++ (x ∷ [])
-items-put s n x f h =
+pub stored-edges-put : (s : List ℕ) (n : ℕ) (x : StoredEdge) → Fits x → n * 56 + 56 ≤ length s → storedListAt (sets s (n * 56) (recordBytes x)) 0 (n + 1) ≡ storedListAt s 0 n ++ (x ∷ [])
+stored-edges-put s n x f h =
     let e : (0 + n) * 56 ≡ n * 56 = omega arith in
-    items-snoc (sets s (n * 56) (recordBytes x)) 0 n
-    ∙ rw (e, items-other s (n * 56) (recordBytes x) 0 n (omega arith), item-same s (n * 56) x f h)
+    stored-edges-snoc (sets s (n * 56) (recordBytes x)) 0 n
+    ∙ rw (e, stored-edges-other s (n * 56) (recordBytes x) 0 n (omega arith), stored-edge-same s (n * 56) x f h)
 
 small-at : (s : List ℕ) (i n j : ℕ) → AllSmall (storedListAt s i n) → j < n → Small (storedAt s ((i + j) * 56))
 unfolding storedListAt

@@ -1,10 +1,10 @@
--- What the functions of `pass_rules::chain` and `pass_run` answer, by the passes on items (specs/StoredPass.antt). Definitions only.
+-- What the functions of `pass_rules::chain` and `pass_run` answer, by the passes on stored edges (specs/StoredPass.antt). Definitions only.
 --     passOf p          the pass that the code's name p stands for
 --     passChain x       the chain x as the code has it
 --     ChainIs c x       the code's chain c is x, and the edge over it fits
 --     answer p x y      what `next` of `pass_rules::chain` answers: the longer chain, that it ends, or that the value is above TOP
 --     passed o k        what a pass answers: the place in o, or the count k
---     PassedIs p l s r  a pass p over the items l answered r and left the bytes s of the list
+--     PassedIs p l s r  a pass p over the stored edges l answered r and left the bytes s of the list
 -- Assumes nothing.
 use mathlib.Core.Path.{_≡_}
 use mathlib.Core.Bool.{cond}
@@ -20,8 +20,8 @@ use Rattle.pass_list.specs.declared.chain.Pass.the-variants.{D1, G1, G2,
 use Rattle.pass_list.specs.declared.chain.Chain.{Chain}
 use Rattle.pass_list.specs.declared.chain.Next.{Next}
 use Rattle.pass_list.specs.declared.chain.Next.the-variants.{Longer, Ends, Above}
-use Rattle.pass_list.specs.declared.run.Passed.{Passed}
-use Rattle.pass_list.specs.declared.run.Passed.the-variants as Passed
+use Rattle.pass_list.specs.declared.run.PassAnswer.{PassAnswer}
+use Rattle.pass_list.specs.declared.run.PassAnswer.the-variants as PassAnswer
 use Rattle.pass_list.specs.StoredEdge.{StoredEdge, passEdge, Fits, AllSmall}
 use Rattle.pass_list.specs.Stored.{storedListAt}
 use Rattle.pass_list.specs.StoredPass.{StoredChain, joins, longer, joinedValue, after, added, firstAbove}
@@ -44,11 +44,11 @@ unfoldable pub answer : passes.Pass → StoredChain → StoredEdge → Next
 answer p x y = cond (joins p x y) (cond (ltb TOP (joinedValue p x y)) Above (Longer (passChain (longer p x y)))) Ends
 
 -- refusal 7 names the place; otherwise the list has as many edges as the definition's
-abbrev pub passed : Option ℕ → ℕ → Passed
-passed none k = Passed.Edges k
-passed (some a) k = Passed.Above (record { 0 = a })
+abbrev pub passed : Option ℕ → ℕ → PassAnswer
+passed none k = PassAnswer.Edges k
+passed (some a) k = PassAnswer.Above (record { 0 = a })
 
-pub record PassedIs (p : passes.Pass) (l : List StoredEdge) (s : List ℕ) (r : Passed) : Type 0 where
+pub record PassedIs (p : passes.Pass) (l : List StoredEdge) (s : List ℕ) (r : PassAnswer) : Type 0 where
   pub answer : r ≡ passed (firstAbove (added p l)) (length (after p l))
   -- with no value above TOP: the list, which is no longer than it was, and whose numbers are within 01's bounds
   pub list : firstAbove (added p l) ≡ none → storedListAt s 0 (length (after p l)) ≡ after p l

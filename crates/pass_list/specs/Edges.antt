@@ -1,4 +1,4 @@
--- Which edge an item of the pass list stands for: what isn't stored is in the line and in the table. w are the line's code points, t the table's bytes.
+-- Which edge a stored edge of the pass list stands for: what isn't stored is in the line and in the table. w are the line's code points, t the table's bytes.
 -- Definitions only.
 --     between w a b     the bytes of the characters of w from place a to place b
 --     ofRecord t at f d what f takes from the record of t at an offset; d where there is none

@@ -1,5 +1,5 @@
--- Which items a line's characters have before D1 (01, "From characters to edges"). Definitions only.
---     FirstStored w t rs n l   l are the items of the first n characters of the line w (code points), by the records rs of the table's bytes t
+-- Which stored edges a line's characters have before D1 (01, "From characters to edges"). Definitions only.
+--     FirstStored w t rs n l   l are the stored edges of the first n characters of the line w (code points), by the records rs of the table's bytes t
 --     Assumes nothing.
 use Prim.Native.Nat.{ℕ}
 use mathlib.Core.Path.{_≡_}

@@ -5,6 +5,6 @@ pub mod Stored
 pub mod StoredPass
 pub mod Answers
 pub mod Edges
--- in_turn: The passes in turn on items, and the items of a line's characters.
+-- in_turn: The passes in turn on stored edges, and the stored edges of a line's characters.
 pub mod InTurn
 pub mod FirstStored

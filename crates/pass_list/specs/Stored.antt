@@ -14,7 +14,7 @@ use Prim.Native.Nat.{ℕ, zero, suc, _+_, _*_, _/_, _%_}
 use lib.Dec.{eqb}
 use Rattle.fields.specs.Fields.{leAt, bytesOf}
 use Rattle.fields.specs.Part.{part}
-use Rattle.pass_list.specs.declared.record.NumData.{NumData}
+use Rattle.pass_list.specs.declared.record.PassData.{PassData}
 use Rattle.pass_list.specs.StoredEdge.{StoredEdge, numData}
 
 abbrev pub digitOf : Bool → ℕ
@@ -24,7 +24,7 @@ digitOf false = 0
 abbrev pub bit : ℕ → ℕ → Bool
 bit map of = eqb (map / of % 2) 1
 
-abbrev pub mapOf : NumData → ℕ
+abbrev pub mapOf : PassData → ℕ
 mapOf n =
     2 * digitOf (n .«has_value») + 8 * digitOf (n .«has_base») + 16 * digitOf (n .«has_mult») + 32 * digitOf (n .«has_script»)
     + 64 * digitOf (n .«large_power») + 256 * digitOf (n .digit) + 512 * digitOf (n .gap) + 1024 * digitOf (n .cjk)

@@ -3,7 +3,7 @@
 --     numData x      the numeric data of x, as the code has it: the value and the multiplier as f64
 --     passEdge x     x as the code has it
 --     Small x        the numbers of x that 01 bounds are at most TOP
---     Every P l      P holds of each element of l; AllSmall l: each item of l is small
+--     Every P l      P holds of each element of l; AllSmall l: each stored edge of l is small
 --     Fits x         besides, all numbers of x fit their fields in the list
 --     EdgeIs e x     the code's edge e is x, and x fits
 --     NumIs n x      likewise, of the numeric data alone
@@ -13,7 +13,7 @@ use mathlib.Core.Bool.{Bool}
 use mathlib.Core.List.{List, [], _∷_}
 use Prim.Native.Nat.{ℕ, _^_, _≤_, _<_}
 use Rattle.whole.specs.Whole.{TOP, ofNat}
-use Rattle.pass_list.specs.declared.record.NumData.{NumData}
+use Rattle.pass_list.specs.declared.record.PassData.{PassData}
 use Rattle.pass_list.specs.declared.record.PassEdge.{PassEdge}
 
 pub record StoredEdge : Type 0 where
@@ -40,7 +40,7 @@ pub record StoredEdge : Type 0 where
   pub gap : Bool
   pub cjk : Bool
 
-abbrev pub numData : StoredEdge → NumData
+abbrev pub numData : StoredEdge → PassData
 numData x = record {
   value = ofNat (x .value);
   «base_multiplier» = ofNat (x .mult);
@@ -87,7 +87,7 @@ pub record Fits (x : StoredEdge) : Type 0 where
   pub script-at : x .script-at < 2 ^ 64
   pub script-len : x .script-len < 2 ^ 64
 
-pub record NumIs (n : NumData) (x : StoredEdge) : Type 0 where
+pub record NumIs (n : PassData) (x : StoredEdge) : Type 0 where
   pub is : n ≡ numData x
   pub fits : Fits x
 

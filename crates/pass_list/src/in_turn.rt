@@ -1,1 +1,1 @@
-// The passes in turn on the items of a pass list, and the edges that they stand for: definitions in specs/, theorems in proofs/, no code.
+// The passes in turn on the stored edges of a pass list, and the edges that they stand for: definitions in specs/, theorems in proofs/, no code.

@@ -1,5 +1,4 @@
-// The pass list in lent bytes: an edge of it, a chain of edges, what a pass answers.
-// A list of edges in lent bytes, for the five passes (01, "Five passes, D1 to G4"; the Rust's numbers.rs).
+// The pass list in lent bytes, for the five passes (01, "Five passes, D1 to G4"; the Rust's numbers.rs): an edge of it, a chain of edges, what a pass answers.
 pub mod record; // record.rt: an edge of the list, and its bytes
 pub mod chain; // chain.rt: a chain of edges
 pub mod run; // run.rt: what a pass answers

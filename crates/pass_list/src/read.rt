@@ -4,20 +4,20 @@ ghost use Prim.Native.Nat.{_+_, _≤_};
 ghost use lib.ListN.{length};
 ghost use Rattle.pass_list.specs.StoredEdge.{numData, EdgeIs, Small};
 ghost use Rattle.pass_list.specs.Stored.{storedAt};
-use crate::record::NumData;
+use crate::record::PassData;
 use crate::record::PassEdge;
 use text::Offset;
 use text::Place;
 
 // The map's bits are the listing's for the fields, and three more for the marks.
-fn num_at(s: &[u8], at: usize) -> NumData
+fn num_at(s: &[u8], at: usize) -> PassData
     requires { ⌜ (at + 56 ≤ length (now s)) × Small (storedAt (now s) at) ⌝ }
     ensures { λ r. ⌜ r ≡ numData (storedAt (now (s .entry)) at) ⌝ }
 {
     let map = fields::u16_at(s, at + 6);
-    NumData {
-        value: whole::f64_of(fields::u64_at(s, at + 8)),
-        base_multiplier: whole::f64_of(fields::u64_at(s, at + 24)),
+    PassData {
+        value: whole::exact_f64(fields::u64_at(s, at + 8)),
+        base_multiplier: whole::exact_f64(fields::u64_at(s, at + 24)),
         base: fields::u64_at(s, at + 16),
         has_value: map / 2 % 2 == 1,
         has_base: map / 8 % 2 == 1,
@@ -33,7 +33,7 @@ fn num_at(s: &[u8], at: usize) -> NumData
 }
 
 // The edge that stands at an offset.
-pub fn get(s: &[u8], at: usize) -> PassEdge
+pub fn read_edge(s: &[u8], at: usize) -> PassEdge
     requires { ⌜ (at + 56 ≤ length (now s)) × Small (storedAt (now s) at) ⌝ }
     ensures { λ r. ⌜ EdgeIs r (storedAt (now (s .entry)) at) ⌝ }
 {

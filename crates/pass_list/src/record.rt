@@ -3,7 +3,7 @@ use text::Offset;
 use text::Place;
 
 // The numeric data of an edge. Where a `has_` flag is false, its field is absent and holds 0.
-pub struct NumData {
+pub struct PassData {
     pub value: f64,
     pub base_multiplier: f64,
     pub base: u64,
@@ -30,5 +30,5 @@ pub struct PassEdge {
     pub kind: u16,
     // where the character's record stands in the table; 0 for a joined edge
     pub record_at: Offset,
-    pub num: NumData,
+    pub num: PassData,
 }

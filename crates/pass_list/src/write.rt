@@ -5,44 +5,44 @@ ghost use lib.ListN.{length};
 ghost use lib.Seq.{sets};
 ghost use Rattle.pass_list.specs.StoredEdge.{StoredEdge, EdgeIs, NumIs};
 ghost use Rattle.pass_list.specs.Stored.{digitOf, mapOf, numBytes, recordBytes};
-use crate::record::NumData;
+use crate::record::PassData;
 use crate::record::PassEdge;
 
 // What a mark adds to the map.
-fn worth(b: bool, of: u16) -> u16
+fn bit_if(b: bool, of: u16) -> u16
     ensures { λ r. ⌜ (r ≡ of * digitOf b) × (r ≤ of) ⌝ }
 {
     if b { of } else { 0 }
 }
 
-fn map_of(n: NumData) -> u16
+fn map_of(n: PassData) -> u16
     ensures { λ r. ⌜ r ≡ mapOf n ⌝ }
 {
-    worth(n.has_value, 2)
-        + worth(n.has_base, 8)
-        + worth(n.has_mult, 16)
-        + worth(n.has_script, 32)
-        + worth(n.large_power, 64)
-        + worth(n.digit, 256)
-        + worth(n.gap, 512)
-        + worth(n.cjk, 1024)
+    bit_if(n.has_value, 2)
+        + bit_if(n.has_base, 8)
+        + bit_if(n.has_mult, 16)
+        + bit_if(n.has_script, 32)
+        + bit_if(n.large_power, 64)
+        + bit_if(n.digit, 256)
+        + bit_if(n.gap, 512)
+        + bit_if(n.cjk, 1024)
 }
 
 // The numbers from the value on.
-fn put_num(out: &mut [u8], at: usize, record_at: u64, n: NumData)
+fn put_num(out: &mut [u8], at: usize, record_at: u64, n: PassData)
     requires { ⌜ (at + 48 ≤ length (now out)) × ((x : StoredEdge) × NumIs n x) ⌝ }
     ensures { λ _. ⌜ ((x : StoredEdge) → NumIs n x → «record_at» ≡ x .record-at → now (out .exit) ≡ sets (now (out .entry)) at (numBytes x)) ⌝ }
 {
-    fields::write::put_u64(out, at, whole::u64_of(n.value));
+    fields::write::put_u64(out, at, whole::exact_u64(n.value));
     fields::write::put_u64(out, at + 8, n.base);
-    fields::write::put_u64(out, at + 16, whole::u64_of(n.base_multiplier));
+    fields::write::put_u64(out, at + 16, whole::exact_u64(n.base_multiplier));
     fields::write::put_u64(out, at + 24, record_at);
     fields::write::put_u64(out, at + 32, n.script.0 as u64);
     fields::write::put_u64(out, at + 40, n.script_len as u64);
 }
 
 // Stores an edge at an offset.
-pub fn put(out: &mut [u8], at: usize, e: PassEdge)
+pub fn write_edge(out: &mut [u8], at: usize, e: PassEdge)
     requires { ⌜ (at + 56 ≤ length (now out)) × ((x : StoredEdge) × EdgeIs e x) ⌝ }
     ensures { λ _. ⌜ ((x : StoredEdge) → EdgeIs e x → now (out .exit) ≡ sets (now (out .entry)) at (recordBytes x)) ⌝ }
 {

@@ -10,24 +10,24 @@ use crate::g1_rule;
 use crate::g2_rule;
 use crate::g3_rule;
 use crate::g4_rule;
+use crate::joined::joined_edge;
 use crate::joined::joined_value;
-use crate::joined::over;
 use pass_list::chain::Chain;
 use pass_list::chain::Next;
 use pass_list::chain::Pass;
 use pass_list::record::PassEdge;
-use whole::Value;
+use whole::Bounded;
 
 // Whether the pass joins e, as it counts, to the chain, where they touch.
 fn ruled(pass: Pass, c: Chain, e: PassEdge) -> bool
     requires { ⌜ ((x : StoredChain) × ChainIs c x) × ((y : StoredEdge) × EdgeIs e y) ⌝ }
     ensures { λ r. ⌜ ((x : StoredChain) (y : StoredEdge) → ChainIs c x → EdgeIs e y → r ≡ rule (passOf pass) x y) ⌝ }
 {
-    let value = whole::u64_of(e.num.value);
+    let value = whole::exact_u64(e.num.value);
     match pass {
         Pass::D1 => d1_rule(c.more, c.edge.num.digit, e.num.digit),
         Pass::G1 => {
-            let left = whole::u64_of(c.edge.num.value);
+            let left = whole::exact_u64(c.edge.num.value);
             g1_rule(c.more, c.edge.num.base, left, e.num.base, e.num.large_power)
         }
         Pass::G2 => {
@@ -63,7 +63,7 @@ pub fn next(c: Chain, pass: Pass, e: PassEdge) -> Next
         return Next::Ends;
     }
     match joined_value(pass, last.num.value, r.num.value) {
-        Value::Above => Next::Above,
-        Value::Fits(v) => Next::Longer(c.take(over(pass, last, r, v), e)),
+        Bounded::Above => Next::Above,
+        Bounded::Fits(v) => Next::Longer(c.take(joined_edge(pass, last, r, v), e)),
     }
 }

@@ -41,7 +41,7 @@ fn retagged(last: PassEdge, mut e: PassEdge) -> PassEdge
     ensures { λ r. ⌜ ((x y : StoredEdge) → EdgeIs last x → EdgeIs e y → r ≡ passEdge (retagged x y)) ⌝ }
 {
     let tenth = last.num.base / 10;
-    let v = e.num.value * whole::f64_of(tenth);
+    let v = e.num.value * whole::exact_f64(tenth);
     e.num.value = v;
     e.num.base = tenth;
     e.num.has_value = true;
@@ -63,7 +63,7 @@ pub fn counted(pass: Pass, last: PassEdge, e: PassEdge) -> PassEdge
             e
         }
         Pass::G4 => {
-            if retags(last, e, whole::u64_of(e.num.value)) {
+            if retags(last, e, whole::exact_u64(e.num.value)) {
                 retagged(last, e)
             } else {
                 e

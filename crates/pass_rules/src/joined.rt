@@ -9,20 +9,20 @@ ghost use Rattle.pass_list.specs.Answers.{passOf};
 use pass_list::chain::Pass;
 use pass_list::record::PassEdge;
 use text::Offset;
-use whole::Value;
+use whole::Bounded;
 
 // The value that a further digit makes.
-fn with_digit(l: f64, r: f64) -> Value
+fn with_digit(l: f64, r: f64) -> Bounded
     ensures { λ v. ⌜ ((m n : ℕ) → m ≤ TOP → n ≤ TOP → l ≡ ofNat m → r ≡ ofNat n → v ≡ value (10 * m + n)) ⌝ }
 {
     match whole::product(10.0, l) {
-        Value::Fits(tens) => whole::sum(tens, r),
-        Value::Above => Value::Above,
+        Bounded::Fits(tens) => whole::sum(tens, r),
+        Bounded::Above => Bounded::Above,
     }
 }
 
 // The value over a chain of value l and a next edge that counts r.
-pub fn joined_value(pass: Pass, l: f64, r: f64) -> Value
+pub fn joined_value(pass: Pass, l: f64, r: f64) -> Bounded
     ensures { λ v. ⌜ ((m n : ℕ) → m ≤ TOP → n ≤ TOP → l ≡ ofNat m → r ≡ ofNat n → v ≡ value (valueOf (passOf pass) m n)) ⌝ }
 {
     match pass {
@@ -47,7 +47,7 @@ fn kind_of(pass: Pass) -> u16
 }
 
 // The edge over l and r, of value v.
-pub fn over(pass: Pass, l: PassEdge, r: PassEdge, v: f64) -> PassEdge
+pub fn joined_edge(pass: Pass, l: PassEdge, r: PassEdge, v: f64) -> PassEdge
     ensures { λ e. ⌜ ((x y : StoredEdge) (n : ℕ) → l ≡ passEdge x → r ≡ passEdge y → v ≡ ofNat n → e ≡ passEdge (over (passOf pass) x y n)) ⌝ }
 {
     let kind = kind_of(pass);

@@ -1,4 +1,3 @@
-// What a pass does with the next edge: each pass's rule, and the chain that it makes.
 // Which edges a pass joins: each pass's rule, by the few fields that it asks for. The definitions are those of `pass_list`, specs/StoredPass.antt, which mirror
 // those of the passes on numbers and marks: x is the chain there, y the next edge as it counts. `pass_rules::chain` reads the fields.
 pub mod counted; // counted.rt: the next edge as it counts in a pass

@@ -24,7 +24,7 @@ use Rattle.pass_list.specs.declared.record.PassEdge.{PassEdge}
 use Rattle.pass_list.specs.declared.chain.Chain.{Chain}
 use Rattle.pass_list.specs.declared.chain.Next.{Next}
 use Rattle.pass_list.specs.declared.chain.Next.the-variants.{Longer, Ends, Above}
-use Rattle.pass_list.specs.declared.run.Passed.the-variants as Passed
+use Rattle.pass_list.specs.declared.run.PassAnswer.the-variants as PassAnswer
 use Rattle.fields.specs.Part.{part}
 use Rattle.fields.proofs.PartLaws.{length-part, part-at, part-take, part-sets, part-sets-other, drop-sets, copy-turn, copy-ends}
 use Rattle.pass_list.specs.StoredEdge.{StoredEdge, Small, nil, cons, AllSmall, Fits, EdgeIs}
@@ -33,13 +33,13 @@ use Rattle.pass_list.specs.StoredPass.{StoredChain, begin, touches, g1Rule, g3R
 use Rattle.pass_list.specs.Answers.{passChain, ChainIs, answer, PassedIs}
 use Rattle.pass_run.specs.Ended.{Ended}
 use Rattle.text.specs.declared.Place.{Place}
-use Rattle.pass_run.specs.declared.Run.{Run}
-use Rattle.pass_run.specs.declared.Run.the-variants as Run
-use Rattle.pass_run.specs.declared.Run.the-variants.{To}
+use Rattle.pass_run.specs.declared.ChainRun.{ChainRun}
+use Rattle.pass_run.specs.declared.ChainRun.the-variants as ChainRun
+use Rattle.pass_run.specs.declared.ChainRun.the-variants.{To}
 use Rattle.pass_run.specs.Run.{First, Ran, RunIs}
 use Rattle.pass_list.proofs.NextLaws.{joins-of-next}
 use Rattle.pass_rules.proofs.chain.ChainLaws.{counted-fits}
-use Rattle.pass_list.proofs.StoredLaws.{item-behind, items-cons, items-none, items-snoc, items-other, length-items, items-put, behind-put, behind-next}
+use Rattle.pass_list.proofs.StoredLaws.{stored-edge-behind, stored-edges-cons, stored-edges-none, stored-edges-snoc, stored-edges-other, length-stored-edges, stored-edges-put, behind-put, behind-next}
 
 -- ---- what `next` answers says of the chain
 module _ (p : Pass) (x : StoredChain) (y : StoredEdge) where
@@ -167,19 +167,19 @@ module _ (p : Pass) where
           rw (from-some begin (next p) x t y l e, j .1) (r v ∙ rw (longer-start p x y))
 
 -- ---- what a pass answers
-passed-above : (p : Pass) (l : List StoredEdge) (u : List ℕ) (a : ℕ) → firstAbove (joinedOf (chainsOf p l)) ≡ some a → PassedIs p l u (Passed.Above (record { 0 = a }))
+passed-above : (p : Pass) (l : List StoredEdge) (u : List ℕ) (a : ℕ) → firstAbove (joinedOf (chainsOf p l)) ≡ some a → PassedIs p l u (PassAnswer.Above (record { 0 = a }))
 unfolding added
 passed-above p l u a e =
     let no : (firstAbove (joinedOf (chainsOf p l)) ≡ none) → ⊥ = λ n. let z : _≡_ {A = ℕ} 0 1 = cc in omega arith in
     record { answer = rw e; list = λ n. absurd (no n); fewer = λ n. absurd (no n); small = λ n. absurd (no n) }
 
 passed-all : (p : Pass) (l : List StoredEdge) (u : List ℕ) (k : ℕ) (cs : List StoredChain) → cs ≡ chainsOf p l → storedListAt u 0 k ≡ edgesOf cs → firstAbove (joinedOf cs) ≡ none → AllSmall (edgesOf cs) → k ≤ length l
-    → PassedIs p l u (Passed.Edges k)
+    → PassedIs p l u (PassAnswer.Edges k)
 unfolding added after
 passed-all p l u k cs all stored below small few =
-    let c : length (edgesOf (chainsOf p l)) ≡ k = rw (← all, ← stored) (length-items u 0 k) in
+    let c : length (edgesOf (chainsOf p l)) ≡ k = rw (← all, ← stored) (length-stored-edges u 0 k) in
     record {
-      answer = rw (← all, below, ← stored, length-items u 0 k);
+      answer = rw (← all, below, ← stored, length-stored-edges u 0 k);
       list = λ n. rw c (stored ∙ ap edgesOf all);
       fewer = λ n. rw c few;
       small = λ n. rw (← all) small;
@@ -187,11 +187,11 @@ passed-all p l u k cs all stored below small few =
 
 -- ---- the k-th edge, written before those that are still to be read
 pub ended-put : (t : List ℕ) {u : List ℕ} (k i : ℕ) (x : StoredEdge) → Fits x → k < i → i * 56 ≤ length t → u ≡ sets t (k * 56) (recordBytes x) → Ended t k i x u
-ended-put t k i x f h room w = record { stored = rw w (items-put t k x f (omega arith)); rest = rw w (behind-put t t i k x h refl) }
+ended-put t k i x f h room w = record { stored = rw w (stored-edges-put t k x f (omega arith)); rest = rw w (behind-put t t i k x h refl) }
 
 -- the edge stands in its place
 pub ended-stands : (t : List ℕ) (k i : ℕ) → k ≡ i → Ended t k (i + 1) (storedAt t (i * 56)) t
-ended-stands t k i e = let z : 0 + k ≡ i = omega arith in record { stored = items-snoc t 0 k ∙ rw z; rest = refl }
+ended-stands t k i e = let z : 0 + k ≡ i = omega arith in record { stored = stored-edges-snoc t 0 k ∙ rw z; rest = refl }
 
 -- a turn of the loop that copies a record to an earlier place
 module _ (s : List ℕ) (to from : ℕ) (apart : to + 56 ≤ from) (room : from + 56 ≤ length s) where
@@ -214,15 +214,15 @@ ended-moved t {u} k i h room w =
     let z : (0 + k) * 56 ≡ k * 56 = omega arith in
     let there : part (sets t (k * 56) (part t (i * 56) 56)) (k * 56) 56 ≡ part t (i * 56) 56 = part-sets t (k * 56) (part t (i * 56) 56) 56 l (omega arith) in
     record {
-      stored = rw w (items-snoc (sets t (k * 56) (part t (i * 56) 56)) 0 k ∙ rw (z, items-other t (k * 56) (part t (i * 56) 56) 0 k (omega arith), there));
+      stored = rw w (stored-edges-snoc (sets t (k * 56) (part t (i * 56) 56)) 0 k ∙ rw (z, stored-edges-other t (k * 56) (part t (i * 56) 56) 0 k (omega arith), there));
       rest = rw w (drop-sets t (k * 56) (part t (i * 56) 56) ((i + 1) * 56) (omega arith));
     }
 
 -- ---- edges that are still to be read
-items-behind : (s t : List ℕ) (i n : ℕ) → drop (i * 56) t ≡ drop (i * 56) s → storedListAt t i n ≡ storedListAt s i n
+stored-edges-behind : (s t : List ℕ) (i n : ℕ) → drop (i * 56) t ≡ drop (i * 56) s → storedListAt t i n ≡ storedListAt s i n
 unfolding storedListAt
-items-behind s t i zero e = refl
-items-behind s t i (suc n) e = rw (item-behind s t (i * 56) e, items-behind s t (suc i) n (rw add-one at (behind-next s t i e)))
+stored-edges-behind s t i zero e = refl
+stored-edges-behind s t i (suc n) e = rw (stored-edge-behind s t (i * 56) e, stored-edges-behind s t (suc i) n (rw add-one at (behind-next s t i e)))
 
 one-small : {x : StoredEdge} {l : List StoredEdge} → AllSmall (x ∷ l) → Small x
 one-small (cons x a) = x
@@ -247,7 +247,7 @@ small-behind s i j n h k a =
 
 -- the j-th of them
 pub small-one : (s : List ℕ) (i j n : ℕ) → i ≤ j → j < n → AllSmall (storedListAt s i (n - i)) → Small (storedAt s (j * 56))
-small-one s i j n h k a = one-small (rw (items-cons s j n k) at (small-behind s i j n h (omega arith) a))
+small-one s i j n h k a = one-small (rw (stored-edges-cons s j n k) at (small-behind s i j n h (omega arith) a))
 
 -- ---- the chain that an edge begins
 begin-edge : (y : StoredEdge) → begin y .edge ≡ y
@@ -272,8 +272,8 @@ module _ (p : Pass) (s : List ℕ) (n j : ℕ) (c : StoredChain) where
   ends-before f = go (ltb j n) refl
     where
       go : (b : Bool) → ltb j n ≡ b → from begin (next p) c (storedListAt s j (n - j)) ≡ c ∷ chainsOf p (storedListAt s j (n - j))
-      go true t = let h = ltb-true _ _ t in rw (items-cons s j n h) (from-none begin (next p) c _ _ (f h) ∙ rw (chains-first p (storedAt s (j * 56)) (storedListAt s (j + 1) (n - (j + 1)))))
-      go false t = rw (items-none s j n (ltb-false _ _ t), chains-none p) (from-nil begin (next p) c)
+      go true t = let h = ltb-true _ _ t in rw (stored-edges-cons s j n h) (from-none begin (next p) c _ _ (f h) ∙ rw (chains-first p (storedAt s (j * 56)) (storedListAt s (j + 1) (n - (j + 1)))))
+      go false t = rw (stored-edges-none s j n (ltb-false _ _ t), chains-none p) (from-nil begin (next p) c)
 
 -- ---- the loop over a chain: c is open before the j-th edge, and ends before the to-th at the latest
 pub record Open (p : Pass) (s : List ℕ) (n i : ℕ) (c : Chain) (j to : ℕ) : Type 0 where
@@ -295,7 +295,7 @@ module _ (p : Pass) (s : List ℕ) (n i : ℕ) where
     model = begin (storedAt s (i * 56));
     is = begin-is (e .fits) b;
     closed = λ z. absurd (omega arith);
-    so-far = sym (ap (chainsOf p) (items-cons s i n h) ∙ chains-first p _ _);
+    so-far = sym (ap (chainsOf p) (stored-edges-cons s i n h) ∙ chains-first p _ _);
   }
 
   module _ (c : Chain) (j to : ℕ) (g : Open p s n i c j to) where
@@ -304,7 +304,7 @@ module _ (p : Pass) (s : List ℕ) (n i : ℕ) where
 
     module _ (h : j < to) where
       open-next : from begin (next p) (g .model) (y ∷ storedListAt s (j + 1) (n - (j + 1))) ≡ chainsOf p (storedListAt s i (n - i))
-      open-next = let k = g .inside in rw (← (items-cons s j n (omega arith))) (g .so-far)
+      open-next = let k = g .inside in rw (← (stored-edges-cons s j n (omega arith))) (g .so-far)
 
       pub takes : (d : Chain) → Fits y → answer p (g .model) y ≡ Longer d → Open p s n i d (j + 1) to
       takes d f e =
@@ -345,12 +345,12 @@ module _ (p : Pass) (s : List ℕ) (n i : ℕ) where
         }
 
 -- what was answered of it
-module _ (p : Pass) (s t : List ℕ) (n k i : ℕ) {r : Run} (h : RunIs p s n k i t r) where
+module _ (p : Pass) (s t : List ℕ) (n k i : ℕ) {r : ChainRun} (h : RunIs p s n k i t r) where
   pub ran-to : {j : ℕ} → r ≡ To j → Ran p s n k i t j
   unfolding RunIs
   ran-to e = rw e at h
 
-  pub ran-above : {a : Place} → r ≡ Run.Above a → firstAbove (added p (storedListAt s i (n - i))) ≡ some (a .0)
+  pub ran-above : {a : Place} → r ≡ ChainRun.Above a → firstAbove (added p (storedListAt s i (n - i))) ≡ some (a .0)
   unfolding RunIs
   ran-above e = rw e at h
 
@@ -361,7 +361,7 @@ first-alone p s n i h f = record {
   inside = omega arith;
   chain = begin (storedAt s (i * 56));
   edge = begin-edge (storedAt s (i * 56));
-  chains = ap (chainsOf p) (items-cons s i n h) ∙ chains-first p _ _ ∙ ends-before p s n (i + 1) (begin (storedAt s (i * 56))) f;
+  chains = ap (chainsOf p) (stored-edges-cons s i n h) ∙ chains-first p _ _ ∙ ends-before p s n (i + 1) (begin (storedAt s (i * 56))) f;
 }
 
 -- ---- the loop over the list: the edges over k chains are written, and the i-th of n edges is read next
@@ -390,7 +390,7 @@ module _ (p : Pass) (s : List ℕ) (n : ℕ) where
         let f = r .first in
         let l = f .later in
         let c = f .chain in
-        let same : storedListAt u j (n - j) ≡ storedListAt t j (n - j) = items-behind t u j (n - j) (r .ended .rest) in
+        let same : storedListAt u j (n - j) ≡ storedListAt t j (n - j) = stored-edges-behind t u j (n - j) (r .ended .rest) in
         let small : Small (c .edge) = subst Small (sym (f .edge)) (r .small) in
         record {
           behind = omega arith;
@@ -404,13 +404,13 @@ module _ (p : Pass) (s : List ℕ) (n : ℕ) where
           so-far = rw same (append-assoc (g .done) (c ∷ []) _ ∙ rw (← (f .chains)) (g .so-far));
         }
 
-    pub stops : (u : List ℕ) (a : ℕ) → firstAbove (added p (storedListAt t i (n - i))) ≡ some a → PassedIs p (storedListAt s 0 n) u (Passed.Above (record { 0 = a }))
+    pub stops : (u : List ℕ) (a : ℕ) → firstAbove (added p (storedListAt t i (n - i))) ≡ some a → PassedIs p (storedListAt s 0 n) u (PassAnswer.Above (record { 0 = a }))
     unfolding added
     stops u a e = passed-above p (storedListAt s 0 n) u a (rw (← (g .so-far), joined-append (g .done) (chainsOf p (storedListAt t i (n - i))), above-append (joinedOf (g .done)) (joinedOf (chainsOf p (storedListAt t i (n - i)))) (g .below)) e)
 
-    pub finishes : n ≤ i → PassedIs p (storedListAt s 0 n) t (Passed.Edges k)
+    pub finishes : n ≤ i → PassedIs p (storedListAt s 0 n) t (PassAnswer.Edges k)
     finishes h =
         let b = g .behind in
         let d = g .inside in
-        let all : g .done ≡ chainsOf p (storedListAt s 0 n) = rw (items-none t i n h, chains-none p, append-nil) at (g .so-far) in
-        passed-all p (storedListAt s 0 n) t k (g .done) all (g .stored) (g .below) (g .small) (rw (length-items s 0 n) (omega arith))
+        let all : g .done ≡ chainsOf p (storedListAt s 0 n) = rw (stored-edges-none t i n h, chains-none p, append-nil) at (g .so-far) in
+        passed-all p (storedListAt s 0 n) t k (g .done) all (g .stored) (g .below) (g .small) (rw (length-stored-edges s 0 n) (omega arith))

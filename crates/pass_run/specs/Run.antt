@@ -10,8 +10,8 @@ use Rattle.passes.specs.Passes.{Pass}
 use Rattle.pass_list.specs.StoredEdge.{StoredEdge, Small}
 use Rattle.pass_list.specs.Stored.{storedListAt}
 use Rattle.pass_list.specs.StoredPass.{StoredChain, chainsOf, added, firstAbove}
-use Rattle.pass_run.specs.declared.Run.{Run}
-use Rattle.pass_run.specs.declared.Run.the-variants.{To, Above}
+use Rattle.pass_run.specs.declared.ChainRun.{ChainRun}
+use Rattle.pass_run.specs.declared.ChainRun.the-variants.{To, Above}
 use Rattle.pass_run.specs.Ended.{Ended}
 
 pub record First (p : Pass) (s : List ℕ) (n i j : ℕ) (x : StoredEdge) : Type 0 where
@@ -28,6 +28,6 @@ pub record Ran (p : Pass) (s : List ℕ) (n k i : ℕ) (t : List ℕ) (j : ℕ) 
   pub small : Small over
   pub ended : Ended s k j over t
 
-unfoldable pub RunIs : Pass → List ℕ → ℕ → ℕ → ℕ → List ℕ → Run → Type 0
+unfoldable pub RunIs : Pass → List ℕ → ℕ → ℕ → ℕ → List ℕ → ChainRun → Type 0
 RunIs p s n k i t (To j) = Ran p s n k i t j
 RunIs p s n k i t (Above a) = firstAbove (added p (storedListAt s i (n - i))) ≡ some (a .0)

@@ -1,4 +1,3 @@
-// A pass over the whole list, in place.
 // The loop of a pass (01, "Five passes, D1 to G4"), in place: the edges over the chains that ended stand at the list's front, what is to come behind the edge
 // that is read. Most edges join no neighbour: a look at a few fields says so, and they are moved as bytes.
 pub mod look; // look.rt: whether a pass may join two edges, by a few fields in their bytes
@@ -22,20 +21,20 @@ use crate::take::may_take;
 use pass_list::chain::Chain;
 use pass_list::chain::Next;
 use pass_list::chain::Pass;
-use pass_list::read::get;
-use pass_list::run::Passed;
-use pass_list::write::put;
+use pass_list::read::read_edge;
+use pass_list::run::PassAnswer;
+use pass_list::write::write_edge;
 use pass_rules::chain::next;
 use text::Place;
 
 // What the chain that an edge begins comes to: the index behind its last edge; or the start of the joined edge above TOP.
-pub enum Run {
+pub enum ChainRun {
     To(usize),
     Above(Place),
 }
 
 // Whether the i-th of n edges is a chain of its own, as far as that is told without reading it.
-fn alone(s: &[u8], n: usize, i: usize, pass: Pass) -> bool
+fn is_own_chain(s: &[u8], n: usize, i: usize, pass: Pass) -> bool
     requires { ⌜ (i < n) × (n * 56 ≤ length (now s)) ⌝ }
     ensures { λ r. ⌜ (r ≡ true → First (passOf pass) (now (s .entry)) n i (i + 1) (storedAt (now (s .entry)) (i * 56))) ⌝ }
 {
@@ -68,26 +67,26 @@ fn move_record(list: &mut [u8], k: usize, i: usize)
 }
 
 // What the edge at an offset does to the chain: it is read where the pass may join it.
-fn ahead(c: Chain, pass: Pass, s: &[u8], at: usize) -> Next
+fn next_of_chain(c: Chain, pass: Pass, s: &[u8], at: usize) -> Next
     requires { ⌜ ((x : StoredChain) × ChainIs c x) × (at + 56 ≤ length (now s)) × Small (storedAt (now s) at) ⌝ }
     ensures { λ r. ⌜ ((x : StoredChain) → ChainIs c x → r ≡ answer (passOf pass) x (storedAt (now (s .entry)) at)) ⌝ }
 {
     if may_take(c, s, at, pass) {
-        return next(c, pass, get(s, at));
+        return next(c, pass, read_edge(s, at));
     }
     Next::Ends
 }
 
 // The chain that the i-th of n edges begins: the edge over it becomes the k-th.
-fn run_chain(list: &mut [u8], n: usize, k: usize, i: usize, pass: Pass) -> Run
+fn run_chain(list: &mut [u8], n: usize, k: usize, i: usize, pass: Pass) -> ChainRun
     requires { ⌜ (k ≤ i) × (i < n) × (n * 56 ≤ length (now list)) × AllSmall (storedListAt (now list) i (n - i)) ⌝ }
     ensures { λ r. ⌜ RunIs (passOf pass) (now (list .entry)) n k i (now (list .exit)) r ⌝ }
 {
-    let mut chain = Chain::begin(get(list, i * 56));
+    let mut chain = Chain::begin(read_edge(list, i * 56));
     let mut j = i + 1;
     let mut to = n;
     while j < to {
-        match ahead(chain, pass, list, j * 56) {
+        match next_of_chain(chain, pass, list, j * 56) {
             Next::Longer(c) => {
                 chain = c;
                 j += 1;
@@ -97,28 +96,28 @@ fn run_chain(list: &mut [u8], n: usize, k: usize, i: usize, pass: Pass) -> Run
             }
             Next::Above => {
                 let start = chain.edge.start;
-                return Run::Above(start);
+                return ChainRun::Above(start);
             }
         }
     }
-    put(list, k * 56, chain.edge);
-    Run::To(j)
+    write_edge(list, k * 56, chain.edge);
+    ChainRun::To(j)
 }
 
 // The chain that the i-th of n edges begins, with a look first whether it goes on at all.
-fn step(list: &mut [u8], n: usize, k: usize, i: usize, pass: Pass) -> Run
+fn step(list: &mut [u8], n: usize, k: usize, i: usize, pass: Pass) -> ChainRun
     requires { ⌜ (k ≤ i) × (i < n) × (n * 56 ≤ length (now list)) × AllSmall (storedListAt (now list) i (n - i)) ⌝ }
     ensures { λ r. ⌜ RunIs (passOf pass) (now (list .entry)) n k i (now (list .exit)) r ⌝ }
 {
-    if alone(list, n, i, pass) {
+    if is_own_chain(list, n, i, pass) {
         move_record(list, k, i);
-        return Run::To(i + 1);
+        return ChainRun::To(i + 1);
     }
     run_chain(list, n, k, i, pass)
 }
 
 // A pass over the n edges of the list.
-pub fn run_pass(list: &mut [u8], n: usize, pass: Pass) -> Passed
+pub fn run_pass(list: &mut [u8], n: usize, pass: Pass) -> PassAnswer
     requires { ⌜ (n * 56 ≤ length (now list)) × AllSmall (storedListAt (now list) 0 n) ⌝ }
     ensures { λ r. ⌜ PassedIs (passOf pass) (storedListAt (now (list .entry)) 0 n) (now (list .exit)) r ⌝ }
 {
@@ -126,14 +125,14 @@ pub fn run_pass(list: &mut [u8], n: usize, pass: Pass) -> Passed
     let mut k = 0;
     while i < n {
         match step(list, n, k, i, pass) {
-            Run::To(to) => {
+            ChainRun::To(to) => {
                 i = to;
                 k += 1;
             }
-            Run::Above(p) => {
-                return Passed::Above(p);
+            ChainRun::Above(p) => {
+                return PassAnswer::Above(p);
             }
         }
     }
-    Passed::Edges(k)
+    PassAnswer::Edges(k)
 }

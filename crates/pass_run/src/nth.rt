@@ -8,7 +8,7 @@ ghost use Rattle.pass_list.specs.Answers.{passOf, PassedIs};
 ghost use Rattle.pass_run.specs.Nth.{nth};
 use crate::run_pass;
 use pass_list::chain::Pass;
-use pass_list::run::Passed;
+use pass_list::run::PassAnswer;
 
 // The i-th pass, counted from 0: in the Rust apply_d1_digits, apply_g1_multiplication, apply_g2_addition, apply_g3_large_power_multiplication and
 // apply_g4_large_block_addition.
@@ -26,7 +26,7 @@ fn pass_of(i: usize) -> Pass
 }
 
 // The i-th pass over the list behind the lattice, which stays as it is.
-pub fn pass_behind(w: &mut [u8], n: usize, i: usize) -> Passed
+pub fn pass_behind(w: &mut [u8], n: usize, i: usize) -> PassAnswer
     requires { ⌜ (39424 + n * 56 ≤ length (now w)) × AllSmall (storedListAt (drop 39424 (now w)) 0 n) × (i < 5) ⌝ }
     ensures { λ r. ⌜ (take 39424 (now (w .exit)) ≡ take 39424 (now (w .entry))) × PassedIs (nth i) (storedListAt (drop 39424 (now (w .entry))) 0 n) (drop 39424 (now (w .exit))) r ⌝ }
 {

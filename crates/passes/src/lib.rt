@@ -1,3 +1,2 @@
-// From characters to edges, and the five passes, as definitions, for any table.
-// The five passes, D1 to G4 (01, "Five passes, D1 to G4"): so far their definitions alone, in specs/.
+// From characters to edges, and the five passes, D1 to G4 (01, "Five passes, D1 to G4"), for any table: definitions in specs/. The only code is a fraction in lowest terms.
 pub mod ratio; // ratio.rt: a fraction in lowest terms

@@ -27,10 +27,10 @@ use Rattle.paths.specs.declared.Hop.the-variants.{Pass, Take}
 use Rattle.paths.specs.declared.Size.{Size}
 use Rattle.paths.specs.declared.Size.the-variants.{Fits, Over}
 use Rattle.paths.specs.declared.Query.the-variants as Query
-use Rattle.paths.specs.declared.Refusal.{Refusal}
-use Rattle.paths.specs.declared.Refusal.the-variants.{ShortOutput, BadPlace}
-use Rattle.paths.specs.declared.Checked.the-variants as Checked
-use Rattle.paths.specs.declared.Written.the-variants as Written
+use Rattle.paths.specs.declared.ReadRefusal.{ReadRefusal}
+use Rattle.paths.specs.declared.ReadRefusal.the-variants.{ShortOutput, BadPlace}
+use Rattle.paths.specs.declared.ReadCheck.the-variants as ReadCheck
+use Rattle.paths.specs.declared.PathAnswer.the-variants as PathAnswer
 use Rattle.paths.specs.Best.{Best, kept}
 use Rattle.paths.specs.Path.{passed, onward, pathFrom, path, edgePart, edgeParts, pathListing, rights, PathOut, listing, refused, fitting, pathOut, written, after}
 use Rattle.paths.specs.Reading.{readCheck, inside}
@@ -297,7 +297,7 @@ module _ (skip : Bool) (s : List ℕ) (k : ℕ) (tops ats : List ℕ) (r : Right
 
   module _ (out : List ℕ) where
     pub path-over : sizeOf s (path (byTable s tops ats) a z) (length out) ≡ Over
-        → (Written.Refused ShortOutput ≡ written (fitting (length out) (pathListing s (path (rights skip s k) a z)))) × (out ≡ after out (fitting (length out) (pathListing s (path (rights skip s k) a z))))
+        → (PathAnswer.Refused ShortOutput ≡ written (fitting (length out) (pathListing s (path (rights skip s k) a z)))) × (out ≡ after out (fitting (length out) (pathListing s (path (rights skip s k) a z))))
     path-over e =
         let f = size-over s (path (rights skip s k) a z) (length out) (rw path-table at e) in
         (rw f, rw f)
@@ -316,18 +316,18 @@ module _ (skip : Bool) (s : List ℕ) (k : ℕ) (tops ats : List ℕ) (r : Right
       fits-edges p = omega (arith, sized .within, length-listing s (path (byTable s tops ats) a z), ap length p, length-sets out 0 (bytesOf 2 n))
 
       pub path-written : {mid now : List ℕ} → mid ≡ sets out 0 (bytesOf 2 n) → now ≡ sets mid 2 (edgeParts s (path (byTable s tops ats) a z))
-          → (Written.Bytes len ≡ written (fitting (length out) (pathListing s (path (rights skip s k) a z)))) × (now ≡ after out (fitting (length out) (pathListing s (path (rights skip s k) a z))))
+          → (PathAnswer.Bytes len ≡ written (fitting (length out) (pathListing s (path (rights skip s k) a z)))) × (now ≡ after out (fitting (length out) (pathListing s (path (rights skip s k) a z))))
       path-written p q =
           let f : fitting (length out) (pathListing s (path (rights skip s k) a z)) ≡ listing (pathListing s (path (byTable s tops ats) a z)) = rw (← path-table) (sized .fits) in
           (rw (f, sized .size), rw f (out-written s (path (byTable s tops ats) a z) out n (sized .count) (sized .within) p q))
 
 -- the call, where the checks refuse nothing
 module _ (line s : List ℕ) (a z : Place) (skip : Bool) (room : ℕ) where
-  pub out-refused : {r : Refusal} → readCheck line s ≡ Checked.Refused r → refused r ≡ pathOut line s a z skip room
+  pub out-refused : {r : ReadRefusal} → readCheck line s ≡ ReadCheck.Refused r → refused r ≡ pathOut line s a z skip room
   unfolding pathOut
   out-refused e = rw e
 
-  module _ {n k : ℕ} (e : readCheck line s ≡ Checked.Readable n k) where
+  module _ {n k : ℕ} (e : readCheck line s ≡ ReadCheck.Readable n k) where
     pub out-outside : inside n (Query.Span a z) ≡ false → refused BadPlace ≡ pathOut line s a z skip room
     unfolding pathOut
     out-outside h = rw (e, h)

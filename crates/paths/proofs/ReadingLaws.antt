@@ -26,11 +26,11 @@ use Rattle.edge.proofs.CheckLaws.{good-whole, head-within}
 use Rattle.paths.specs.declared.Query.{Query}
 use Rattle.paths.specs.declared.Found.{Found}
 use Rattle.paths.specs.declared.Found.the-variants.{At, Nothing}
-use Rattle.paths.specs.declared.Refusal.{Refusal}
-use Rattle.paths.specs.declared.Refusal.the-variants.{BadPlace}
-use Rattle.paths.specs.declared.Checked.{Checked}
-use Rattle.paths.specs.declared.Checked.the-variants as Checked
-use Rattle.paths.specs.declared.Answer.the-variants as Answer
+use Rattle.paths.specs.declared.ReadRefusal.{ReadRefusal}
+use Rattle.paths.specs.declared.ReadRefusal.the-variants.{BadPlace}
+use Rattle.paths.specs.declared.ReadCheck.{ReadCheck}
+use Rattle.paths.specs.declared.ReadCheck.the-variants as ReadCheck
+use Rattle.paths.specs.declared.EdgeAnswer.the-variants as EdgeAnswer
 use Rattle.paths.specs.Best.{Best, best, withOffsets, Whole, found}
 use Rattle.paths.specs.Reading.{afterListing, afterLine, readCheck, Spanned, Spans, inside, answer}
 use Rattle.paths.proofs.BestLaws.{Each, Holds, best-holds}
@@ -88,15 +88,15 @@ pub record Reads (line s : List ℕ) (n k : ℕ) : Type 0 where
   pub edges : k ≡ leAt s 0 2
   pub spans : Spans n k s 2
 
-pub reads : (line s : List ℕ) (n k : ℕ) → readCheck line s ≡ Checked.Readable n k → Reads line s n k
+pub reads : (line s : List ℕ) (n k : ℕ) → readCheck line s ≡ ReadCheck.Readable n k → Reads line s n k
 unfolding readCheck
 reads line s n k = by-line (lineCheck line) refl
   where
-    by-listing : (m : ℕ) (r : ListingCheck) → checkListing false m s ≡ r → afterListing m r ≡ Checked.Readable n k → (m ≡ n) × (k ≡ leAt s 0 2) × Spans m k s 2
+    by-listing : (m : ℕ) (r : ListingCheck) → checkListing false m s ≡ r → afterListing m r ≡ ReadCheck.Readable n k → (m ≡ n) × (k ≡ leAt s 0 2) × Spans m k s 2
     by-listing m (ListingCheck.Edges j) g e = let p : m ≡ n = cc in let q : j ≡ k = cc in let h = checked-listing m s k (g ∙ ap ListingCheck.Edges q) in (p, h .0, h .1)
     by-listing m (ListingCheck.Refused at) g e = let z : _≡_ {A = ℕ} 0 1 = cc in absurd (omega arith)
 
-    by-line : (l : LineCheck) → lineCheck line ≡ l → afterLine l s ≡ Checked.Readable n k → Reads line s n k
+    by-line : (l : LineCheck) → lineCheck line ≡ l → afterLine l s ≡ ReadCheck.Readable n k → Reads line s n k
     by-line (Chars m) g e =
         let r = by-listing m (checkListing false m s) refl e in
         let l = checked-line line m g in
@@ -150,15 +150,15 @@ found-head skip q n k s at {o} h = by-best (best skip q (withOffsets k s at)) (b
 
 -- ---- the answers
 module _ (line s : List ℕ) (q : Query) (skip : Bool) where
-  pub answer-refused : {r : Refusal} → readCheck line s ≡ Checked.Refused r → Answer.Refused r ≡ answer line s q skip
+  pub answer-refused : {r : ReadRefusal} → readCheck line s ≡ ReadCheck.Refused r → EdgeAnswer.Refused r ≡ answer line s q skip
   unfolding answer
   answer-refused e = rw e
 
-  module _ {n k : ℕ} (e : readCheck line s ≡ Checked.Readable n k) where
-    pub answer-outside : inside n q ≡ false → Answer.Refused BadPlace ≡ answer line s q skip
+  module _ {n k : ℕ} (e : readCheck line s ≡ ReadCheck.Readable n k) where
+    pub answer-outside : inside n q ≡ false → EdgeAnswer.Refused BadPlace ≡ answer line s q skip
     unfolding answer
     answer-outside h = rw (e, h)
 
-    pub answer-best : {f : Found} → inside n q ≡ true → f ≡ found (best skip q (withOffsets k s 2)) → Answer.Best f ≡ answer line s q skip
+    pub answer-best : {f : Found} → inside n q ≡ true → f ≡ found (best skip q (withOffsets k s 2)) → EdgeAnswer.Best f ≡ answer line s q skip
     unfolding answer
     answer-best h b = rw (e, h, b)

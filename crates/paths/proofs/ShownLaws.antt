@@ -19,9 +19,9 @@ use Rattle.edge.specs.declared.EdgeView.{EdgeView}
 use Rattle.edge.specs.View.{viewAt, textOf}
 use Rattle.paths.specs.declared.Found.{Found}
 use Rattle.paths.specs.declared.Found.the-variants.{At, Nothing}
-use Rattle.paths.specs.declared.Refusal.{Refusal}
-use Rattle.paths.specs.declared.Refusal.the-variants.{BadPlace}
-use Rattle.paths.specs.declared.Checked.the-variants as Checked
+use Rattle.paths.specs.declared.ReadRefusal.{ReadRefusal}
+use Rattle.paths.specs.declared.ReadRefusal.the-variants.{BadPlace}
+use Rattle.paths.specs.declared.ReadCheck.the-variants as ReadCheck
 use Rattle.paths.specs.declared.Query.the-variants as Query
 use Rattle.paths.specs.declared.Shown.{Shown}
 use Rattle.paths.specs.declared.Shown.the-variants.{Listing, Line, Refused}
@@ -59,11 +59,11 @@ module _ (line s : List ℕ) (p : ℕ) {f : Found} where
   shown-line h x y = rw (h, x, y, add-one)
 
 module _ (line s : List ℕ) (p : Place) where
-  pub shown-refused : {r : Refusal} → readCheck line s ≡ Checked.Refused r → Refused r ≡ shown line s p
+  pub shown-refused : {r : ReadRefusal} → readCheck line s ≡ ReadCheck.Refused r → Refused r ≡ shown line s p
   unfolding shown
   shown-refused e = rw e
 
-  module _ {n k : ℕ} (e : readCheck line s ≡ Checked.Readable n k) where
+  module _ {n k : ℕ} (e : readCheck line s ≡ ReadCheck.Readable n k) where
     pub shown-outside : n ≤ p .0 → Refused BadPlace ≡ shown line s p
     unfolding shown
     shown-outside h = rw (e, le-ltb (p .0) n h)

@@ -19,10 +19,10 @@ use Rattle.fields.specs.Part.{part}
 use Rattle.edge.specs.Edge.{Edge}
 use Rattle.edge.specs.Layout.{nextAt}
 use Rattle.paths.specs.declared.Query.the-variants as Query
-use Rattle.paths.specs.declared.Refusal.{Refusal}
-use Rattle.paths.specs.declared.Refusal.the-variants.{ShortOutput, BadPlace}
-use Rattle.paths.specs.declared.Written.{Written}
-use Rattle.paths.specs.declared.Written.the-variants as Written
+use Rattle.paths.specs.declared.ReadRefusal.{ReadRefusal}
+use Rattle.paths.specs.declared.ReadRefusal.the-variants.{ShortOutput, BadPlace}
+use Rattle.paths.specs.declared.PathAnswer.{PathAnswer}
+use Rattle.paths.specs.declared.PathAnswer.the-variants as PathAnswer
 use Rattle.paths.specs.Best.{Best, best, withOffsets}
 use Rattle.paths.specs.Reading.{readCheck, readable, inside}
 
@@ -61,7 +61,7 @@ rights skip s k p = best skip (Query.Right (record { 0 = p })) (withOffsets k s 
 
 pub data PathOut : Type 0 where
   listing : List ℕ → PathOut
-  refused : Refusal → PathOut
+  refused : ReadRefusal → PathOut
 
 unfoldable pub fitting : ℕ → List ℕ → PathOut
 fitting room bytes = cond (leb (length bytes) room) (listing bytes) (refused ShortOutput)
@@ -73,9 +73,9 @@ pathIn s a z skip room n k =
 unfoldable pub pathOut : List ℕ → List ℕ → Place → Place → Bool → ℕ → PathOut
 pathOut line s a z skip room = readable refused (pathIn s a z skip room) (readCheck line s)
 
-abbrev pub written : PathOut → Written
-written (listing bytes) = Written.Bytes (length bytes)
-written (refused r) = Written.Refused r
+abbrev pub written : PathOut → PathAnswer
+written (listing bytes) = PathAnswer.Bytes (length bytes)
+written (refused r) = PathAnswer.Refused r
 
 -- behind the listing the output is as it was, and all of it on a refusal
 abbrev pub after : List ℕ → PathOut → List ℕ

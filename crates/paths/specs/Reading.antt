@@ -20,38 +20,38 @@ use Rattle.edge.specs.Check.{checkListing}
 use Rattle.edge.specs.Layout.{edgeAt, nextAt}
 use Rattle.paths.specs.declared.Query.{Query}
 use Rattle.paths.specs.declared.Query.the-variants.{Span, Right, Left}
-use Rattle.paths.specs.declared.Refusal.{Refusal}
-use Rattle.paths.specs.declared.Refusal.the-variants.{NotUtf8, OverLong, BadListing, ShortOutput, BadPlace}
-use Rattle.paths.specs.declared.Checked.{Checked}
-use Rattle.paths.specs.declared.Checked.the-variants as Checked
-use Rattle.paths.specs.declared.Answer.{Answer}
-use Rattle.paths.specs.declared.Answer.the-variants as Answer
+use Rattle.paths.specs.declared.ReadRefusal.{ReadRefusal}
+use Rattle.paths.specs.declared.ReadRefusal.the-variants.{NotUtf8, OverLong, BadListing, ShortOutput, BadPlace}
+use Rattle.paths.specs.declared.ReadCheck.{ReadCheck}
+use Rattle.paths.specs.declared.ReadCheck.the-variants as ReadCheck
+use Rattle.paths.specs.declared.EdgeAnswer.{EdgeAnswer}
+use Rattle.paths.specs.declared.EdgeAnswer.the-variants as EdgeAnswer
 use Rattle.paths.specs.Best.{best, withOffsets, found}
 
-abbrev pub number : Refusal → ℕ
+abbrev pub number : ReadRefusal → ℕ
 number (NotUtf8 at) = 2
 number (OverLong at) = 3
 number (BadListing at) = 6
 number ShortOutput = 8
 number BadPlace = 9
 
-abbrev pub place : Refusal → ℕ
+abbrev pub place : ReadRefusal → ℕ
 place (NotUtf8 at) = at .0
 place (OverLong at) = at .0
 place (BadListing at) = at .0
 place ShortOutput = 0
 place BadPlace = 0
 
-abbrev pub afterListing : ℕ → ListingCheck → Checked
-afterListing n (ListingCheck.Edges k) = Checked.Readable n k
-afterListing n (ListingCheck.Refused at) = Checked.Refused (BadListing at)
+abbrev pub afterListing : ℕ → ListingCheck → ReadCheck
+afterListing n (ListingCheck.Edges k) = ReadCheck.Readable n k
+afterListing n (ListingCheck.Refused at) = ReadCheck.Refused (BadListing at)
 
-abbrev pub afterLine : LineCheck → List ℕ → Checked
+abbrev pub afterLine : LineCheck → List ℕ → ReadCheck
 afterLine (Chars n) s = afterListing n (checkListing false n s)
-afterLine (IllFormed at) s = Checked.Refused (NotUtf8 at)
-afterLine (TooLong at) s = Checked.Refused (OverLong at)
+afterLine (IllFormed at) s = ReadCheck.Refused (NotUtf8 at)
+afterLine (TooLong at) s = ReadCheck.Refused (OverLong at)
 
-unfoldable pub readCheck : List ℕ → List ℕ → Checked
+unfoldable pub readCheck : List ℕ → List ℕ → ReadCheck
 readCheck line s = afterLine (lineCheck line) s
 
 -- what these checks show of an edge, and of k edges
@@ -65,17 +65,17 @@ Spans n zero s at = at ≤ length s
 Spans n (suc k) s at = Spanned n s at × Spans n k s (nextAt s at)
 
 -- what a call answers: a refusal of these checks, or what then says of n characters and k edges
-abbrev pub readable : {A : Type 0} → (Refusal → A) → (ℕ → ℕ → A) → Checked → A
-readable refused then (Checked.Readable n k) = then n k
-readable refused then (Checked.Refused r) = refused r
+abbrev pub readable : {A : Type 0} → (ReadRefusal → A) → (ℕ → ℕ → A) → ReadCheck → A
+readable refused then (ReadCheck.Readable n k) = then n k
+readable refused then (ReadCheck.Refused r) = refused r
 
 unfoldable pub inside : ℕ → Query → Bool
 inside n (Span a z) = leb (a .0) (z .0) && leb (z .0) n
 inside n (Right p) = leb (p .0) n
 inside n (Left p) = leb (p .0) n
 
-abbrev pub answerIn : List ℕ → Query → Bool → ℕ → ℕ → Answer
-answerIn s q skip n k = cond (inside n q) (Answer.Best (found (best skip q (withOffsets k s 2)))) (Answer.Refused BadPlace)
+abbrev pub answerIn : List ℕ → Query → Bool → ℕ → ℕ → EdgeAnswer
+answerIn s q skip n k = cond (inside n q) (EdgeAnswer.Best (found (best skip q (withOffsets k s 2)))) (EdgeAnswer.Refused BadPlace)
 
-unfoldable pub answer : List ℕ → List ℕ → Query → Bool → Answer
-answer line s q skip = readable Answer.Refused (answerIn s q skip) (readCheck line s)
+unfoldable pub answer : List ℕ → List ℕ → Query → Bool → EdgeAnswer
+answer line s q skip = readable EdgeAnswer.Refused (answerIn s q skip) (readCheck line s)

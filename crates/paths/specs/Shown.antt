@@ -14,7 +14,7 @@ use Rattle.edge.specs.View.{partAt, textOf}
 use Rattle.paths.specs.declared.Query.the-variants as Query
 use Rattle.paths.specs.declared.Found.{Found}
 use Rattle.paths.specs.declared.Found.the-variants.{At, Nothing}
-use Rattle.paths.specs.declared.Refusal.the-variants.{BadPlace}
+use Rattle.paths.specs.declared.ReadRefusal.the-variants.{BadPlace}
 use Rattle.paths.specs.declared.Shown.{Shown}
 use Rattle.paths.specs.declared.Shown.the-variants.{Listing, Line, Refused}
 use Rattle.paths.specs.Best.{best, withOffsets, found}

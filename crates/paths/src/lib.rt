@@ -1,6 +1,5 @@
-// Best edges, neighbours and paths over a listing (the Rust's lattice/paths.rs).
-// Reading a finished listing (01, "The rest of the call"): what is asked for and what is answered. The checks are in modules `paths::check` and `paths::inside`, the score of
-// an edge in `paths::score`, the best of many in `paths::best`; the best edge and the neighbours in `queries`, the path in `queries::path`, the text shown in `shown`.
+// Best edges, neighbours and paths over a finished listing (01, "The rest of the call"; the Rust's lattice/paths.rs): what is asked for and what is answered.
+// `queries` has the calls.
 pub mod inside; // inside.rt: refusal 9
 pub mod score; // score.rt: the score of an edge
 pub mod best; // best.rt: the best of many edges
@@ -26,7 +25,7 @@ pub enum Found {
 }
 
 // A refusal of a call that reads a listing: 2, 3, 6, 8 and 9 of 01.
-pub enum Refusal {
+pub enum ReadRefusal {
     NotUtf8(Offset),
     OverLong(Offset),
     BadListing(Offset),
@@ -35,28 +34,28 @@ pub enum Refusal {
 }
 
 // What the checks 2, 3 and 6 find: so many characters and edges, or a refusal.
-pub enum Checked {
+pub enum ReadCheck {
     Readable(usize, usize),
-    Refused(Refusal),
+    Refused(ReadRefusal),
 }
 
 // What writing a path answers: so many bytes, or a refusal.
-pub enum Written {
+pub enum PathAnswer {
     Bytes(usize),
-    Refused(Refusal),
+    Refused(ReadRefusal),
 }
 
 // What best edge and neighbours answer.
-pub enum Answer {
+pub enum EdgeAnswer {
     Best(Found),
-    Refused(Refusal),
+    Refused(ReadRefusal),
 }
 
 // The text shown at a place: a part of the listing, a part of the line, or a refusal.
 pub enum Shown {
     Listing(Part),
     Line(Part),
-    Refused(Refusal),
+    Refused(ReadRefusal),
 }
 
 // Where the path goes on from a place: past it; or over its right neighbour, from an offset to another, to the place where it ends.

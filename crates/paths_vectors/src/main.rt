@@ -1,5 +1,5 @@
 // Reads a listing written by hand, over the line ab五. `stdout` has the answers, worked out by hand from 01.
-use answers::Told;
+use answers::CStatus;
 use paths::Query;
 use paths::Shown;
 use text::Place;
@@ -10,7 +10,7 @@ fn say(word: &[u8], n: u64) {
 }
 
 // An answer by what C is told of it: its status, and the number that goes with it.
-fn show(word: &[u8], t: Told) {
+fn show(word: &[u8], t: CStatus) {
     if t.status > 0 {
         say(b"refused ", t.status as u64);
         say(b" ", t.at);
@@ -54,7 +54,7 @@ fn show_part(w: Shown) {
             let t = answers::reading::shown_told(w);
             show(
                 b"",
-                Told {
+                CStatus {
                     status: t.status,
                     at: t.at,
                 },

@@ -27,7 +27,7 @@ use Rattle.edge.specs.declared.ListingCheck.the-variants as ListingCheck
 use Rattle.edge.specs.declared.Written.{Written}
 use Rattle.lattice.specs.Lattice.{overfull}
 use Rattle.rows.specs.ListingRows.{rowsBytes, RowsAre}
-use Rattle.numbers.specs.Call.{Answer, listing, refused, finished, latticeOf, unlessAbove, withAll, withGiven, withTable, withLine, addNumbers}
+use Rattle.numbers.specs.Call.{Answer, listing, refused, finished, latticeOf, unlessAbove, afterChecks, afterEdgesCheck, afterTableCheck, afterLineCheck, addNumbers}
 use Rattle.answers.specs.declared.Answer.{Answer as Code}
 use Rattle.answers.specs.declared.Answer.the-variants as Code
 use Rattle.answers.specs.declared.Refusal.{Refusal}
@@ -53,19 +53,19 @@ above-counted : (p : Option ℕ) (a : Answer) → Counted a → Counted (unlessA
 above-counted none a h = h
 above-counted (some p) a h = tt
 
-all-counted : (t : Table) (w : List ℕ) (out : ℕ) (given : List Edge) → Counted (withAll t w out given)
-unfolding withAll
+all-counted : (t : Table) (w : List ℕ) (out : ℕ) (given : List Edge) → Counted (afterChecks t w out given)
+unfolding afterChecks
 all-counted t w out given = above-counted (aboveAt t w) (finished out (latticeOf t w given)) (finished-counted out (latticeOf t w given))
 
-given-counted : (t : Table) (w : List ℕ) (out : ℕ) (given : List ℕ) (c : ListingCheck) → Counted (withGiven t w out given c)
+given-counted : (t : Table) (w : List ℕ) (out : ℕ) (given : List ℕ) (c : ListingCheck) → Counted (afterEdgesCheck t w out given c)
 given-counted t w out given (ListingCheck.Refused at) = tt
 given-counted t w out given (ListingCheck.Edges n) = all-counted t w out _
 
-table-counted : (w : List ℕ) (out : ℕ) (given : List ℕ) (c : Checked Table) → Counted (withTable w out given c)
+table-counted : (w : List ℕ) (out : ℕ) (given : List ℕ) (c : Checked Table) → Counted (afterTableCheck w out given c)
 table-counted w out given (Refused n at) = tt
 table-counted w out given (Fine t at) = given-counted t w out given (checkListing true (length w) given)
 
-line-counted : (line table given : List ℕ) (out : ℕ) (c : LineCheck) → Counted (withLine line table given out c)
+line-counted : (line table given : List ℕ) (out : ℕ) (c : LineCheck) → Counted (afterLineCheck line table given out c)
 line-counted line table given out (LineCheck.IllFormed at) = tt
 line-counted line table given out (LineCheck.TooLong at) = tt
 line-counted line table given out (LineCheck.Chars n) = table-counted (chars line) out given (readTable table)

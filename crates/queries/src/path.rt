@@ -7,11 +7,11 @@ ghost use lib.Dec.{ltb};
 ghost use Rattle.paths.specs.Reading.{Spans};
 ghost use Rattle.paths.specs.Path.{rights, path, pathListing, fitting, pathOut, written, after};
 ghost use Rattle.paths.specs.Table.{Rights};
-use paths::Checked;
+use paths::PathAnswer;
 use paths::Query;
-use paths::Refusal;
+use paths::ReadCheck;
+use paths::ReadRefusal;
 use paths::Size;
-use paths::Written;
 use paths::check::check;
 use paths::inside::is_inside;
 use paths::score::score_at;
@@ -59,7 +59,7 @@ fn path_in(
     end: usize,
     skip: bool,
     out: &mut [u8],
-) -> Written
+) -> PathAnswer
     requires { ⌜ Spans 256 count (now listing) 2 × (end ≤ 256) ⌝ }
     ensures answer { λ r. ⌜ r ≡ written (fitting (length (now (out .entry))) (pathListing (now (listing .entry)) (path (rights skip (now (listing .entry)) count) start end))) ⌝ }
     ensures output { λ _. ⌜ now (out .exit) ≡ after (now (out .entry)) (fitting (length (now (out .entry))) (pathListing (now (listing .entry)) (path (rights skip (now (listing .entry)) count) start end))) ⌝ }
@@ -68,11 +68,11 @@ fn path_in(
     let mut ats = [0usize; 256];
     right_neighbors(listing, count, skip, &mut tops, &mut ats);
     match paths::walk::path_size(listing, &tops, &ats, start, end, out.len()) {
-        Size::Over => Written::Refused(Refusal::ShortOutput),
+        Size::Over => PathAnswer::Refused(ReadRefusal::ShortOutput),
         Size::Fits(n, len) => {
             fields::write::put_u16(out, 0, n as u16);
             paths::walk::write_path(listing, &tops, &ats, start, end, out);
-            Written::Bytes(len)
+            PathAnswer::Bytes(len)
         }
     }
 }
@@ -85,15 +85,15 @@ pub fn path(
     end: Place,
     skip: bool,
     out: &mut [u8],
-) -> Written
+) -> PathAnswer
     ensures answer { λ r. ⌜ r ≡ written (pathOut (now (line .entry)) (now (listing .entry)) start end skip (length (now (out .entry)))) ⌝ }
     ensures output { λ _. ⌜ now (out .exit) ≡ after (now (out .entry)) (pathOut (now (line .entry)) (now (listing .entry)) start end skip (length (now (out .entry)))) ⌝ }
 {
     match check(line, listing) {
-        Checked::Refused(r) => Written::Refused(r),
-        Checked::Readable(chars, count) => {
+        ReadCheck::Refused(r) => PathAnswer::Refused(r),
+        ReadCheck::Readable(chars, count) => {
             if !is_inside(chars, Query::Span(start, end)) {
-                return Written::Refused(Refusal::BadPlace);
+                return PathAnswer::Refused(ReadRefusal::BadPlace);
             }
             path_in(listing, count, start.0, end.0, skip, out)
         }

@@ -7,10 +7,10 @@ ghost use Rattle.paths.specs.Best.{best, withOffsets, found};
 ghost use Rattle.paths.specs.Reading.{Spans};
 ghost use Rattle.paths.specs.Shown.{shownBy, shown};
 use edge::Part;
-use paths::Checked;
 use paths::Found;
 use paths::Query;
-use paths::Refusal;
+use paths::ReadCheck;
+use paths::ReadRefusal;
 use paths::Shown;
 use paths::best::best_of;
 use paths::check::check;
@@ -43,10 +43,10 @@ pub fn shown_text(line: &[u8], listing: &[u8], place: Place) -> Shown
     ensures { λ r. ⌜ r ≡ shown (now (line .entry)) (now (listing .entry)) place ⌝ }
 {
     match check(line, listing) {
-        Checked::Refused(r) => Shown::Refused(r),
-        Checked::Readable(chars, count) => {
+        ReadCheck::Refused(r) => Shown::Refused(r),
+        ReadCheck::Readable(chars, count) => {
             if chars <= place.0 {
-                return Shown::Refused(Refusal::BadPlace);
+                return Shown::Refused(ReadRefusal::BadPlace);
             }
             shown_at(line, listing, chars, count, place)
         }

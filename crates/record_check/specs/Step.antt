@@ -9,14 +9,14 @@ use Rattle.table.specs.Table.{Record}
 use Rattle.table.specs.Layout.{readRecord}
 use Rattle.table.specs.Check.{Fine, item, legalRecord}
 use Rattle.table.specs.Check as Check
-use Rattle.record_check.specs.declared.record.Step.{Step}
-use Rattle.record_check.specs.declared.record.Step.the-variants as Step
+use Rattle.record_check.specs.declared.record.RecordCheck.{RecordCheck}
+use Rattle.record_check.specs.declared.record.RecordCheck.the-variants as RecordCheck
 
 pub record Passed (s : List ℕ) (at least c next : ℕ) : Type 0 where
   pub it : Record
   pub is : item at (legalRecord least) (readRecord s at) ≡ Fine it next
   pub point : it .code-point ≡ c
 
-abbrev pub StepIs : List ℕ → ℕ → ℕ → Step → Type 0
-StepIs s at least (Step.Next c next) = Passed s at least c next
-StepIs s at least (Step.Refused number) = item at (legalRecord least) (readRecord s at) ≡ Check.Refused number at
+abbrev pub StepIs : List ℕ → ℕ → ℕ → RecordCheck → Type 0
+StepIs s at least (RecordCheck.Next c next) = Passed s at least c next
+StepIs s at least (RecordCheck.Refused number) = item at (legalRecord least) (readRecord s at) ≡ Check.Refused number at

@@ -13,7 +13,7 @@ fn low_eight(s: &[u8], at: usize) -> bool
     fields::u64_at(s, at) & 0x8080808080808080 == 0
 }
 
-pub fn low_four(s: &[u8], at: usize) -> bool
+pub fn four_ascii(s: &[u8], at: usize) -> bool
     requires { ⌜ at + 4 ≤ length (now s) ⌝ }
     requires bytes { ⌜ ((i : ℕ) → getD (now s) i 0 < 256) ⌝ }
     ensures { λ r. ⌜ (r ≡ true → Ascii (now (s .entry)) at (at + 4)) ⌝ }
@@ -45,7 +45,7 @@ pub fn short_ascii(s: &[u8], at: usize, len: usize) -> bool
         return false;
     }
     if len <= 4 {
-        return low_four(s, end - 4);
+        return four_ascii(s, end - 4);
     }
     if len <= 8 {
         return low_eight(s, end - 8);

@@ -5,7 +5,7 @@ ghost use Prim.Native.Nat.{ℕ, _+_, _≤_, _<_};
 ghost use lib.ListN.{length, getD};
 ghost use Rattle.record_check.specs.Plain.{TailIs, FieldsIs, PlainIs};
 use crate::ascii::ascii;
-use crate::ascii::low_four;
+use crate::ascii::four_ascii;
 use crate::plain_numbers::legal_head;
 use crate::plain_numbers::legal_numbers;
 
@@ -37,7 +37,7 @@ fn tail_end(s: &[u8], first: u8, rom: usize, at: usize) -> Behind
         return Behind::Other;
     }
     let next = at + 17 + k;
-    if !low_four(s, next - 4) {
+    if !four_ascii(s, next - 4) {
         return Behind::Other;
     }
     if legal_numbers(s, first, rom, at) {

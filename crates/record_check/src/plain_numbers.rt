@@ -10,7 +10,7 @@ ghost use Rattle.record_check.specs.PlainContent.{Head, Digit, Numbers};
 const TOP: u64 = 9007199254740991;
 
 // The map says which fields there are, and the code point is not below the least.
-fn told(map: u8, least: u64, code: u32) -> bool
+fn map_fits(map: u8, least: u64, code: u32) -> bool
     ensures { λ r. ⌜ r ≡ ((eqb (map % 64) 43 && ltb map 128) && leb least code) ⌝ }
 {
     (map % 64 == 43) & (map < 128) & (least <= code as u64)
@@ -24,9 +24,9 @@ pub fn legal_head(s: &[u8], at: usize, least: u64) -> bool
     let map = s[at + 4];
     let code = fields::u32_at(s, at);
     if 0xD7FF < code {
-        return (0xE000 <= code) & (code <= 0x10FFFF) & told(map, least, code);
+        return (0xE000 <= code) & (code <= 0x10FFFF) & map_fits(map, least, code);
     }
-    told(map, least, code)
+    map_fits(map, least, code)
 }
 
 // A value of 0 to 9 has that one digit as its rom: a length of 1, and the digit. This is asked where the type's first byte is that of "digit".

@@ -21,7 +21,7 @@ use table::layout::TextAt;
 use table::layout::text_at;
 
 // What checking a record gives: its code point and the offset behind it, or the refusal's number.
-pub enum Step {
+pub enum RecordCheck {
     Next(u32, usize),
     Refused(u8),
 }
@@ -99,28 +99,28 @@ fn fields_look(s: &[u8], code: u32, map: u8, at: usize, least: u64) -> Look
 }
 
 // The record at an offset, whatever its form.
-pub fn check_record(s: &[u8], at: usize, least: u64) -> Step
+pub fn check_record(s: &[u8], at: usize, least: u64) -> RecordCheck
     ensures { λ r. ⌜ StepIs (now (s .entry)) at least r ⌝ }
 {
     if s.len() < 5 {
-        return Step::Refused(4);
+        return RecordCheck::Refused(4);
     }
     if s.len() - 5 < at {
-        return Step::Refused(4);
+        return RecordCheck::Refused(4);
     }
     let code = fields::u32_at(s, at);
     let map = s[at + 4];
     if 128 <= map {
-        return Step::Refused(4);
+        return RecordCheck::Refused(4);
     }
     match fields_look(s, code, map, at + 5, least) {
         Look::Field(legal, next) => {
             if legal {
-                Step::Next(code, next)
+                RecordCheck::Next(code, next)
             } else {
-                Step::Refused(5)
+                RecordCheck::Refused(5)
             }
         }
-        Look::Fault => Step::Refused(4),
+        Look::Fault => RecordCheck::Refused(4),
     }
 }

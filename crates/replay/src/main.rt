@@ -3,7 +3,7 @@
 // offset. Which case is the first that differs: `tools/replay_cases.py differ`.
 ghost use Prim.Native.Nat.{_≤_};
 ghost use lib.ListN.{length};
-use answers::Told;
+use answers::CStatus;
 use call::Answer;
 
 // A proved loop has to end, and nothing says that the input does: no more cases are read than this.
@@ -34,7 +34,7 @@ fn write_u32(v: u64) {
     io::write_all(1, &b);
 }
 
-fn write_refusal(t: Told) {
+fn write_refusal(t: CStatus) {
     let b = [5, 0, 0, 0, (t.status % 256) as u8];
     io::write_all(1, &b);
     write_u32(t.at);

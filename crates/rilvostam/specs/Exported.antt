@@ -7,11 +7,11 @@ use mathlib.Core.Bool.{Bool, not}
 use lib.Dec.{eqb}
 use Rattle.text.specs.declared.Place.{Place}
 use Rattle.numbers.specs.Call as numbers
-use Rattle.answers.specs.declared.Told.{Told}
+use Rattle.answers.specs.declared.CStatus.{CStatus}
 use Rattle.answers.specs.Answers.{told}
 use Rattle.call.specs.Answers.{brief}
 
-abbrev pub callTold : numbers.Answer → Told
+abbrev pub callTold : numbers.Answer → CStatus
 callTold a = told (brief a)
 
 abbrev pub placeOf : ℕ → Place

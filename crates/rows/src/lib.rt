@@ -1,4 +1,3 @@
-// The rows that the program prints.
 // The rows that the program prints for the edges of a listing, as text in a lent buffer. The words of the contracts are in specs/Rows.antt.
 pub mod columns; // columns.rt: a column of a row
 pub mod listing; // listing.rt: the rows of a listing

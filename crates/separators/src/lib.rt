@@ -1,4 +1,3 @@
-// The stage of separators, F1.
 // F1 (01, "The rest of the call"): a numeric edge whose txt begins with a digit, right after an edge whose txt ends with one, turns inactive, and its copy
 // with a separator before its txt is added. One walk marks the places where such edges end (`separators::marks`), one walk over the edges that were there adds the copies.
 pub mod marks; // marks.rt: where edges end whose txt ends with a digit

@@ -1,3 +1,3 @@
 -- What the proofs of `signs`, and its callers', share.
-mod ItemLaws
+mod StoredEdgeLaws
 pub mod CallLaws

@@ -1,4 +1,4 @@
--- The edges that signs give before an item of the pass list (01, "The rest of the call", G6). Definitions only.
+-- The edges that signs give before a stored edge of the pass list (01, "The rest of the call", G6). Definitions only.
 --     signEdgeAt a c e            the edge for a sign that stands at place a before the passes' edge e; c is its ASCII byte
 --     Signs line t x c ms ..      the lattice is the one before with the edges that the signs ms give before the code's edge x, and what is behind it is as it was
 --     Begins s r t                s begins with the r bytes t

@@ -1,4 +1,4 @@
--- The edges that signs give before an item of the pass list (01, "The rest of the call", G6). Definitions only.
+-- The edges that signs give before a stored edge of the pass list (01, "The rest of the call", G6). Definitions only.
 --     signsOf t w e   G6's edges for the passes' edge e
 --     Assumes nothing.
 use Prim.Native.Nat.{ℕ}

@@ -1,4 +1,4 @@
-// The edges for the signs of one list that stand directly before an item of the pass list (01, "The rest of the call", G6). A sign is given by its ASCII byte.
+// The edges for the signs of one list that stand directly before a stored edge of the pass list (01, "The rest of the call", G6). A sign is given by its ASCII byte.
 use lattice::Lattice;
 use markers::Sign;
 use pass_list::record::PassEdge;
@@ -19,13 +19,13 @@ ghost use Rattle.lattice.specs.Kept.{Holds};
 ghost use Rattle.pass_list.specs.StoredEdge.{StoredEdge, EdgeIs};
 ghost use Rattle.pass_list.specs.Edges.{txtOf, edgeOf};
 ghost use Rattle.numbers.specs.Ready.{Offsets};
-ghost use Rattle.pass_edge.specs.Sound.{Rooted, StoredIs};
+ghost use Rattle.pass_edge.specs.Grounded.{Rooted, StoredIs};
 ghost use Rattle.pass_edge.specs.Texts.{typeOf};
-ghost use Rattle.pass_edge.specs.Adding.{Asks};
+ghost use Rattle.pass_edge.specs.Adding.{Addable};
 ghost use Rattle.markers.specs.Marks.{Formed};
 ghost use Rattle.signs.specs.SignEdges.{signEdgeAt, Signs, Begins};
 
-// The type of a sign's edge goes to the front of a buffer: the item's, a space and the sign.
+// The type of a sign's edge goes to the front of a buffer: the stored edge's, a space and the sign.
 fn sign_type(buf: &mut [u8], table: &[u8], x: PassEdge, sign: u8) -> usize
     requires { ⌜ (62 ≤ length (now buf)) × ((i : StoredEdge) × EdgeIs x i × (length (typeOf (now table) i) ≤ 60) × Rooted (now table) i) ⌝ }
     ensures { λ r. ⌜ ((i : StoredEdge) → EdgeIs x i → Begins (now (buf .exit)) r (typeOf (now (table .entry)) i ++ (32 ∷ sign ∷ []))) ⌝ }
@@ -36,7 +36,7 @@ fn sign_type(buf: &mut [u8], table: &[u8], x: PassEdge, sign: u8) -> usize
     n + 2
 }
 
-// The txt of a sign's edge goes to the front of a buffer: the sign and the item's.
+// The txt of a sign's edge goes to the front of a buffer: the sign and the stored edge's.
 fn sign_txt(
     buf: &mut [u8],
     line: &[u8],
@@ -64,7 +64,7 @@ fn add_signed(
     sign: u8,
     start: Place,
 ) -> Lattice
-    requires { ⌜ Asks (now w) l (now line) (now offs) (now table) x × (start .0 ≤ 256) ⌝ }
+    requires { ⌜ Addable (now w) l (now line) (now offs) (now table) x × (start .0 ≤ 256) ⌝ }
     ensures { λ r. ⌜ (drop 39424 (now (w .exit)) ≡ drop 39424 (now (w .entry))) × ((es : List Edge) (i : StoredEdge) → Holds (now (w .entry)) l es → EdgeIs x i → Holds (now (w .exit)) r (add es (signEdgeAt (start .0) sign (edgeOf (chars (now (line .entry))) (now (table .entry)) i)))) ⌝ }
 {
     let mut ty = [0u8; 62];
@@ -74,7 +74,7 @@ fn add_signed(
     lattice_add::regular::add_regular(w, l, start, x.end, &ty[..n], &txt[..k])
 }
 
-// The edge for one sign of the table, where it stands directly before the item.
+// The edge for one sign of the table, where it stands directly before the stored edge.
 fn add_sign(
     w: &mut [u8],
     l: Lattice,
@@ -85,7 +85,7 @@ fn add_sign(
     sign: u8,
     m: Part,
 ) -> Lattice
-    requires { ⌜ Asks (now w) l (now line) (now offs) (now table) x × Within (now table) m × (wellFormed (partOf (now table) m) ≡ true) ⌝ }
+    requires { ⌜ Addable (now w) l (now line) (now offs) (now table) x × Within (now table) m × (wellFormed (partOf (now table) m) ≡ true) ⌝ }
     ensures { λ r. ⌜ Signs (now (line .entry)) (now (table .entry)) x sign (partOf (now (table .entry)) m ∷ []) (now (w .entry)) l (now (w .exit)) r ⌝ }
 {
     let from = m.at;
@@ -107,7 +107,7 @@ pub fn add_signs_of(
     x: PassEdge,
     sign: u8,
 ) -> Lattice
-    requires { ⌜ Asks (now w) l (now line) (now offs) (now table) x × Formed (listAt (now table) list) ⌝ }
+    requires { ⌜ Addable (now w) l (now line) (now offs) (now table) x × Formed (listAt (now table) list) ⌝ }
     ensures { λ r. ⌜ Signs (now (line .entry)) (now (table .entry)) x sign (listAt (now (table .entry)) list) (now (w .entry)) l (now (w .exit)) r ⌝ }
 {
     if table.len() <= list {

@@ -1,4 +1,3 @@
-// The stage of signs, G6.
 // G6: signs directly before a number (01, "The rest of the call"): a regular edge from each sign on, minus before plus, in the table's order.
 pub mod edges; // edges.rt: the edges for the signs before one edge
 
@@ -18,15 +17,15 @@ ghost use Rattle.pass_list.specs.StoredEdge.{StoredEdge, EdgeIs};
 ghost use Rattle.pass_list.specs.Stored.{storedListAt};
 ghost use Rattle.pass_list.specs.Edges.{edgeOf};
 ghost use Rattle.numbers.specs.Ready.{Ready, Offsets};
-ghost use Rattle.pass_edge.specs.Sound.{Sounds, StoredIs};
+ghost use Rattle.pass_edge.specs.Grounded.{AllGrounded, StoredIs};
 ghost use Rattle.numbers.specs.Signs.{signs};
 ghost use Rattle.signs.specs.SignsOf.{signsOf};
 
 // Where the pass list stands in the work space.
 const LIST: usize = 39424;
 
-// The edges for the signs before an item: only where it has a value, minus before plus. None stands before the line's first place.
-fn add_item_signs(
+// The edges for the signs before a stored edge: only where it has a value, minus before plus. None stands before the line's first place.
+fn add_edge_signs(
     w: &mut [u8],
     l: Lattice,
     line: &[u8],
@@ -48,7 +47,7 @@ fn add_item_signs(
     l
 }
 
-// G6: the edges for the signs before the n items of the pass list after G4.
+// G6: the edges for the signs before the n stored edges of the pass list after G4.
 pub fn add_signs(
     w: &mut [u8],
     l: Lattice,
@@ -58,15 +57,15 @@ pub fn add_signs(
     h: Shape,
     n: usize,
 ) -> Lattice
-    requires { ⌜ ((es : List Edge) × Holds (now w) l es) × Offsets (now line) (now offs) × ((m : ℕ) × Ready (now line) (now table) h m) × Sounds (chars (now line)) (now table) (storedListAt (drop 39424 (now w)) 0 n) × (39424 + n * 56 ≤ length (now w)) ⌝ }
+    requires { ⌜ ((es : List Edge) × Holds (now w) l es) × Offsets (now line) (now offs) × ((m : ℕ) × Ready (now line) (now table) h m) × AllGrounded (chars (now line)) (now table) (storedListAt (drop 39424 (now w)) 0 n) × (39424 + n * 56 ≤ length (now w)) ⌝ }
     ensures { λ r. ⌜ (drop 39424 (now (w .exit)) ≡ drop 39424 (now (w .entry))) × ((es : List Edge) → Holds (now (w .entry)) l es → Holds (now (w .exit)) r (addAll es (signs (tableOf (now (table .entry)) h) (chars (now (line .entry))) (map (edgeOf (chars (now (line .entry))) (now (table .entry))) (storedListAt (drop 39424 (now (w .entry))) 0 n))))) ⌝ }
 {
     let list = LIST;
     let mut grown = l;
     let mut i = 0;
     while i < n {
-        let x = pass_list::read::get(&w[list..], i * 56);
-        grown = add_item_signs(w, grown, line, offs, table, h, x);
+        let x = pass_list::read::read_edge(&w[list..], i * 56);
+        grown = add_edge_signs(w, grown, line, offs, table, h, x);
         i += 1;
     }
     grown

@@ -13,8 +13,8 @@ use Rattle.table.specs.Table.{Text, Record, Table}
 use Rattle.table.specs.Layout.{Field, Is, Fault, onField, number, text, readRecord, manyAt, textsAt, recordsAt, listAt}
 use Rattle.table.specs.Check.{Checked, Fine, Refused, thenItem, item, legalMark, legalRecord, readTexts, readList, readRecords, readTable}
 use Rattle.table.specs.Answers.{endOf, tableOf}
-use Rattle.table.specs.declared.shape.Items.{Items}
-use Rattle.table.specs.declared.shape.Items.the-variants as Items
+use Rattle.table.specs.declared.shape.ItemsCheck.{ItemsCheck}
+use Rattle.table.specs.declared.shape.ItemsCheck.the-variants as ItemsCheck
 use Rattle.table.specs.declared.shape.Shape.{Shape}
 use Rattle.table.proofs.LayoutLaws.{number-cut, number-is, byte-is}
 
@@ -38,32 +38,32 @@ end-same : {A B : Type 0} (f : A → B) (x : Checked A) → endOf (thenItem x (�
 end-same f (Fine a next) = refl
 end-same f (Refused number at) = refl
 
-end-then : {A : Type 0} (x : Checked A) {next : ℕ} (rest : ℕ → Checked (List A)) → endOf x ≡ Items.End next
+end-then : {A : Type 0} (x : Checked A) {next : ℕ} (rest : ℕ → Checked (List A)) → endOf x ≡ ItemsCheck.End next
     → endOf (thenItem x (λ a at. thenItem (rest at) (λ l end. Fine (a ∷ l) end))) ≡ endOf (rest next)
 end-then (Fine a m) {next} rest e = let q : m ≡ next = cc in rw q (end-same (λ l. a ∷ l) (rest next))
 end-then (Refused number at) rest e = let z : _≡_ {A = ℕ} 0 1 = cc in absurd (omega arith)
 
-end-stop : {A B : Type 0} (x : Checked A) {k o : ℕ} (rest : A → ℕ → Checked B) → endOf x ≡ Items.Refused k o → endOf (thenItem x rest) ≡ Items.Refused k o
+end-stop : {A B : Type 0} (x : Checked A) {k o : ℕ} (rest : A → ℕ → Checked B) → endOf x ≡ ItemsCheck.Refused k o → endOf (thenItem x rest) ≡ ItemsCheck.Refused k o
 end-stop (Fine a m) rest e = let z : _≡_ {A = ℕ} 0 1 = cc in absurd (omega arith)
 end-stop (Refused number at) rest e = e
 
 module _ (s : List ℕ) (at : ℕ) where
-  pub texts-none : (left : ℕ) → left ≤ 0 → Items.End at ≡ endOf (readTexts left s at)
+  pub texts-none : (left : ℕ) → left ≤ 0 → ItemsCheck.End at ≡ endOf (readTexts left s at)
   unfolding readTexts
   texts-none zero h = refl
   texts-none (suc n) h = absurd (omega arith)
 
-  pub texts-turn : (left : ℕ) {next : ℕ} → 0 < left → endOf (item at legalMark (text s at)) ≡ Items.End next → endOf (readTexts left s at) ≡ endOf (readTexts (left - 1) s next)
+  pub texts-turn : (left : ℕ) {next : ℕ} → 0 < left → endOf (item at legalMark (text s at)) ≡ ItemsCheck.End next → endOf (readTexts left s at) ≡ endOf (readTexts (left - 1) s next)
   unfolding readTexts
   texts-turn zero h e = absurd (omega arith)
   texts-turn (suc n) h e = let m : suc n - 1 ≡ n = omega arith in rw m (end-then (item at legalMark (text s at)) (λ next. readTexts n s next) e)
 
-  pub texts-stop : (left : ℕ) {k o : ℕ} → 0 < left → endOf (item at legalMark (text s at)) ≡ Items.Refused k o → Items.Refused k o ≡ endOf (readTexts left s at)
+  pub texts-stop : (left : ℕ) {k o : ℕ} → 0 < left → endOf (item at legalMark (text s at)) ≡ ItemsCheck.Refused k o → ItemsCheck.Refused k o ≡ endOf (readTexts left s at)
   unfolding readTexts
   texts-stop zero h e = absurd (omega arith)
   texts-stop (suc n) h e = sym (end-stop (item at legalMark (text s at)) _ e)
 
-  pub list-missing : length s ≤ at → Items.Refused 4 at ≡ endOf (readList s at)
+  pub list-missing : length s ≤ at → ItemsCheck.Refused 4 at ≡ endOf (readList s at)
   unfolding readList item
   list-missing h = rw (number-cut s at 1 (omega arith))
 
@@ -72,7 +72,7 @@ module _ (s : List ℕ) (at : ℕ) where
   list-is h = rw (byte-is s at h)
 
 module _ (s : List ℕ) (at least : ℕ) where
-  pub records-none : (left : ℕ) → left ≤ 0 → Items.End at ≡ endOf (readRecords left least s at)
+  pub records-none : (left : ℕ) → left ≤ 0 → ItemsCheck.End at ≡ endOf (readRecords left least s at)
   unfolding readRecords
   records-none zero h = refl
   records-none (suc n) h = absurd (omega arith)
@@ -83,15 +83,15 @@ module _ (s : List ℕ) (at least : ℕ) where
   records-turn zero h e = absurd (omega arith)
   records-turn (suc n) {r} {next} h e = let m : suc n - 1 ≡ n = omega arith in rw (m, e) (end-same (λ l. r ∷ l) (readRecords n (r .code-point + 1) s next))
 
-  pub records-stop : (left : ℕ) {k o : ℕ} → 0 < left → item at (legalRecord least) (readRecord s at) ≡ Refused k o → Items.Refused k o ≡ endOf (readRecords left least s at)
+  pub records-stop : (left : ℕ) {k o : ℕ} → 0 < left → item at (legalRecord least) (readRecord s at) ≡ Refused k o → ItemsCheck.Refused k o ≡ endOf (readRecords left least s at)
   unfolding readRecords
   records-stop zero h e = absurd (omega arith)
   records-stop (suc n) h e = rw e
 
 -- ---- items that end are the items that stand there
-abbrev withValue : {A : Type 0} → A → Items → Checked A
-withValue a (Items.End next) = Fine a next
-withValue a (Items.Refused number at) = Refused number at
+abbrev withValue : {A : Type 0} → A → ItemsCheck → Checked A
+withValue a (ItemsCheck.End next) = Fine a next
+withValue a (ItemsCheck.Refused number at) = Refused number at
 
 cons-value : {A : Type 0} (a : A) (l : List A) (x : Checked (List A)) → x ≡ withValue l (endOf x)
     → thenItem x (λ m end. Fine (a ∷ m) end) ≡ withValue (a ∷ l) (endOf (thenItem x (λ m end. Fine (a ∷ m) end)))
@@ -132,16 +132,16 @@ list-value s at = go (number 1 s at)
     go (Is n next) = texts-value n s next
     go Fault = refl
 
-pub list-ends : (s : List ℕ) (at : ℕ) {x : Items} {next : ℕ} → x ≡ endOf (readList s at) → x ≡ Items.End next → readList s at ≡ Fine (listAt s at) next
+pub list-ends : (s : List ℕ) (at : ℕ) {x : ItemsCheck} {next : ℕ} → x ≡ endOf (readList s at) → x ≡ ItemsCheck.End next → readList s at ≡ Fine (listAt s at) next
 list-ends s at e t = list-value s at ∙ ap (withValue (listAt s at)) (sym e ∙ t)
 
-pub list-refused : (s : List ℕ) (at : ℕ) {x : Items} {k o : ℕ} → x ≡ endOf (readList s at) → x ≡ Items.Refused k o → readList s at ≡ Refused k o
+pub list-refused : (s : List ℕ) (at : ℕ) {x : ItemsCheck} {k o : ℕ} → x ≡ endOf (readList s at) → x ≡ ItemsCheck.Refused k o → readList s at ≡ Refused k o
 list-refused s at e t = list-value s at ∙ ap (withValue (listAt s at)) (sym e ∙ t)
 
-pub records-end : (n : ℕ) (s : List ℕ) (at : ℕ) {x : Items} {next : ℕ} → x ≡ endOf (readRecords n 0 s at) → x ≡ Items.End next → readRecords n 0 s at ≡ Fine (recordsAt n s at) next
+pub records-end : (n : ℕ) (s : List ℕ) (at : ℕ) {x : ItemsCheck} {next : ℕ} → x ≡ endOf (readRecords n 0 s at) → x ≡ ItemsCheck.End next → readRecords n 0 s at ≡ Fine (recordsAt n s at) next
 records-end n s at e t = records-value n 0 s at ∙ ap (withValue (recordsAt n s at)) (sym e ∙ t)
 
-pub records-refused : (n : ℕ) (s : List ℕ) (at : ℕ) {x : Items} {k o : ℕ} → x ≡ endOf (readRecords n 0 s at) → x ≡ Items.Refused k o → readRecords n 0 s at ≡ Refused k o
+pub records-refused : (n : ℕ) (s : List ℕ) (at : ℕ) {x : ItemsCheck} {k o : ℕ} → x ≡ endOf (readRecords n 0 s at) → x ≡ ItemsCheck.Refused k o → readRecords n 0 s at ≡ Refused k o
 records-refused n s at e t = records-value n 0 s at ∙ ap (withValue (recordsAt n s at)) (sym e ∙ t)
 
 -- ---- the table

@@ -22,8 +22,8 @@ use Rattle.table.specs.declared.layout.TextAt.{TextAt}
 use Rattle.table.specs.declared.layout.TextAt.the-variants as TextAt
 use Rattle.table.specs.declared.layout.Numbers.{Numbers}
 use Rattle.table.specs.declared.layout.NumProp.{NumProp}
-use Rattle.table.specs.declared.shape.Items.{Items}
-use Rattle.table.specs.declared.shape.Items.the-variants as Items
+use Rattle.table.specs.declared.shape.ItemsCheck.{ItemsCheck}
+use Rattle.table.specs.declared.shape.ItemsCheck.the-variants as ItemsCheck
 use Rattle.table.specs.declared.shape.Shape.{Shape}
 use Rattle.table.specs.declared.shape.TableCheck.{TableCheck}
 use Rattle.table.specs.declared.shape.TableCheck.the-variants as TableCheck
@@ -76,9 +76,9 @@ TextWithin s (TextAt.Text p next) = Within s p
 TextWithin s TextAt.Fault = Unit {0}
 
 -- ---- items
-abbrev pub endOf : {A : Type 0} → Checked A → Items
-endOf (Fine a next) = Items.End next
-endOf (Check.Refused number at) = Items.Refused number at
+abbrev pub endOf : {A : Type 0} → Checked A → ItemsCheck
+endOf (Fine a next) = ItemsCheck.End next
+endOf (Check.Refused number at) = ItemsCheck.Refused number at
 
 unfoldable pub tableOf : List ℕ → Shape → Table
 tableOf s h = record {

@@ -39,18 +39,18 @@ pub record Whole (t : List ℕ) (at left : ℕ) : Type 0 where
   pub full : length (recordsAt left t at) ≡ left
   pub rises : rising 0 (recordsAt left t at) ≡ true
 
-pub record Tail (t : List ℕ) (rs : List Record) (at left least : ℕ) : Type 0 where
+pub record RecordsTail (t : List ℕ) (rs : List Record) (at left least : ℕ) : Type 0 where
   pub full : length (recordsAt left t at) ≡ left
   pub rises : rising least (recordsAt left t at) ≡ true
   pub finds : (c : ℕ) → least ≤ c → find (recordsAt left t at) c ≡ find rs c
 
-pub record Ahead (t : List ℕ) (rs : List Record) (c at left : ℕ) : Type 0 where
+pub record RecordsAhead (t : List ℕ) (rs : List Record) (c at left : ℕ) : Type 0 where
   pub whole : Whole t at left
   pub finds : find (recordsAt left t at) c ≡ find rs c
 
 pub record Entry (t : List ℕ) (rs : List Record) (at left : ℕ) : Type 0 where
   pub least : ℕ
-  pub tail : Tail t rs at left least
+  pub tail : RecordsTail t rs at left least
   pub there : at + 4 ≤ length t
   pub low : least ≤ leAt t at 4
 
@@ -63,7 +63,7 @@ pub record Indexed (t : List ℕ) (rs : List Record) (os : List ℕ) (all n : �
   pub inner : (i : ℕ) → i < n → i * strideOf all < all
   pub entries : (i : ℕ) → i < n → Entry t rs (getD os i 0) (all - i * strideOf all)
 
-pub record Growing (t : List ℕ) (rs : List Record) (os : List ℕ) (all : ℕ) (x : Index) : Type 0 where
+pub record IndexGrowing (t : List ℕ) (rs : List Record) (os : List ℕ) (all : ℕ) (x : Index) : Type 0 where
   pub made : Indexed t rs os all (x .n)
   pub next : x .due ≡ all - x .n * strideOf all
 

@@ -7,13 +7,13 @@ ghost use Prim.Native.Nat.{ℕ, _-_, _*_, _<_};
 ghost use lib.ListN.{length};
 ghost use Rattle.table.specs.Table.{Record};
 ghost use Rattle.table.specs.Layout.{recordsAt};
-ghost use Rattle.table.specs.Index.{FoundIs, Entry, strideOf, Indexed, Growing, Whole, Ahead};
+ghost use Rattle.table.specs.Index.{FoundIs, Entry, strideOf, Indexed, IndexGrowing, Whole, RecordsAhead};
 use crate::layout::NumProp;
 use crate::record::known::record_here;
 use crate::record::walk::record_end;
 
 // The records from an offset on, so many.
-pub struct Rest {
+pub struct RecordRun {
     pub at: usize,
     pub left: usize,
 }
@@ -31,7 +31,7 @@ pub enum CharRecord {
 }
 
 // The record of a character, by a walk that ends at the first code point above it. Only the character's own record is read whole.
-fn find_from(table: &[u8], from: Rest, c: u32) -> CharRecord
+fn find_from(table: &[u8], from: RecordRun, c: u32) -> CharRecord
     requires { ⌜ Whole (now table) (from .at) (from .left) ⌝ }
     ensures { λ r. ⌜ FoundIs (now (table .entry)) (recordsAt (from .left) (now (table .entry)) (from .at)) c r ⌝ }
 {
@@ -71,10 +71,10 @@ fn wide(x: u32) -> usize
 }
 
 // Takes a record into the index over so many records, where it is its turn. An offset that takes more than 32 bits ends the index.
-pub fn enter(offs: &mut [u32], index: Index, all: usize, here: Rest) -> Index
+pub fn index_record(offs: &mut [u32], index: Index, all: usize, here: RecordRun) -> Index
     requires { ⌜ (index .due ≡ all - index .n * strideOf all) × (0 < here .left) × (length (now offs) ≡ 256) ⌝ }
     ensures next { λ r. ⌜ r .due ≡ all - r .n * strideOf all ⌝ }
-    ensures grows { λ r. ⌜ ((t : List ℕ) (rs : List Record) → Entry t rs (here .at) (here .left) → Growing t rs (now (offs .entry)) all index → Growing t rs (now (offs .exit)) all r) ⌝ }
+    ensures grows { λ r. ⌜ ((t : List ℕ) (rs : List Record) → Entry t rs (here .at) (here .left) → IndexGrowing t rs (now (offs .entry)) all index → IndexGrowing t rs (now (offs .exit)) all r) ⌝ }
 {
     if here.left != index.due {
         return index;
@@ -91,9 +91,9 @@ pub fn enter(offs: &mut [u32], index: Index, all: usize, here: Rest) -> Index
 }
 
 // From where to look for a character: the last record of the index that is not above it, by halving; all records where there is none.
-fn indexed(table: &[u8], all: Rest, offs: &[u32; 256], n: usize, c: u32) -> Rest
+fn nearest_entry(table: &[u8], all: RecordRun, offs: &[u32; 256], n: usize, c: u32) -> RecordRun
     requires { ⌜ Whole (now table) (all .at) (all .left) × Indexed (now table) (recordsAt (all .left) (now table) (all .at)) (now offs) (all .left) n ⌝ }
-    ensures { λ r. ⌜ Ahead (now (table .entry)) (recordsAt (all .left) (now (table .entry)) (all .at)) c (r .at) (r .left) ⌝ }
+    ensures { λ r. ⌜ RecordsAhead (now (table .entry)) (recordsAt (all .left) (now (table .entry)) (all .at)) c (r .at) (r .left) ⌝ }
 {
     let stride = stride_of(all.left);
     let mut from = all;
@@ -103,7 +103,7 @@ fn indexed(table: &[u8], all: Rest, offs: &[u32; 256], n: usize, c: u32) -> Rest
         let mid = lo + (hi - lo) / 2;
         let at = wide(offs[mid]);
         if fields::u32_at(table, at) <= c {
-            from = Rest {
+            from = RecordRun {
                 at: at,
                 left: all.left - mid * stride,
             };
@@ -116,10 +116,10 @@ fn indexed(table: &[u8], all: Rest, offs: &[u32; 256], n: usize, c: u32) -> Rest
 }
 
 // The record of a character among all records, whose index has n entries.
-pub fn find_char(table: &[u8], all: Rest, offs: &[u32; 256], n: usize, c: u32) -> CharRecord
+pub fn find_char(table: &[u8], all: RecordRun, offs: &[u32; 256], n: usize, c: u32) -> CharRecord
     requires { ⌜ Whole (now table) (all .at) (all .left) × Indexed (now table) (recordsAt (all .left) (now table) (all .at)) (now offs) (all .left) n ⌝ }
     ensures { λ r. ⌜ FoundIs (now (table .entry)) (recordsAt (all .left) (now (table .entry)) (all .at)) c r ⌝ }
 {
-    let from = indexed(table, all, offs, n, c);
+    let from = nearest_entry(table, all, offs, n, c);
     find_from(table, from, c)
 }

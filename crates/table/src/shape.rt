@@ -1,7 +1,7 @@
 // What the check of a table answers (crate `table_check`): the table's shape, or a refusal.
 
 // What checking items gives: the offset behind them, or the refusal's number and offset.
-pub enum Items {
+pub enum ItemsCheck {
     End(usize),
     Refused(u8, usize),
 }

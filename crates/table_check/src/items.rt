@@ -8,74 +8,80 @@ ghost use Rattle.table.specs.Index.{IndexIf};
 ghost use Rattle.record_check.specs.Step.{StepIs};
 use record_check::plain::Plain;
 use record_check::plain::plain_at;
-use record_check::record::Step;
+use record_check::record::RecordCheck;
 use record_check::record::check_record;
 use record_check::texts::legal_mark;
 use table::index::Index;
-use table::index::Rest;
-use table::index::enter;
+use table::index::RecordRun;
+use table::index::index_record;
 use table::layout::TextAt;
 use table::layout::text_at;
-use table::shape::Items;
+use table::shape::ItemsCheck;
 
-fn mark_item(s: &[u8], at: usize) -> Items
+fn mark_item(s: &[u8], at: usize) -> ItemsCheck
     ensures { λ r. ⌜ r ≡ endOf (item at legalMark (text (now (s .entry)) at)) ⌝ }
 {
     match text_at(s, at) {
         TextAt::Text(p, next) => {
             if legal_mark(s, p) {
-                Items::End(next)
+                ItemsCheck::End(next)
             } else {
-                Items::Refused(5, at)
+                ItemsCheck::Refused(5, at)
             }
         }
-        TextAt::Fault => Items::Refused(4, at),
+        TextAt::Fault => ItemsCheck::Refused(4, at),
     }
 }
 
 // The strings of a list, n of them.
-fn texts_end(s: &[u8], from: usize, n: usize) -> Items
+fn texts_end(s: &[u8], from: usize, n: usize) -> ItemsCheck
     ensures { λ r. ⌜ r ≡ endOf (readTexts n (now (s .entry)) from) ⌝ }
 {
     let mut at = from;
     let mut left = n;
     while 0 < left {
         match mark_item(s, at) {
-            Items::End(next) => {
+            ItemsCheck::End(next) => {
                 at = next;
                 left -= 1;
             }
-            Items::Refused(number, place) => {
-                return Items::Refused(number, place);
+            ItemsCheck::Refused(number, place) => {
+                return ItemsCheck::Refused(number, place);
             }
         }
     }
-    Items::End(at)
+    ItemsCheck::End(at)
 }
 
 // A list: its count, then its strings.
-pub fn list_end(s: &[u8], at: usize) -> Items
+pub fn list_end(s: &[u8], at: usize) -> ItemsCheck
     ensures { λ r. ⌜ r ≡ endOf (readList (now (s .entry)) at) ⌝ }
 {
     if s.len() <= at {
-        return Items::Refused(4, at);
+        return ItemsCheck::Refused(4, at);
     }
     let n = s[at] as usize;
     texts_end(s, at + 1, n)
 }
 
 // A record. Most are told by few tests.
-fn record_item(s: &[u8], at: usize, least: u64) -> Step
+fn record_item(s: &[u8], at: usize, least: u64) -> RecordCheck
     ensures { λ r. ⌜ StepIs (now (s .entry)) at least r ⌝ }
 {
     match plain_at(s, at, least) {
-        Plain::Legal(code, next) => Step::Next(code, next),
+        Plain::Legal(code, next) => RecordCheck::Next(code, next),
         Plain::Other => check_record(s, at, least),
     }
 }
 
 // The records, n of them, their code points rising. Their index is made on the way, and how many entries it has.
-pub fn records_end(s: &[u8], from: usize, n: usize, offs: &mut [u32], entries: &mut usize) -> Items
+pub fn records_end(
+    s: &[u8],
+    from: usize,
+    n: usize,
+    offs: &mut [u32],
+    entries: &mut usize,
+) -> ItemsCheck
     requires { ⌜ length (now offs) ≡ 256 ⌝ }
     ensures { λ r. ⌜ r ≡ endOf (readRecords n 0 (now (s .entry)) from) ⌝ }
     ensures indexed { λ _. ⌜ IndexIf (now (s .entry)) from n (now (offs .exit)) (now (entries .exit)) ⌝ }
@@ -86,18 +92,18 @@ pub fn records_end(s: &[u8], from: usize, n: usize, offs: &mut [u32], entries: &
     let mut index = Index { n: 0, due: n };
     while 0 < left {
         match record_item(s, at, least) {
-            Step::Next(code, next) => {
-                index = enter(offs, index, n, Rest { at: at, left: left });
+            RecordCheck::Next(code, next) => {
+                index = index_record(offs, index, n, RecordRun { at: at, left: left });
                 at = next;
                 least = code as u64 + 1;
                 left -= 1;
             }
-            Step::Refused(number) => {
+            RecordCheck::Refused(number) => {
                 *entries = index.n;
-                return Items::Refused(number, at);
+                return ItemsCheck::Refused(number, at);
             }
         }
     }
     *entries = index.n;
-    Items::End(at)
+    ItemsCheck::End(at)
 }

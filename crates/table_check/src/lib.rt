@@ -1,5 +1,4 @@
-// Refusals 4 and 5: the check of a table, item by item.
-// The whole table: the first faulty item decides, its layout (4) before its content (5).
+// Refusals 4 and 5 of the whole table: the first faulty item decides, its layout (4) before its content (5).
 pub mod items; // items.rt: the strings of a list, and the records, whose index is made on the way
 
 ghost use mathlib.Core.Path.{_≡_};
@@ -8,7 +7,7 @@ ghost use Rattle.table.specs.Answers.{tableAnswer};
 ghost use Rattle.table_check.specs.Indexed.{TableIndexed};
 use crate::items::list_end;
 use crate::items::records_end;
-use table::shape::Items;
+use table::shape::ItemsCheck;
 use table::shape::Shape;
 use table::shape::TableCheck;
 
@@ -22,16 +21,22 @@ pub fn check_table(s: &[u8], offs: &mut [u32; 256], entries: &mut usize) -> Tabl
     }
     let count = fields::u16_at(s, 0) as usize;
     match list_end(s, 2) {
-        Items::Refused(number, at) => TableCheck::Refused(number, at),
-        Items::End(connectors) => match list_end(s, connectors) {
-            Items::Refused(number, at) => TableCheck::Refused(number, at),
-            Items::End(plus) => match list_end(s, plus) {
-                Items::Refused(number, at) => TableCheck::Refused(number, at),
-                Items::End(minus) => match list_end(s, minus) {
-                    Items::Refused(number, at) => TableCheck::Refused(number, at),
-                    Items::End(records) => match records_end(s, records, count, offs, entries) {
-                        Items::Refused(number, at) => TableCheck::Refused(number, at),
-                        Items::End(end) => {
+        ItemsCheck::Refused(number, at) => TableCheck::Refused(number, at),
+        ItemsCheck::End(connectors) => match list_end(s, connectors) {
+            ItemsCheck::Refused(number, at) => TableCheck::Refused(number, at),
+            ItemsCheck::End(plus) => match list_end(s, plus) {
+                ItemsCheck::Refused(number, at) => TableCheck::Refused(number, at),
+                ItemsCheck::End(minus) => match list_end(s, minus) {
+                    ItemsCheck::Refused(number, at) => TableCheck::Refused(number, at),
+                    ItemsCheck::End(records) => match records_end(
+                        s,
+                        records,
+                        count,
+                        offs,
+                        entries,
+                    ) {
+                        ItemsCheck::Refused(number, at) => TableCheck::Refused(number, at),
+                        ItemsCheck::End(end) => {
                             if end != s.len() {
                                 return TableCheck::Refused(4, end);
                             }

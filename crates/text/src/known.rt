@@ -13,14 +13,14 @@ pub struct Known {
     pub len: usize,
 }
 
-fn wide(x: u8) -> u32
+fn widen(x: u8) -> u32
     ensures { λ r. ⌜ r ≡ x ⌝ }
 {
     x as u32
 }
 
 // The code point so far with the six bits of a trailing byte behind it.
-fn six_more(c: u32, x: u8) -> u32
+fn append_six_bits(c: u32, x: u8) -> u32
     requires { ⌜ c < 32768 ⌝ }
     ensures { λ r. ⌜ r ≡ six c x ⌝ }
 {
@@ -32,21 +32,21 @@ fn two(s: &[u8], at: usize, lead: u32) -> u32
     requires { ⌜ (at + 1 < length (now s)) × (lead < 32) ⌝ }
     ensures { λ r. ⌜ r ≡ bits (now (s .entry)) at lead 1 ⌝ }
 {
-    six_more(lead, s[at + 1])
+    append_six_bits(lead, s[at + 1])
 }
 
 fn three(s: &[u8], at: usize, lead: u32) -> u32
     requires { ⌜ (at + 2 < length (now s)) × (lead < 16) ⌝ }
     ensures { λ r. ⌜ r ≡ bits (now (s .entry)) at lead 2 ⌝ }
 {
-    six_more(two(s, at, lead), s[at + 2])
+    append_six_bits(two(s, at, lead), s[at + 2])
 }
 
 fn four(s: &[u8], at: usize, lead: u32) -> u32
     requires { ⌜ (at + 3 < length (now s)) × (lead < 8) ⌝ }
     ensures { λ r. ⌜ r ≡ bits (now (s .entry)) at lead 3 ⌝ }
 {
-    six_more(three(s, at, lead), s[at + 3])
+    append_six_bits(three(s, at, lead), s[at + 3])
 }
 
 // The character that stands at an offset.
@@ -56,7 +56,7 @@ pub fn char_at(s: &[u8], at: Offset) -> Known
 {
     let at = at.0;
     let b = s[at];
-    let lead = wide(b);
+    let lead = widen(b);
     if b < 0x80 {
         return Known { code: lead, len: 1 };
     }

@@ -1,5 +1,4 @@
-// Text as bytes and as characters: UTF-8 by Unicode table 3-7, places and offsets, a line.
-// Text as bytes: equality of bytes, and the types of one UTF-8 sequence (`text::sequence`) and of what a line's functions answer (`text::line`, `text::check`).
+// Text as bytes and as characters: UTF-8 by Unicode table 3-7, places and offsets, a line. Here are the types of the modules' answers, and equality of bytes.
 pub mod lead_byte; // lead_byte.rt: the row of table 3-7 for a lead byte
 pub mod sequence; // sequence.rt: one sequence in any bytes
 pub mod known; // known.rt: a character of a text that is known to be well-formed

@@ -16,14 +16,14 @@ fn between(lo: u8, hi: u8, x: u8) -> bool
 }
 
 // The code point so far with the six bits of a trailing byte behind it.
-fn six_more(c: u32, x: u8) -> u32
+fn append_six_bits(c: u32, x: u8) -> u32
     requires { ⌜ c < 32768 ⌝ }
     ensures { λ r. ⌜ r ≡ six c x ⌝ }
 {
     c * 64 + (x % 64) as u32
 }
 
-fn wide(x: u8) -> u32
+fn widen(x: u8) -> u32
     ensures { λ r. ⌜ r ≡ x ⌝ }
 {
     x as u32
@@ -48,7 +48,7 @@ fn two(s: &[u8], at: usize, lead: u32, lo: u8, hi: u8) -> Seq
         return Seq::Ill;
     }
     let c = s[at + 1];
-    char_if(between(lo, hi, c), six_more(lead, c), 2)
+    char_if(between(lo, hi, c), append_six_bits(lead, c), 2)
 }
 
 fn three(s: &[u8], at: usize, lead: u32, lo: u8, hi: u8) -> Seq
@@ -61,7 +61,7 @@ fn three(s: &[u8], at: usize, lead: u32, lo: u8, hi: u8) -> Seq
     let c = s[at + 1];
     let d = s[at + 2];
     let good = between(lo, hi, c) & between(0x80, 0xBF, d);
-    char_if(good, six_more(six_more(lead, c), d), 3)
+    char_if(good, append_six_bits(append_six_bits(lead, c), d), 3)
 }
 
 fn four(s: &[u8], at: usize, lead: u32, lo: u8, hi: u8) -> Seq
@@ -75,7 +75,11 @@ fn four(s: &[u8], at: usize, lead: u32, lo: u8, hi: u8) -> Seq
     let d = s[at + 2];
     let e = s[at + 3];
     let good = between(lo, hi, c) & between(0x80, 0xBF, d) & between(0x80, 0xBF, e);
-    char_if(good, six_more(six_more(six_more(lead, c), d), e), 4)
+    char_if(
+        good,
+        append_six_bits(append_six_bits(append_six_bits(lead, c), d), e),
+        4,
+    )
 }
 
 // What stands at an offset.
@@ -89,7 +93,7 @@ pub fn seq_at(s: &[u8], at: Offset) -> Seq
     let b = s[at];
     let row = row_of(b);
     let len = row.0;
-    let lead = wide(b);
+    let lead = widen(b);
     match len {
         1 => Seq::Char(lead, 1),
         2 => two(s, at, lead % 32, row.1, row.2),

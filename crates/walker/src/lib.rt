@@ -1,4 +1,3 @@
-// A walk over a listing, edge by edge.
 // A walk over a listing, edge by edge from its front (01, "A form for each place"): a walker holds the listing and an offset.
 // Its functions are thin: the work is in the functions of `walker::steps`.
 pub mod steps; // steps.rt: its steps, by a slice and an offset

@@ -7,8 +7,8 @@ use native.Mathlib.Omega.{arith}
 use lib.Dec.{ltb}
 use lib.Ieee.{Float}
 use borrow.Author.Tests.{ltb-true, ltb-false}
-use Rattle.whole.specs.declared.Value.{Value}
-use Rattle.whole.specs.declared.Value.the-variants as Value
+use Rattle.whole.specs.declared.Bounded.{Bounded}
+use Rattle.whole.specs.declared.Bounded.the-variants as Bounded
 use Rattle.whole.specs.Whole.{TOP, ofNat}
 use Rattle.whole.specs.Answers.{value}
 
@@ -28,10 +28,10 @@ module _ {A : Type 0} (n : ℕ) (over under : A) {r : A} (answer : cond (ltb TOP
       go true g e = g refl
       go false g e = absurd (f e)
 
-pub value-fits : (n : ℕ) {x : Float} → value n ≡ Value.Fits x → (n ≤ TOP) × (x ≡ ofNat n)
+pub value-fits : (n : ℕ) {x : Float} → value n ≡ Bounded.Fits x → (n ≤ TOP) × (x ≡ ofNat n)
 value-fits n e =
-    let u = is-under n Value.Above (Value.Fits (ofNat n)) e (λ c. let z : _≡_ {A = ℕ} 0 1 = cc in omega arith) in
+    let u = is-under n Bounded.Above (Bounded.Fits (ofNat n)) e (λ c. let z : _≡_ {A = ℕ} 0 1 = cc in omega arith) in
     (u .0, cc (u .1))
 
-pub value-above : (n : ℕ) → value n ≡ Value.Above → TOP < n
-value-above n e = is-over n Value.Above (Value.Fits (ofNat n)) e (λ c. let z : _≡_ {A = ℕ} 0 1 = cc in omega arith)
+pub value-above : (n : ℕ) → value n ≡ Bounded.Above → TOP < n
+value-above n e = is-over n Bounded.Above (Bounded.Fits (ofNat n)) e (λ c. let z : _≡_ {A = ℕ} 0 1 = cc in omega arith)

@@ -4,9 +4,9 @@
 use mathlib.Core.Bool.{cond}
 use Prim.Native.Nat.{ℕ}
 use lib.Dec.{ltb}
-use Rattle.whole.specs.declared.Value.{Value}
-use Rattle.whole.specs.declared.Value.the-variants as Value
+use Rattle.whole.specs.declared.Bounded.{Bounded}
+use Rattle.whole.specs.declared.Bounded.the-variants as Bounded
 use Rattle.whole.specs.Whole.{TOP, ofNat}
 
-abbrev pub value : ℕ → Value
-value n = cond (ltb TOP n) Value.Above (Value.Fits (ofNat n))
+abbrev pub value : ℕ → Bounded
+value n = cond (ltb TOP n) Bounded.Above (Bounded.Fits (ofNat n))

@@ -8,10 +8,10 @@ fn show(n: u64) {
 
 fn show_product(a: f64, b: f64) {
     match whole::product(a, b) {
-        whole::Value::Fits(x) => {
-            show(whole::to_u64(x));
+        whole::Bounded::Fits(x) => {
+            show(whole::whole_part(x));
         }
-        whole::Value::Above => {
+        whole::Bounded::Above => {
             io::write_all(1, b"above\n");
         }
     }
@@ -19,10 +19,10 @@ fn show_product(a: f64, b: f64) {
 
 fn show_sum(a: f64, b: f64) {
     match whole::sum(a, b) {
-        whole::Value::Fits(x) => {
-            show(whole::to_u64(x));
+        whole::Bounded::Fits(x) => {
+            show(whole::whole_part(x));
         }
-        whole::Value::Above => {
+        whole::Bounded::Above => {
             io::write_all(1, b"above\n");
         }
     }
@@ -30,16 +30,16 @@ fn show_sum(a: f64, b: f64) {
 
 // The casts at their limits.
 fn casts() {
-    show(whole::to_u64(whole::f64_of(0)));
-    show(whole::to_u64(whole::f64_of(15000)));
-    show(whole::to_u64(whole::f64_of(9007199254740991)));
-    show(whole::to_u64(9007199254740991.0));
-    show(whole::to_u64(2.5));
-    show(whole::to_u64(-0.5));
-    show(whole::to_u64(-1.0));
-    show(whole::to_u64(18446744073709549568.0));
-    show(whole::to_u64(18446744073709551616.0));
-    show(whole::to_u64(0.0 / 0.0));
+    show(whole::whole_part(whole::exact_f64(0)));
+    show(whole::whole_part(whole::exact_f64(15000)));
+    show(whole::whole_part(whole::exact_f64(9007199254740991)));
+    show(whole::whole_part(9007199254740991.0));
+    show(whole::whole_part(2.5));
+    show(whole::whole_part(-0.5));
+    show(whole::whole_part(-1.0));
+    show(whole::whole_part(18446744073709549568.0));
+    show(whole::whole_part(18446744073709551616.0));
+    show(whole::whole_part(0.0 / 0.0));
 }
 
 fn texts() {

@@ -4,9 +4,9 @@ use mathlib.Core.Path.{_≡_, subst}
 use native.Mathlib.Omega.{arith}
 use lib.ListN.{length, length-replicate}
 use Prim.Native.Nat.{ℕ}
-use Rattle.call.specs.declared.checks.Lent.{Lent}
+use Rattle.call.specs.declared.checks.CallCheck.{CallCheck}
 use Rattle.table_check.specs.Indexed.{RecordIndex}
-use Rattle.call.specs.Checks.{Sound, LentIs, LentIndexed}
+use Rattle.call.specs.Checks.{Accepted, LentIs, LentIndexed}
 use Rattle.call.proofs.AnswerLaws.{answer-short, answer-refused, answer-sound}
 use Rattle.call.proofs.add_numbers.Statement.{statement}
 use Rattle.call.proofs.add_numbers.Tie as tie
@@ -15,11 +15,11 @@ abbrev start : tie.After-check → tie.Start
 start k = k .before .before .before .before .before .before .before .before .before
 
 -- what the checks found
-found : (k : tie.After-check) (r : Lent) → k .check .result ≡ r → LentIs (start k .args .line .now) (start k .args .table .now) (start k .args .edges .now) r
+found : (k : tie.After-check) (r : CallCheck) → k .check .result ≡ r → LentIs (start k .args .line .now) (start k .args .table .now) (start k .args .edges .now) r
 found k r e = subst (LentIs (start k .args .line .now) (start k .args .table .now) (start k .args .edges .now)) e (k .check .ensures .0)
 
 sound : (n : tie.After-n) → let s = start (n .before .before) .args in
-    Sound (s .line .now) (s .table .now) (s .edges .now) (n .n .given .0 .0) (n .n .given .0 .1 .0) (n .n .given .0 .1 .1 .0)
+    Accepted (s .line .now) (s .table .now) (s .edges .now) (n .n .given .0 .0) (n .n .given .0 .1 .0) (n .n .given .0 .1 .1 .0)
 unfolding LentIs
 sound n = found (n .before .before) _ (n .n .given .1)
 

@@ -14,9 +14,9 @@ use Rattle.edge.specs.Edge.{Edge}
 use Rattle.edge.specs.Layout.{listed}
 use Rattle.lattice.specs.Kept.{Holds}
 use Rattle.numbers.specs.CallEdge.{CallEdges}
-use Rattle.pass_edge.proofs.theorems.Theorems.{items-call}
+use Rattle.pass_edge.proofs.theorems.Theorems.{stored-edges-call}
 use Rattle.first_stages.specs.Five.{listedStored, behind}
-use Rattle.first_stages.specs.declared.five_passes.Passes.{Passes}
+use Rattle.first_stages.specs.declared.five_passes.PassesAnswer.{PassesAnswer}
 use Rattle.numbers.specs.Call.{afterPasses, latticeOf}
 use Rattle.call.specs.Rest.{restOf}
 use Rattle.call.proofs.last_stages.RestLaws.{rest-is}
@@ -25,7 +25,7 @@ use Rattle.call.proofs.AnswerLaws.{answer-above, answer-below}
 use Rattle.call.proofs.checked_call.Statement.{statement}
 use Rattle.call.proofs.checked_call.Tie as tie
 
-abbrev start : tie.After-passed → tie.Start
+abbrev start : tie.After-run-first-stages → tie.Start
 start p = p .before .before .before .before .before .before .before
 
 abbrev T : tie.Start → Table
@@ -35,11 +35,11 @@ abbrev of-call : tie.After-run-last-stages → tie.After-m
 of-call a = a .before .before .before
 
 -- what the passes answered
-answered : (p : tie.After-passed) (r : Passes) → p .passed .result ≡ r → CallPassed (start p .args .line .now) (start p .args .table .now) (start p .args .h) (start p .args .edges .now) (p .passed .last .0) r
-answered p r e = subst (CallPassed (start p .args .line .now) (start p .args .table .now) (start p .args .h) (start p .args .edges .now) (p .passed .last .0)) e (p .passed .ensures)
+answered : (p : tie.After-run-first-stages) (r : PassesAnswer) → p .run-first-stages .result ≡ r → CallPassed (start p .args .line .now) (start p .args .table .now) (start p .args .h) (start p .args .edges .now) (p .run-first-stages .last .0) r
+answered p r e = subst (CallPassed (start p .args .line .now) (start p .args .table .now) (start p .args .h) (start p .args .edges .now) (p .run-first-stages .last .0)) e (p .run-first-stages .ensures)
 
 done : (m : tie.After-m) → let p = m .before .before .before .before in
-    CallDone (start p .args .line .now) (start p .args .table .now) (start p .args .h) (start p .args .edges .now) (p .passed .last .0) (m .m .given .0 .0) (m .m .given .0 .1 .0)
+    CallDone (start p .args .line .now) (start p .args .table .now) (start p .args .h) (start p .args .edges .now) (p .run-first-stages .last .0) (m .m .given .0 .0) (m .m .given .0 .1 .0)
 unfolding CallPassed
 done m = answered (m .before .before .before .before) _ (m .m .given .1)
 
@@ -61,8 +61,8 @@ final a =
     (ap (λ (fs : List NumEdge). restOf (T s) (chars (s .args .line .now)) fs es) (d .fifth) ∙ rest-is (T s) (chars (s .args .line .now)) (listed (s .args .edges .now)))
     (a .run-last-stages .ensures es (d .holds) (in-line m es (d .call)))
 
-passed-requires : tie.Need-passed-requires
-passed-requires c κs = let s = c .before .before .before .before .before .before in (s .pre .0, s .pre .1, (s .args .n, s .pre .2 .ready, s .pre .2 .edges), s .pre .3)
+run-first-stages-requires : tie.Need-run-first-stages-requires
+run-first-stages-requires c κs = let s = c .before .before .before .before .before .before in (s .pre .0, s .pre .1, (s .args .n, s .pre .2 .ready, s .pre .2 .edges), s .pre .3)
 
 enum-known-p : tie.Need-enum-known-p
 enum-known-p c = search needs
@@ -74,7 +74,7 @@ run-last-stages-requires : tie.Need-run-last-stages-requires
 run-last-stages-requires c κs = let m = c .before .before in
     let s = start (m .before .before .before .before) in
     let d = done m in
-    (s .pre .2 .ready, (_, d .holds, in-line m _ (d .call)), s .pre .0, d .sounds, in-line m _ (items-call _ _ (chars-scalars _) (few m) _ (d .sounds)), omega (arith, d .few, m .before .before .before .before .passed .kept .0, s .pre .1))
+    (s .pre .2 .ready, (_, d .holds, in-line m _ (d .call)), s .pre .0, d .sounds, in-line m _ (stored-edges-call _ _ (chars-scalars _) (few m) _ (d .sounds)), omega (arith, d .few, m .before .before .before .before .run-first-stages .kept .0, s .pre .1))
 
 finish-call-requires : tie.Need-finish-call-requires
 finish-call-requires c κs = (_, final (c .before .before .before .before))
@@ -103,7 +103,7 @@ pub checked-call-spec : {M : Type 1} → statement M
 checked-call-spec =
     tie.close
     (tie.spec
-    passed-requires
+    run-first-stages-requires
     enum-known-p
     enum-known-m
     run-last-stages-requires

@@ -26,13 +26,13 @@ use Rattle.edge.specs.Layout.{listed}
 use Rattle.edge.specs.declared.ListingCheck.{ListingCheck}
 use Rattle.edge.specs.declared.ListingCheck.the-variants as ListingCheck
 use Rattle.numbers.specs.Ready.{Ready}
-use Rattle.numbers.specs.Call.{Answer, refused, withAll, withGiven, withTable, withLine}
+use Rattle.numbers.specs.Call.{Answer, refused, afterChecks, afterEdgesCheck, afterTableCheck, afterLineCheck}
 use Rattle.answers.specs.declared.Refusal.{Refusal}
 use Rattle.answers.specs.declared.Refusal.the-variants.{NotUtf8, OverLong, BadTable, BadContent, BadEdges}
-use Rattle.call.specs.declared.checks.Lent.{Lent}
-use Rattle.call.specs.declared.checks.Lent.the-variants as Lent
+use Rattle.call.specs.declared.checks.CallCheck.{CallCheck}
+use Rattle.call.specs.declared.checks.CallCheck.the-variants as CallCheck
 use Rattle.answers.specs.Answers as Answers
-use Rattle.call.specs.Checks.{tableRefusal, Sound, LentIs, RestIs}
+use Rattle.call.specs.Checks.{tableRefusal, Accepted, LentIs, RestIs}
 
 -- ---- a table is refused by 4 or by 5
 abbrev Numbered : {A : Type 0} → Checked A → Type 0
@@ -87,7 +87,7 @@ says n at (inl e) = rw e
 says n at (inr e) = rw e
 
 module _ (n : ℕ) (table given : List ℕ) where
-  pub rest-table : {k at : ℕ} {c : TableCheck} {r : Refusal} → tableAnswer table c ≡ readTable table → c ≡ TableCheck.Refused k at → r ≡ tableRefusal k at → RestIs n table given (Lent.Refused r)
+  pub rest-table : {k at : ℕ} {c : TableCheck} {r : Refusal} → tableAnswer table c ≡ readTable table → c ≡ TableCheck.Refused k at → r ≡ tableRefusal k at → RestIs n table given (CallCheck.Refused r)
   unfolding RestIs
   rest-table {k} {at} e f g =
       let t : readTable table ≡ Refused k at = sym e ∙ ap (tableAnswer table) f in
@@ -97,11 +97,11 @@ module _ (n : ℕ) (table given : List ℕ) where
     read : readTable table ≡ Fine (tableOf table h) (length table)
     read = sym e ∙ ap (tableAnswer table) f
 
-    pub rest-edges : {at : _} {l : ListingCheck} → l ≡ checkListing true n given → l ≡ ListingCheck.Refused at → RestIs n table given (Lent.Refused (BadEdges at))
+    pub rest-edges : {at : _} {l : ListingCheck} → l ≡ checkListing true n given → l ≡ ListingCheck.Refused at → RestIs n table given (CallCheck.Refused (BadEdges at))
     unfolding RestIs
     rest-edges p q = λ w i out. rw (read, i, sym p ∙ q)
 
-    pub rest-sound : {k : ℕ} {l : ListingCheck} → l ≡ checkListing true n given → l ≡ ListingCheck.Edges k → RestIs n table given (Lent.Sound n h k)
+    pub rest-sound : {k : ℕ} {l : ListingCheck} → l ≡ checkListing true n given → l ≡ ListingCheck.Edges k → RestIs n table given (CallCheck.Accepted n h k)
     unfolding RestIs
     rest-sound p q = (refl, read, sym p ∙ q)
 
@@ -117,23 +117,23 @@ line-facts line n =
     P r = r ≡ Chars n → (n ≡ length (chars line)) × (n ≤ 256) × (wellFormed line ≡ true)
 
 module _ (line table given : List ℕ) {c : LineCheck} (e : c ≡ lineCheck line) where
-  pub lent-ill : {at : _} → c ≡ IllFormed at → LentIs line table given (Lent.Refused (NotUtf8 at))
+  pub lent-ill : {at : _} → c ≡ IllFormed at → LentIs line table given (CallCheck.Refused (NotUtf8 at))
   unfolding LentIs
   lent-ill f = λ out. rw (sym e ∙ f)
 
-  pub lent-long : {at : _} → c ≡ TooLong at → LentIs line table given (Lent.Refused (OverLong at))
+  pub lent-long : {at : _} → c ≡ TooLong at → LentIs line table given (CallCheck.Refused (OverLong at))
   unfolding LentIs
   lent-long f = λ out. rw (sym e ∙ f)
 
-  pub lent-chars : {n : ℕ} → c ≡ Chars n → (r : Lent) → RestIs n table given r → LentIs line table given r
+  pub lent-chars : {n : ℕ} → c ≡ Chars n → (r : CallCheck) → RestIs n table given r → LentIs line table given r
   unfolding LentIs RestIs
-  lent-chars {n} f (Lent.Sound m h k) q =
+  lent-chars {n} f (CallCheck.Accepted m h k) q =
       let l = line-facts line n (sym e ∙ f) in
       rw (q .0) (record { ready = record { formed = l .2; count = sym (l .0); few = l .1; checked = q .1 }; edges = q .2 })
-  lent-chars {n} f (Lent.Refused r) q = λ out. rw (sym e ∙ f) (q (chars line) (sym (line-facts line n (sym e ∙ f) .0)) out)
+  lent-chars {n} f (CallCheck.Refused r) q = λ out. rw (sym e ∙ f) (q (chars line) (sym (line-facts line n (sym e ∙ f) .0)) out)
 
 -- ---- what is sound is answered by the stages
-pub sound-answer : {line table given : List ℕ} {n : ℕ} {h : Shape} {k : ℕ} → Sound line table given n h k → (out : ℕ) → withLine line table given out (lineCheck line) ≡ withAll (tableOf table h) (chars line) out (listed given)
+pub sound-answer : {line table given : List ℕ} {n : ℕ} {h : Shape} {k : ℕ} → Accepted line table given n h k → (out : ℕ) → afterLineCheck line table given out (lineCheck line) ≡ afterChecks (tableOf table h) (chars line) out (listed given)
 sound-answer {line} {table} {given} {n} {h} {k} s out =
     let r = s .ready in
     let l : lineCheck line ≡ Chars n = rw (r .formed, r .count, le-leb n maxChars (r .few)) in

@@ -9,7 +9,7 @@ use Rattle.text.specs.Text.{chars}
 use Rattle.table.specs.Table.{Text}
 use Rattle.pass_list.specs.declared.record.PassEdge.{PassEdge}
 use Rattle.pass_list.specs.StoredEdge.{StoredEdge}
-use Rattle.pass_edge.specs.Sound.{LegalAt, StoredIs}
+use Rattle.pass_edge.specs.Grounded.{LegalAt, StoredIs}
 use Rattle.pass_edge.specs.Texts.{charTxt, charType, TextsAre}
 use Rattle.pass_edge.specs.Fields.{storedFraction}
 use Rattle.pass_edge.proofs.RecordLaws.{fraction-absent}
@@ -24,4 +24,4 @@ module _ (line t : List ℕ) (e : PassEdge) (z : e .kind ≡ 0) where
   char-fraction = ap (λ (k : ℕ). storedFraction t k (e .«record_at» .0)) (sym z)
 
   pub char-texts : {ty tx : Text} → ty ≡ charType t (e .«record_at» .0) → tx ≡ charTxt (chars line) t (e .«record_at» .0) (e .start .0) (e .end .0) → (x : StoredEdge) → StoredIs line t e x → TextsAre line t e ty tx x
-  char-texts a b x h = record { item = h; type = a ∙ type-char (chars line) t e x (h .is) z; txt = b ∙ txt-char (chars line) t e x (h .is) z }
+  char-texts a b x h = record { stored-edge = h; type = a ∙ type-char (chars line) t e x (h .is) z; txt = b ∙ txt-char (chars line) t e x (h .is) z }

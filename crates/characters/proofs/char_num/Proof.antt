@@ -7,16 +7,16 @@ use Rattle.characters.proofs.char_num.Tie as tie
 number-if-requires : tie.Need-number-if-requires
 number-if-requires c κs = search needs
 
-f64-of-requires : tie.Need-f64-of-requires
+exact-f64-requires : tie.Need-exact-f64-requires
 unfolding charStored
-f64-of-requires c κs = rw (c .number-if .ensures) (c .before .before .before .before .before .before .before .before .before .pre .1 .value)
+exact-f64-requires c κs = rw (c .number-if .ensures) (c .before .before .before .before .before .before .before .before .before .pre .1 .value)
 
 number-if-requires-2 : tie.Need-number-if-requires-2
 number-if-requires-2 c κs = search needs
 
-f64-of-requires-2 : tie.Need-f64-of-requires-2
+exact-f64-requires-2 : tie.Need-exact-f64-requires-2
 unfolding charStored
-f64-of-requires-2 c κs = rw (c .number-if2 .ensures) (c .before .before .before .before .before .before .before .before .before .before .before .pre .1 .mult)
+exact-f64-requires-2 c κs = rw (c .number-if2 .ensures) (c .before .before .before .before .before .before .before .before .before .before .before .pre .1 .mult)
 
 number-if-requires-3 : tie.Need-number-if-requires-3
 number-if-requires-3 c κs = search needs
@@ -32,9 +32,9 @@ unfolding charStored
 returns c =
     let value = c .before .before .before .before .before .before in
     rw (
-      value .f64-of .ensures,
+      value .exact-f64 .ensures,
       value .before .number-if .ensures,
-      c .before .before .before .before .f64-of2 .ensures,
+      c .before .before .before .before .exact-f642 .ensures,
       c .before .before .before .before .before .number-if2 .ensures,
       c .before .before .before .number-if3 .ensures,
       c .before .is-digit-type .ensures,
@@ -46,9 +46,9 @@ char-num-spec =
     tie.close
     (tie.spec
     number-if-requires
-    f64-of-requires
+    exact-f64-requires
     number-if-requires-2
-    f64-of-requires-2
+    exact-f64-requires-2
     number-if-requires-3
     is-digit-type-requires
     is-cjk-requires

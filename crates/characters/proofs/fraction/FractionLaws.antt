@@ -12,7 +12,7 @@ use Rattle.table.specs.Check.{allOf, small, positive, legalRatio, legalNumbers}
 use Rattle.table.specs.Answers.{optionally, recordOf}
 use Rattle.table.specs.declared.layout.NumProp.{NumProp}
 use Rattle.passes.specs.Characters.{lowest}
-use Rattle.pass_edge.specs.Sound.{LegalAt}
+use Rattle.pass_edge.specs.Grounded.{LegalAt}
 use Rattle.pass_edge.specs.Fields.{storedFraction, recordFraction}
 
 module _ (p : NumProp) where

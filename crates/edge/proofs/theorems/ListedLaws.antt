@@ -1,5 +1,5 @@
 -- What is read is what was listed: the bytes of an accepted listing are those of its edges.
--- In order: items in a row; numbers and strings; a field that may be absent; the fields of a numeric edge; an edge; a listing.
+-- In order: fields in a row; numbers and strings; a field that may be absent; the fields of a numeric edge; an edge; a listing.
 use mathlib.Core.Path.{_≡_, refl, sym, ap, _∙_}
 use mathlib.Core.Bool.{Bool, true, false, cond, _&&_, true≢false}
 use mathlib.Core.List.{List, [], _∷_, _++_}
@@ -22,7 +22,7 @@ use Rattle.edge.proofs.LayoutLaws.{within, string-end-ge}
 use Rattle.edge.proofs.CheckLaws.{fields-say, head-within, fields-within, good-whole}
 use Rattle.edge.proofs.WriteLaws.{map-is}
 
--- ---- items in a row: the bytes of s from a to b are bs
+-- ---- fields in a row: the bytes of s from a to b are bs
 pub record Run (s : List ℕ) (a b : ℕ) (bs : List ℕ) : Type 0 where
   pub width : ℕ
   pub ends : b ≡ a + width

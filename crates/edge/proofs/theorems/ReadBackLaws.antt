@@ -1,5 +1,5 @@
 -- What was written is read: an edge that stands in a list of bytes is the edge that is read there, and ends where it is said to end.
--- In order: items in a row; a field that may be absent; the bits of a map; the fields of a numeric edge; an edge.
+-- In order: fields in a row; a field that may be absent; the bits of a map; the fields of a numeric edge; an edge.
 use mathlib.Core.Path.{_≡_, refl, sym, ap, _∙_}
 use mathlib.Core.Bool.{Bool, true, false}
 use mathlib.Core.Option.{Option, none, some}
@@ -17,7 +17,7 @@ use Rattle.edge.specs.Edge.{Text, Numeric, Edge, there, flag, numericMap
 use Rattle.edge.specs.Layout.{bit, stands, only, mapAt, textAt, stringEnd, stringEndIf, txtAt, headEnd, fractionAt, baseAt, multAt, scriptAt, valueSAt, fieldsEnd, nextAt, numericAt, edgeAt}
 use Rattle.edge.proofs.WriteLaws.{length-str, length-head}
 
--- ---- items in a row
+-- ---- fields in a row
 pub behind : (s : List ℕ) (at : ℕ) (a b : List ℕ) → drop at s ≡ a ++ b → drop (at + length a) s ≡ b
 behind s at a b e = sym (drop-drop (length a) at s) ∙ ap (drop (length a)) e ∙ drop-append-seam a b
 

@@ -1,5 +1,5 @@
--- Laws of a loop over the line's characters that stores their items behind the lattice and adds their edges (`specs/Stages.antt`). No contract cites this file.
--- In order: an item stored behind the lattice; no character; one character more, without and with a record. Assumes nothing.
+-- Laws of a loop over the line's characters that stores their stored edges behind the lattice and adds their edges (`specs/Stages.antt`). No contract cites this file.
+-- In order: a stored edge stored behind the lattice; no character; one character more, without and with a record. Assumes nothing.
 use mathlib.Core.Path.{_≡_, refl, sym, ap, _∙_, subst}
 use mathlib.Core.List.{List, [], _∷_, _++_}
 use mathlib.Core.Option.{none}
@@ -12,11 +12,11 @@ use Rattle.text.proofs.TextLaws.{chars-scalars}
 use Rattle.table.specs.Table.{Record, find}
 use Rattle.table.specs.declared.layout.NumProp.{NumProp}
 use Rattle.table.specs.Index.{FoundAt}
-use Rattle.table.specs.declared.index.Rest.{Rest}
+use Rattle.table.specs.declared.index.RecordRun.{RecordRun}
 use Rattle.pass_list.specs.StoredEdge.{StoredEdge, Fits}
 use Rattle.pass_list.specs.Edges.{edgeOf}
 use Rattle.pass_list.specs.Stored.{recordBytes, storedListAt}
-use Rattle.pass_list.proofs.StoredLaws.{items-put}
+use Rattle.pass_list.proofs.StoredLaws.{stored-edges-put}
 use Rattle.edge.specs.Edge.{Edge}
 use Rattle.lattice.specs.declared.Lattice.{Lattice}
 use Rattle.lattice.specs.Lattice.{add, addAll}
@@ -29,10 +29,10 @@ use Rattle.characters.proofs.InitialLaws.{so-far-none, so-far-skip, so-far-more
 use Rattle.first_stages.specs.Five.{listedStored, behind}
 use Rattle.first_stages.proofs.five_passes.FrontLaws.{holds-front}
 use Rattle.first_stages.proofs.five_passes.FiveLaws.{listed-append}
-use Rattle.first_stages.specs.declared.chars.First.{First}
+use Rattle.first_stages.specs.declared.chars.CharsAnswer.{CharsAnswer}
 use Rattle.first_stages.specs.CharStage.{Adding}
 
--- ---- an item stored behind the lattice
+-- ---- a stored edge stored behind the lattice
 front-sets : (k : ℕ) (s : List ℕ) (i : ℕ) (bs : List ℕ) → k ≤ i → take k (sets s i bs) ≡ take k s
 front-sets k s i [] h = refl
 front-sets k s i (b ∷ bs) h = front-sets k (set s i b) (suc i) bs (omega arith) ∙ take-set-le k s i b h
@@ -51,7 +51,7 @@ module _ (s v : List ℕ) (n : ℕ) (x : StoredEdge) (stored : v ≡ sets s (394
   pub stored-behind : (u : List ℕ) → Fits x → 39424 + n * 56 + 56 ≤ length s → drop 39424 u ≡ drop 39424 v → behind u (n + 1) ≡ behind s n ++ (x ∷ [])
   stored-behind u fits room frame =
       ap (λ (b : List ℕ). storedListAt b 0 (n + 1)) (frame ∙ ap (drop 39424) stored ∙ behind-sets 39424 s (n * 56) (recordBytes x))
-      ∙ items-put (drop 39424 s) n x fits (omega (arith, length-drop 39424 s))
+      ∙ stored-edges-put (drop 39424 s) n x fits (omega (arith, length-drop 39424 s))
 
 -- ---- no character
 pub adding-none : (line t : List ℕ) (rs : List Record) (s : List ℕ) (l : Lattice) → Adding line t rs 0 s l s (record { lattice = l; count = 0 })
@@ -63,7 +63,7 @@ one-more : (w t : List ℕ) (es : List Edge) (xs : List StoredEdge) (x : StoredE
 unfolding addAll
 one-more w t es xs x = sym (ap (addAll es) (listed-append w t xs (x ∷ [])) ∙ add-all-append es (listedStored w t xs) (listedStored w t (x ∷ [])))
 
-module _ (line t : List ℕ) (all : Rest) (ok : Records t all) (k c : ℕ) (inside : k < length (chars line)) (here : getD (chars line) k 0 ≡ c) (s : List ℕ) (l : Lattice) (u : List ℕ) (f : First)
+module _ (line t : List ℕ) (all : RecordRun) (ok : Records t all) (k c : ℕ) (inside : k < length (chars line)) (here : getD (chars line) k 0 ≡ c) (s : List ℕ) (l : Lattice) (u : List ℕ) (f : CharsAnswer)
     (a : Adding line t (recordsIn t all) k s l u f) where
   pub adding-skip : find (recordsIn t all) c ≡ none → Adding line t (recordsIn t all) (k + 1) s l u f
   adding-skip e = record { so-far = so-far-skip t all ok (chars line) (chars-scalars line) k c inside here (f .count) (drop 39424 u) (a .so-far) e; holds = a .holds }

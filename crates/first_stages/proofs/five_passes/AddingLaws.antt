@@ -1,4 +1,4 @@
--- Laws of adding the items of one kind in turn. In order: an item behind the lattice; each item of a list; one item; one item more.
+-- Laws of adding the stored edges of one kind in turn. In order: a stored edge behind the lattice; each stored edge of a list; one stored edge; one stored edge more.
 use mathlib.Core.Path.{_≡_, refl, sym, ap, _∙_, subst}
 use mathlib.Core.Bool.{Bool, true, false, cond}
 use mathlib.Core.List.{List, [], _∷_, _++_, map, map-append}
@@ -16,7 +16,7 @@ use Rattle.pass_list.specs.declared.record.PassEdge.{PassEdge}
 use Rattle.pass_list.specs.StoredEdge.{StoredEdge, Every, cons, EdgeIs}
 use Rattle.pass_list.specs.Stored.{storedOf, storedAt, storedListAt}
 use Rattle.pass_list.specs.Edges.{edgeOf}
-use Rattle.pass_list.proofs.StoredLaws.{items-snoc}
+use Rattle.pass_list.proofs.StoredLaws.{stored-edges-snoc}
 use Rattle.pass_list.specs.InTurn.{ofKind}
 use Rattle.edge.specs.Edge.{Edge}
 use Rattle.lattice.specs.Lattice.{add, addAll}
@@ -24,33 +24,33 @@ use Rattle.lattice.specs.declared.Lattice.{Lattice}
 use Rattle.lattice.specs.Kept.{Holds}
 use Rattle.lattice.proofs.HoldsLaws.{add-all-append}
 use Rattle.numbers.specs.Listed.{listedEdge}
-use Rattle.pass_edge.specs.Sound.{Sound, StoredIs}
-use Rattle.pass_edge.specs.Adding.{Adds, kindEdges, addIf}
+use Rattle.pass_edge.specs.Grounded.{Grounded, StoredIs}
+use Rattle.pass_edge.specs.Adding.{Added, kindEdges, addIf}
 
--- ---- an item behind the lattice
-pub item-behind-is : (w : List ℕ) (at : ℕ) → storedAt w (39424 + at) ≡ storedAt (drop 39424 w) at
+-- ---- a stored edge behind the lattice
+pub stored-edge-behind-is : (w : List ℕ) (at : ℕ) → storedAt w (39424 + at) ≡ storedAt (drop 39424 w) at
 unfolding storedAt
-item-behind-is w at = ap storedOf (sym (part-of-drop w 39424 at 56))
+stored-edge-behind-is w at = ap storedOf (sym (part-of-drop w 39424 at 56))
 
-pub item-behind : (line t : List ℕ) (w : List ℕ) (at : ℕ) (e : PassEdge) → Sound (chars line) t (storedAt (drop 39424 w) at) → EdgeIs e (storedAt w (39424 + at)) → StoredIs line t e (storedAt (drop 39424 w) at)
-item-behind line t w at e s h = record { is = subst (EdgeIs e) (item-behind-is w at) h; sound = s }
+pub stored-edge-behind : (line t : List ℕ) (w : List ℕ) (at : ℕ) (e : PassEdge) → Grounded (chars line) t (storedAt (drop 39424 w) at) → EdgeIs e (storedAt w (39424 + at)) → StoredIs line t e (storedAt (drop 39424 w) at)
+stored-edge-behind line t w at e s h = record { is = subst (EdgeIs e) (stored-edge-behind-is w at) h; sound = s }
 
 -- its kind can be read alone
 pub kind-behind : (w : List ℕ) (at : ℕ) → leAt w (39424 + at + 4) 2 ≡ storedAt (drop 39424 w) at .kind
 unfolding storedAt storedOf
-kind-behind w at = sym (leAt-of-part w (39424 + at) 56 4 2 (omega arith)) ∙ ap (λ (x : StoredEdge). x .kind) (item-behind-is w at)
+kind-behind w at = sym (leAt-of-part w (39424 + at) 56 4 2 (omega arith)) ∙ ap (λ (x : StoredEdge). x .kind) (stored-edge-behind-is w at)
 
--- ---- each item of a list
-every-items : (P : StoredEdge → Type 0) (s : List ℕ) (i n j : ℕ) → Every P (storedListAt s i n) → j < n → P (storedAt s ((i + j) * 56))
+-- ---- each stored edge of a list
+every-stored-edges : (P : StoredEdge → Type 0) (s : List ℕ) (i n j : ℕ) → Every P (storedListAt s i n) → j < n → P (storedAt s ((i + j) * 56))
 unfolding storedListAt
-every-items P s i zero j e h = absurd (omega arith)
-every-items P s i (suc n) zero (cons p e) h = let z : i + 0 ≡ i = omega arith in rw z p
-every-items P s i (suc n) (suc j) (cons p e) h = let z : i + suc j ≡ suc i + j = omega arith in rw z (every-items P s (suc i) n j e (omega arith))
+every-stored-edges P s i zero j e h = absurd (omega arith)
+every-stored-edges P s i (suc n) zero (cons p e) h = let z : i + 0 ≡ i = omega arith in rw z p
+every-stored-edges P s i (suc n) (suc j) (cons p e) h = let z : i + suc j ≡ suc i + j = omega arith in rw z (every-stored-edges P s (suc i) n j e (omega arith))
 
-pub item-of : (P : StoredEdge → Type 0) (s : List ℕ) (n j : ℕ) → Every P (storedListAt s 0 n) → j < n → P (storedAt s (j * 56))
-item-of P s n j e h = rw zero-add at (every-items P s 0 n j e h)
+pub stored-edge-of : (P : StoredEdge → Type 0) (s : List ℕ) (n j : ℕ) → Every P (storedListAt s 0 n) → j < n → P (storedAt s (j * 56))
+stored-edge-of P s n j e h = rw zero-add at (every-stored-edges P s 0 n j e h)
 
--- ---- one item
+-- ---- one stored edge
 module _ (w t : List ℕ) (k : ℕ) (es : List Edge) (x : StoredEdge) where
   adds : x .kind ≡ k → add es (listedEdge (edgeOf w t x)) ≡ addIf w t k es x
   unfolding addIf
@@ -60,12 +60,12 @@ module _ (w t : List ℕ) (k : ℕ) (es : List Edge) (x : StoredEdge) where
   unfolding addIf
   passes-over h = rw (ne-eqb (x .kind) k h)
 
--- the item x is of kind k, and was added
-pub added-if : (line t : List ℕ) (k : ℕ) (e : PassEdge) (x : StoredEdge) → StoredIs line t e x → x .kind ≡ k → {s u : List ℕ} {l r : Lattice} → Adds line t e s l u r → (es : List Edge) → Holds s l es
+-- the stored edge x is of kind k, and was added
+pub added-if : (line t : List ℕ) (k : ℕ) (e : PassEdge) (x : StoredEdge) → StoredIs line t e x → x .kind ≡ k → {s u : List ℕ} {l r : Lattice} → Added line t e s l u r → (es : List Edge) → Holds s l es
     → Holds u r (addIf (chars line) t k es x)
 added-if line t k e x is z a es h = rw (← adds (chars line) t k es x z) (a .holds es x h is)
 
--- ---- one item more
+-- ---- one stored edge more
 of-kind-append : (k : ℕ) (l m : List StoredEdge) → ofKind k (l ++ m) ≡ ofKind k l ++ ofKind k m
 unfolding ofKind
 of-kind-append k [] m = refl
@@ -94,7 +94,7 @@ module _ (w t : List ℕ) (k : ℕ) (es : List Edge) where
   add-more s i =
       let z : 0 + i ≡ i = omega arith in
       let x = storedAt s ((0 + i) * 56) in
-      ap (λ (l : List StoredEdge). addAll es (kindEdges w t k l)) (items-snoc s 0 i)
+      ap (λ (l : List StoredEdge). addAll es (kindEdges w t k l)) (stored-edges-snoc s 0 i)
       ∙ ap (addAll es) (edges-append (storedListAt s 0 i) (x ∷ []))
       ∙ add-all-append es (kindEdges w t k (storedListAt s 0 i)) (kindEdges w t k (x ∷ []))
       ∙ one-edge (addAll es (kindEdges w t k (storedListAt s 0 i))) x
@@ -104,7 +104,7 @@ module _ (w t : List ℕ) (k : ℕ) (es : List Edge) where
   unfolding storedListAt ofKind addAll
   add-none s = refl
 
--- ---- the loop: i items are looked at; s and l are the work space and the lattice before, u and r those now
+-- ---- the loop: i stored edges are looked at; s and l are the work space and the lattice before, u and r those now
 pub record Adding (w t : List ℕ) (k n : ℕ) (s : List ℕ) (l : Lattice) (u : List ℕ) (r : Lattice) (i : ℕ) : Type 0 where
   pub inside : i ≤ n
   pub long : length u ≡ length s
@@ -119,8 +119,8 @@ same-long : (s u : List ℕ) → 39424 ≤ length s → 39424 ≤ length u → d
 same-long s u h k e = omega (arith, length-drop 39424 s, length-drop 39424 u, ap length e)
 
 module _ (w t : List ℕ) (k n : ℕ) (s : List ℕ) (l : Lattice) (u : List ℕ) (r : Lattice) (i : ℕ) (a : Adding w t k n s l u r i) where
-  pub item-sound : Every (Sound w t) (storedListAt (drop 39424 s) 0 n) → i < n → Sound w t (storedAt (drop 39424 u) (i * 56))
-  item-sound e h = rw (a .frame) (item-of (Sound w t) (drop 39424 s) n i e h)
+  pub stored-edge-sound : Every (Grounded w t) (storedListAt (drop 39424 s) 0 n) → i < n → Grounded w t (storedAt (drop 39424 u) (i * 56))
+  stored-edge-sound e h = rw (a .frame) (stored-edge-of (Grounded w t) (drop 39424 s) n i e h)
 
   pub adding-more : (v : List ℕ) (m : Lattice) → (es : List Edge) → Holds s l es → i < n → drop 39424 v ≡ drop 39424 u
       → ((fs : List Edge) → Holds u r fs → Holds v m (addIf w t k fs (storedAt (drop 39424 u) (i * 56)))) → Adding w t k n s l v m (i + 1)

@@ -11,15 +11,15 @@ use lib.Seq.{drop-cons}
 use Rattle.text.specs.declared.Place.{Place}
 use Rattle.text.specs.Text.{Scalars}
 use Rattle.passes.specs.Passes.{Pass, D1, five}
-use Rattle.pass_list.specs.declared.run.Passed.{Passed}
-use Rattle.pass_list.specs.declared.run.Passed.the-variants as Passed
+use Rattle.pass_list.specs.declared.run.PassAnswer.{PassAnswer}
+use Rattle.pass_list.specs.declared.run.PassAnswer.the-variants as PassAnswer
 use Rattle.pass_list.specs.StoredEdge.{StoredEdge, Every, AllSmall, nil, cons}
 use Rattle.pass_list.specs.StoredPass.{kindOf, after, added, firstAbove}
 use Rattle.pass_list.specs.Stored.{storedListAt}
 use Rattle.pass_list.specs.Answers.{passed, PassedIs}
 use Rattle.pass_list.specs.Edges.{edgeOf, WellMade}
 use Rattle.pass_list.proofs.in_turn.Simulation.{after-made}
-use Rattle.pass_list.proofs.StoredLaws.{length-items}
+use Rattle.pass_list.proofs.StoredLaws.{length-stored-edges}
 use Rattle.pass_list.specs.InTurn.{through, addedBy, ofKind}
 use Rattle.pass_list.proofs.in_turn.InTurnLaws.{above-here, above-later}
 use Rattle.pass_list.proofs.in_turn.KindLaws.{added-of-kind, after-kind}
@@ -30,11 +30,11 @@ use Rattle.lattice.specs.Lattice.{addAll}
 use Rattle.lattice.specs.Kept.{Holds}
 use Rattle.lattice.proofs.HoldsLaws.{add-all-append}
 use Rattle.pass_list.proofs.in_turn.EveryLaws.{every-append}
-use Rattle.pass_edge.specs.Sound.{Sound, Sounds}
+use Rattle.pass_edge.specs.Grounded.{Grounded, AllGrounded}
 use Rattle.numbers.specs.Listed.{listedEdge}
-use Rattle.first_stages.specs.declared.five_passes.Passes.{Passes}
-use Rattle.first_stages.specs.declared.five_passes.Passes.the-variants.{Added, Above}
-use Rattle.first_stages.specs.Five.{listedStored, behind, PassList, OneDone, OneIs, FiveDone, FiveIs}
+use Rattle.first_stages.specs.declared.five_passes.PassesAnswer.{PassesAnswer}
+use Rattle.first_stages.specs.declared.five_passes.PassesAnswer.the-variants.{Added, Above}
+use Rattle.first_stages.specs.Five.{listedStored, behind, PassList, OneDone, OnePass, FiveDone, FivePasses}
 use Rattle.first_stages.proofs.five_passes.FrontLaws.{holds-front}
 use Rattle.first_stages.proofs.five_passes.KeptLaws.{added-none}
 use Rattle.first_stages.proofs.five_passes.RootLaws.{after-rooted, every-of-kind, sounds-of, sounds-made, sounds-small, sounds-rooted}
@@ -60,20 +60,20 @@ module _ {w t : List ℕ} {i : ℕ} {s : List ℕ} {n : ℕ} (scalars : Scalars 
   earlier = rw (nth-kind i h) (q .kinds)
 
   -- the pass ran over the list behind the lattice, from s to v
-  module _ (v : List ℕ) {r : Passed} (p : PassedIs (nth i) (behind s n) (drop 39424 v) r) where
-    pub one-above : (l : Lattice) (a : Place) → r ≡ Passed.Above a → OneIs w t i s l n v (Above a)
-    unfolding OneIs
+  module _ (v : List ℕ) {r : PassAnswer} (p : PassedIs (nth i) (behind s n) (drop 39424 v) r) where
+    pub one-above : (l : Lattice) (a : Place) → r ≡ PassAnswer.Above a → OnePass w t i s l n v (Above a)
+    unfolding OnePass
     one-above l a e = go (firstAbove (added (nth i) (behind s n))) (sym (p .answer) ∙ e)
       where
-        go : (o : Option ℕ) → passed o (length (after (nth i) (behind s n))) ≡ Passed.Above a → o ≡ some (a .0)
+        go : (o : Option ℕ) → passed o (length (after (nth i) (behind s n))) ≡ PassAnswer.Above a → o ≡ some (a .0)
         go none f = absurd (let z : _≡_ {A = ℕ} 0 1 = cc in omega arith)
         go (some b) f = let g : record { 0 = b } ≡ a = cc in ap (λ (x : Place). some (x .0)) g
 
-    module _ {k : ℕ} (e : r ≡ Passed.Edges k) where
+    module _ {k : ℕ} (e : r ≡ PassAnswer.Edges k) where
       not-above : (firstAbove (added (nth i) (behind s n)) ≡ none) × (k ≡ length (after (nth i) (behind s n)))
       not-above = go (firstAbove (added (nth i) (behind s n))) (sym (p .answer) ∙ e)
         where
-          go : (o : Option ℕ) → passed o (length (after (nth i) (behind s n))) ≡ Passed.Edges k → (o ≡ none) × (k ≡ length (after (nth i) (behind s n)))
+          go : (o : Option ℕ) → passed o (length (after (nth i) (behind s n))) ≡ PassAnswer.Edges k → (o ≡ none) × (k ≡ length (after (nth i) (behind s n)))
           go none f = (refl, cc)
           go (some b) f = absurd (let z : _≡_ {A = ℕ} 0 1 = cc in omega arith)
 
@@ -81,9 +81,9 @@ module _ {w t : List ℕ} {i : ℕ} {s : List ℕ} {n : ℕ} (scalars : Scalars 
       after-is = rw (not-above .1) (p .list (not-above .0))
 
       few-left : k ≤ n
-      few-left = let f = p .fewer (not-above .0) in let l = length-items (drop 39424 s) 0 n in let g = not-above .1 in omega arith
+      few-left = let f = p .fewer (not-above .0) in let l = length-stored-edges (drop 39424 s) 0 n in let g = not-above .1 in omega arith
 
-      pub pass-sounds : Sounds w t (behind v k)
+      pub pass-sounds : AllGrounded w t (behind v k)
       pass-sounds = rw after-is (sounds-of (after-made w t scalars (nth i) (behind s n) (sounds-made (q .sounds))) (p .small (not-above .0)) (after-rooted t (nth i) (behind s n) (sounds-rooted (q .sounds))))
 
       pub pass-few : k ≤ 256
@@ -96,13 +96,13 @@ module _ {w t : List ℕ} {i : ℕ} {s : List ℕ} {n : ℕ} (scalars : Scalars 
           go [] nil = nil
           go (x ∷ l) (cons a b) = cons (let y = nth-kind i h in let z : x .kind < suc (suc i) = omega arith in z) (go l b)
 
-      new-items : ofKind (i + 1) (behind v k) ≡ added (nth i) (behind s n)
-      new-items = ap (λ (j : ℕ). ofKind j (behind v k)) (add-one i) ∙ ap (ofKind (suc i)) after-is ∙ ap (λ (j : ℕ). ofKind j (after (nth i) (behind s n))) (sym (nth-kind i h)) ∙ sym (added-of-kind (nth i) (behind s n) earlier)
+      new-stored-edges : ofKind (i + 1) (behind v k) ≡ added (nth i) (behind s n)
+      new-stored-edges = ap (λ (j : ℕ). ofKind j (behind v k)) (add-one i) ∙ ap (ofKind (suc i)) after-is ∙ ap (λ (j : ℕ). ofKind j (after (nth i) (behind s n))) (sym (nth-kind i h)) ∙ sym (added-of-kind (nth i) (behind s n) earlier)
 
       -- then the joined edges were added, from v to u
       pub one-added : (l : Lattice) (u : List ℕ) (m : Lattice) → take 39424 v ≡ take 39424 s → length v ≡ length s → drop 39424 u ≡ drop 39424 v
-          → ((es : List Edge) → Holds v l es → Holds u m (addAll es (listedStored w t (ofKind (i + 1) (behind v k))))) → OneIs w t i s l n u (Added m k)
-      unfolding OneIs
+          → ((es : List Edge) → Holds v l es → Holds u m (addAll es (listedStored w t (ofKind (i + 1) (behind v k))))) → OnePass w t i s l n u (Added m k)
+      unfolding OnePass
       one-added l u m front long frame g =
           let same : behind u k ≡ behind v k = ap (λ (b : List ℕ). storedListAt b 0 k) frame in
           record {
@@ -110,14 +110,14 @@ module _ {w t : List ℕ} {i : ℕ} {s : List ℕ} {n : ℕ} (scalars : Scalars 
             list = same ∙ after-is;
             next = record { sounds = rw same pass-sounds; kinds = rw (same, after-is) kinds-after; few = pass-few };
             joined = rw (added-of-kind (nth i) (behind s n) earlier) (every-of-kind (kindOf (nth i)) (rw after-is at pass-sounds));
-            holds = λ es x. rw (← new-items) (g es (holds-front s v front long x));
+            holds = λ es x. rw (← new-stored-edges) (g es (holds-front s v front long x));
           }
 
       -- or there are none to add: as many edges as before
-      pub one-kept : (l : Lattice) → take 39424 v ≡ take 39424 s → length v ≡ length s → k ≡ n → OneIs w t i s l n v (Added l k)
+      pub one-kept : (l : Lattice) → take 39424 v ≡ take 39424 s → length v ≡ length s → k ≡ n → OnePass w t i s l n v (Added l k)
       unfolding addAll
       one-kept l front long kept =
-          let none-new : ofKind (i + 1) (behind v k) ≡ [] = new-items ∙ added-none (nth i) (behind s n) (sym (not-above .1) ∙ kept ∙ sym (length-items (drop 39424 s) 0 n)) in
+          let none-new : ofKind (i + 1) (behind v k) ≡ [] = new-stored-edges ∙ added-none (nth i) (behind s n) (sym (not-above .1) ∙ kept ∙ sym (length-stored-edges (drop 39424 s) 0 n)) in
           one-added l v l front long refl (λ es x. rw none-new x)
 
 -- ---- all five in turn
@@ -130,7 +130,7 @@ pub record Going (w t s : List ℕ) (l : Lattice) (n : ℕ) (u : List ℕ) (m : 
   pub list : PassList w t (suc i) u k
   pub above : firstAbove (addedBy five (behind s n)) ≡ firstAbove (addedBy (drop i five) (behind u k))
   pub after : through five (behind s n) ≡ through (drop i five) (behind u k)
-  pub joined : Sounds w t (addedBy (drop i five) (behind u k)) → Sounds w t (addedBy five (behind s n))
+  pub joined : AllGrounded w t (addedBy (drop i five) (behind u k)) → AllGrounded w t (addedBy five (behind s n))
   pub holds : (es : List Edge) → Holds s l es
       → (ds : List Edge) × Holds u m ds × (addAll ds (listedStored w t (addedBy (drop i five) (behind u k))) ≡ addAll es (listedStored w t (addedBy five (behind s n))))
 
@@ -138,12 +138,12 @@ pub going-start : {w t s : List ℕ} {l : Lattice} {n : ℕ} → PassList w t 1 
 going-start q = record { long = refl; list = q; above = refl; after = refl; joined = λ x. x; holds = λ es x. (es, x, refl) }
 
 module _ {w t s : List ℕ} {l : Lattice} {n : ℕ} {u : List ℕ} {m : Lattice} {k i : ℕ} (g : Going w t s l n u m k i) where
-  pub going-above : i < 5 → (v : List ℕ) (a : Place) (x : List ℕ) → OneIs w t i u m k v (Above a) → FiveIs w t s l n x (Above a)
-  unfolding OneIs FiveIs
+  pub going-above : i < 5 → (v : List ℕ) (a : Place) (x : List ℕ) → OnePass w t i u m k v (Above a) → FivePasses w t s l n x (Above a)
+  unfolding OnePass FivePasses
   going-above h v a x o = g .above ∙ rw (nth-first i h) (above-here (nth i) (drop (i + 1) five) (behind u k) (a .0) o)
 
-  pub going-next : i < 5 → (v : List ℕ) (b : Lattice) (j : ℕ) → length v ≡ length u → OneIs w t i u m k v (Added b j) → Going w t s l n v b j (i + 1)
-  unfolding OneIs addedBy through
+  pub going-next : i < 5 → (v : List ℕ) (b : Lattice) (j : ℕ) → length v ≡ length u → OnePass w t i u m k v (Added b j) → Going w t s l n v b j (i + 1)
+  unfolding OnePass addedBy through
   going-next h v b j y o =
       let more : listedStored w t (addedBy (drop i five) (behind u k)) ≡ listedStored w t (added (nth i) (behind u k)) ++ listedStored w t (addedBy (drop (i + 1) five) (behind v j)) =
       ap (λ (ps : List Pass). listedStored w t (addedBy ps (behind u k))) (nth-first i h)
@@ -155,8 +155,8 @@ module _ {w t s : List ℕ} {l : Lattice} {n : ℕ} {u : List ℕ} {m : Lattice}
         above = g .above ∙ ap (λ (ps : List Pass). firstAbove (addedBy ps (behind u k))) (nth-first i h)
             ∙ above-later (nth i) (drop (i + 1) five) (behind u k) (o .below) ∙ ap (λ (z : List StoredEdge). firstAbove (addedBy (drop (i + 1) five) z)) (sym (o .list));
         after = g .after ∙ ap (λ (ps : List Pass). through ps (behind u k)) (nth-first i h) ∙ ap (through (drop (i + 1) five)) (sym (o .list));
-        joined = λ x. g .joined (subst (λ (ps : List Pass). Sounds w t (addedBy ps (behind u k))) (sym (nth-first i h))
-            (every-append (Sound w t) (added (nth i) (behind u k)) (addedBy (drop (i + 1) five) (after (nth i) (behind u k))) (o .joined) (subst (λ (z : List StoredEdge). Sounds w t (addedBy (drop (i + 1) five) z)) (o .list) x)));
+        joined = λ x. g .joined (subst (λ (ps : List Pass). AllGrounded w t (addedBy ps (behind u k))) (sym (nth-first i h))
+            (every-append (Grounded w t) (added (nth i) (behind u k)) (addedBy (drop (i + 1) five) (after (nth i) (behind u k))) (o .joined) (subst (λ (z : List StoredEdge). AllGrounded w t (addedBy (drop (i + 1) five) z)) (o .list) x)));
         holds = λ es x.
             let d = g .holds es x in (
               addAll (d .0) (listedStored w t (added (nth i) (behind u k))),
@@ -165,8 +165,8 @@ module _ {w t s : List ℕ} {l : Lattice} {n : ℕ} {u : List ℕ} {m : Lattice}
             );
       }
 
-  pub going-end : 5 ≤ i → i ≤ 5 → FiveIs w t s l n u (Added m k)
-  unfolding FiveIs addedBy through firstAbove addAll
+  pub going-end : 5 ≤ i → i ≤ 5 → FivePasses w t s l n u (Added m k)
+  unfolding FivePasses addedBy through firstAbove addAll
   going-end h j =
       let z : i ≡ 5 = omega arith in
       record {

@@ -1,4 +1,4 @@
--- Laws of a joined item: its texts stand at the front of two buffers. Assumes nothing.
+-- Laws of a joined stored edge: its texts stand at the front of two buffers. Assumes nothing.
 use mathlib.Core.Path.{_≡_}
 use mathlib.Core.List.{List}
 use Prim.Native.Nat.{ℕ, _≤_}
@@ -8,7 +8,7 @@ use Rattle.text.specs.Text.{chars}
 use Rattle.pass_list.specs.declared.record.PassEdge.{PassEdge}
 use Rattle.pass_list.specs.StoredEdge.{StoredEdge, EdgeIs}
 use Rattle.pass_list.specs.Edges.{txtOf}
-use Rattle.pass_edge.specs.Sound.{StoredIs}
+use Rattle.pass_edge.specs.Grounded.{StoredIs}
 use Rattle.pass_edge.specs.Texts.{typeOf, TextsAre, Front}
 use Rattle.pass_edge.proofs.TextLaws.{front-take, txt-short, type-short}
 
@@ -24,4 +24,4 @@ module _ (line t : List ℕ) (e : PassEdge) {s u : List ℕ} {n : ℕ} (ty : (x 
   joined-fits = (omega (arith, ty x (h .is) .long, type-fits), omega (arith, tx x (h .is) .long, txt-fits))
 
   pub joined-texts : TextsAre line t e (take n u) (take m q) x
-  joined-texts = record { item = h; type = front-take (ty x (h .is)) (omega (arith, type-fits)); txt = front-take (tx x (h .is)) (omega (arith, txt-fits)) }
+  joined-texts = record { stored-edge = h; type = front-take (ty x (h .is)) (omega (arith, type-fits)); txt = front-take (tx x (h .is)) (omega (arith, txt-fits)) }

@@ -1,5 +1,5 @@
--- The passes keep items rooted in the table: what is joined takes its script from its last part. No contract cites this file.
--- In order: one joined item; a pass; sound items. Assumes nothing.
+-- The passes keep stored edges rooted in the table: what is joined takes its script from its last part. No contract cites this file.
+-- In order: one joined stored edge; a pass; sound stored edges. Assumes nothing.
 use mathlib.Core.Path.{_≡_, refl, sym, subst}
 use mathlib.Core.Bool.{Bool, true, false, cond}
 use mathlib.Core.List.{List, [], _∷_}
@@ -13,7 +13,7 @@ use Rattle.pass_list.specs.StoredPass.{StoredChain, kindOf, begin, joins, longe
 use Rattle.pass_list.specs.Edges.{WellMade}
 use Rattle.pass_list.proofs.in_turn.Simulation.{Agrees, chains-sound}
 use Rattle.pass_list.specs.InTurn.{ofKind}
-use Rattle.pass_edge.specs.Sound.{ScriptAt, Rooted, Sounds}
+use Rattle.pass_edge.specs.Grounded.{ScriptAt, Rooted, AllGrounded}
 
 map-same : {A : Type 0} (o : Option A) → o ≡ Option·map (λ a. a) o
 map-same none = refl
@@ -23,7 +23,7 @@ module _ (t : List ℕ) where
   abbrev Script : StoredEdge → Type 0
   Script x = x .has-script ≡ true → ScriptAt t (x .script-at) (x .script-len)
 
-  -- ---- one joined item
+  -- ---- one joined stored edge
   counted-script : (p : Pass) (l x : StoredEdge) → Script x → Script (counted p l x)
   unfolding counted withNumbers
   counted-script D1 l x h = h
@@ -83,7 +83,7 @@ module _ (t : List ℕ) where
   unfolding after chainsOf
   after-rooted p l h = edges-rooted (chainsOf p l) (chains-sound begin (next p) begin (next p) (λ x. x) (λ c. c) (Rooted t) RootedChain (roots-agree p) l h)
 
--- ---- sound items
+-- ---- sound stored edges
 pub every-of-kind : {P : StoredEdge → Type 0} (k : ℕ) {l : List StoredEdge} → Every P l → Every P (ofKind k l)
 unfolding ofKind
 every-of-kind k {l = []} nil = nil
@@ -94,18 +94,18 @@ every-of-kind {P} k {l = x ∷ l} (cons p h) = go (eqb (x .kind) k) (every-of-ki
     go false r = r
 
 module _ {w t : List ℕ} where
-  pub sounds-of : {l : List StoredEdge} → Every (WellMade w t) l → AllSmall l → Every (Rooted t) l → Sounds w t l
+  pub sounds-of : {l : List StoredEdge} → Every (WellMade w t) l → AllSmall l → Every (Rooted t) l → AllGrounded w t l
   sounds-of {l = []} nil nil nil = nil
   sounds-of {l = x ∷ l} (cons m ms) (cons s ss) (cons r rs) = cons (record { made = m; small = s; rooted = r }) (sounds-of ms ss rs)
 
-  pub sounds-made : {l : List StoredEdge} → Sounds w t l → Every (WellMade w t) l
+  pub sounds-made : {l : List StoredEdge} → AllGrounded w t l → Every (WellMade w t) l
   sounds-made {l = []} nil = nil
   sounds-made {l = x ∷ l} (cons s ss) = cons (s .made) (sounds-made ss)
 
-  pub sounds-small : {l : List StoredEdge} → Sounds w t l → AllSmall l
+  pub sounds-small : {l : List StoredEdge} → AllGrounded w t l → AllSmall l
   sounds-small {l = []} nil = nil
   sounds-small {l = x ∷ l} (cons s ss) = cons (s .small) (sounds-small ss)
 
-  pub sounds-rooted : {l : List StoredEdge} → Sounds w t l → Every (Rooted t) l
+  pub sounds-rooted : {l : List StoredEdge} → AllGrounded w t l → Every (Rooted t) l
   sounds-rooted {l = []} nil = nil
   sounds-rooted {l = x ∷ l} (cons s ss) = cons (s .rooted) (sounds-rooted ss)

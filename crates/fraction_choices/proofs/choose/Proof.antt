@@ -1,13 +1,13 @@
 -- `fraction_choices::choose` meets its contract: the tables keep the neighbours. Assumes nothing.
 use mathlib.Core.List.{List}
 use Rattle.edge.specs.Edge.{Edge}
-use Rattle.fraction_choices.specs.Around.{Keeps, Around}
+use Rattle.fraction_choices.specs.Around.{HoldsLine, HoldsNeighbors}
 use borrow.Author.Needs.{needs}
 use Rattle.fraction_choices.proofs.choose.Statement.{statement}
 use Rattle.fraction_choices.proofs.choose.Tie as tie
 
-around : (c : tie.After-neighbors2) {es : List Edge} → Keeps (c .before .before .before .before .before .before .before .args .w .now) (c .before .before .before .before .before .before .before .args .l) es
-    → Around (c .before .before .before .before .before .before .before .args .w .now) (c .before .before .before .before .before .before .before .args .l) (c .before .before .neighbors .last .1 .1 .1 .0) (c .neighbors2 .last .1 .1 .1 .0) es
+around : (c : tie.After-neighbors2) {es : List Edge} → HoldsLine (c .before .before .before .before .before .before .before .args .w .now) (c .before .before .before .before .before .before .before .args .l) es
+    → HoldsNeighbors (c .before .before .before .before .before .before .before .args .w .now) (c .before .before .before .before .before .before .before .args .l) (c .before .before .neighbors .last .1 .1 .1 .0) (c .neighbors2 .last .1 .1 .1 .0) es
 around c k = record { keeps = k; left = c .before .before .neighbors .ensures _ k; right = c .neighbors2 .ensures _ k }
 
 neighbors-requires : tie.Need-neighbors-requires

@@ -5,14 +5,14 @@ use native.Mathlib.Omega.{arith}
 use borrow.Author.Needs.{needs}
 use Rattle.text.specs.Text.{chars}
 use Rattle.table.specs.Answers.{tableOf}
-use Rattle.fraction_choices.specs.Around.{Around}
+use Rattle.fraction_choices.specs.Around.{HoldsNeighbors}
 use Rattle.fraction_choices.proofs.ChooseLaws.{Chosen, chosen-start, chosen-more, chosen-ends}
 use Rattle.fraction_choices.proofs.choose_all.Statement.{statement}
 use Rattle.fraction_choices.proofs.choose_all.Tie as tie
 
 abbrev Inv-loop : tie.InvT-loop
 Inv-loop w l line offs table h n before behind forms₀ lefts₀ rights₀ p₀ forms lefts rights p =
-    Chosen (tableOf table h) (chars line) (Around w l before behind) n forms lefts rights p
+    Chosen (tableOf table h) (chars line) (HoldsNeighbors w l before behind) n forms lefts rights p
 
 abbrev μ-loop : tie.MeasureT-loop
 μ-loop w l line offs table h n before behind forms₀ lefts₀ rights₀ p₀ forms lefts rights p = n - p

@@ -25,7 +25,7 @@ use Rattle.paths.proofs.BestLaws.{head-bytes, score-not-asked, right-elsewhere}
 use Rattle.paths.proofs.ReadingLaws.{sound-span}
 use Rattle.numbers.specs.CallEdge.{CallEdge}
 use Rattle.numbers.proofs.stages.ReadLaws.{EdgeThere, edge-of, call-legals, every-at}
-use Rattle.fraction_choices.specs.Around.{Keeps, sideOf, placeOf, keptOf, Neighbors}
+use Rattle.fraction_choices.specs.Around.{HoldsLine, sideOf, placeOf, keptOf, Neighbors}
 use Rattle.fraction_choices.specs.Decision.{WholeValued}
 
 -- ---- one place: what is kept, of score top and with the number x, and the edges from the i-th on have the best of all
@@ -124,7 +124,7 @@ module _ {right : Bool} {es : List Edge} {at i : ℕ} {tops table : List ℕ} (k
   table-ends h = record { at = λ p z. walk-ends (k .walks p z) (let n = k .within in omega arith) }
 
 -- ---- the bytes: the i-th edge stands at its offset
-module _ {w : List ℕ} {l : Lattice} {es : List Edge} (keeps : Keeps w l es) where
+module _ {w : List ℕ} {l : Lattice} {es : List Edge} (keeps : HoldsLine w l es) where
   pub keeps-count : length es ≡ l .count
   keeps-count = kept-of (keeps .holds) (keeps .not-full) .count
 

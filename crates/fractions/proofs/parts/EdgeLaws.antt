@@ -28,7 +28,7 @@ use Rattle.numbers.proofs.stages.ReadLaws.{every-at, call-legals, EdgeThere, ed
 use Rattle.numbers.specs.Listed.{valueOf, wholeValue}
 use Rattle.numbers.specs.Fractions.{scriptOf, isNumeric}
 use Rattle.fraction_choices.specs.Choice.{numberOr, valueOr, HasValue, Two, One}
-use Rattle.fractions.specs.MadeParts.{HeadIs, Has}
+use Rattle.fractions.specs.MadeParts.{HeadIs, HoldsCall}
 
 -- ---- tests and options
 pub not-true : (t : Bool) → not t ≡ true → t ≡ false
@@ -50,7 +50,7 @@ only-some true p = (refl, some-inj p)
 only-some false p = absurd (none-some p)
 
 -- ---- the head of an edge
-module _ {n : ℕ} {w : List ℕ} {l : Lattice} {es : List Edge} (h : Has n w l es) (f : (l .len ≡ 0 → ⊥)) where
+module _ {n : ℕ} {w : List ℕ} {l : Lattice} {es : List Edge} (h : HoldsCall n w l es) (f : (l .len ≡ 0 → ⊥)) where
   pub count-of : l .count ≡ length es
   count-of = sym (kept-of (h .holds) f .count)
 

@@ -12,19 +12,19 @@ use Rattle.lattice.proofs.HoldsLaws.{behind-same, add-nothing}
 use Rattle.lattice_add.proofs.add_edge.Statement.{statement}
 use Rattle.lattice_add.proofs.add_edge.Tie as tie
 
-abbrev start : tie.After-how-to-add → tie.Start
+abbrev start : tie.After-plan-add → tie.Start
 start c = c .before .before .before
 
-says : (c : tie.After-how-to-add) (es : List Edge) (e : Edge) → Holds (start c .args .w .now) (start c .args .l) es → Stands (start c .args .w .now) (start c .args .l .len) (start c .args .n) (start c .args .to) e
-    → (r : Adding) → c .how-to-add .result ≡ r → AddingIs (start c .args .l) es e r
-says c es e q d r p = subst (AddingIs (start c .args .l) es e) p (c .how-to-add .ensures es e q d)
+says : (c : tie.After-plan-add) (es : List Edge) (e : Edge) → Holds (start c .args .w .now) (start c .args .l) es → Stands (start c .args .w .now) (start c .args .l .len) (start c .args .n) (start c .args .to) e
+    → (r : Adding) → c .plan-add .result ≡ r → AddingIs (start c .args .l) es e r
+says c es e q d r p = subst (AddingIs (start c .args .l) es e) p (c .plan-add .ensures es e q d)
 
 -- where the edge goes into a bucket
-abbrev asked : tie.After-link-arg → tie.After-how-to-add
+abbrev asked : tie.After-link-arg → tie.After-plan-add
 asked c = c .before .before .before .before
 
-how-to-add-requires : tie.Need-how-to-add-requires
-how-to-add-requires c κs = c .before .before .pre
+plan-add-requires : tie.Need-plan-add-requires
+plan-add-requires c κs = c .before .before .pre
 
 enum-told : tie.Need-enum-told
 enum-told c = search needs
@@ -73,7 +73,7 @@ pub add-edge-spec : {M : Type 1} → statement M
 add-edge-spec =
     tie.close
     (tie.spec
-    how-to-add-requires
+    plan-add-requires
     enum-told
     enum-told-2
     enum-known-bucket

@@ -1,5 +1,5 @@
 -- A copy inside a list, and the bytes of an edge with a longer txt. No contract cites this file.
--- In order: a turn of a loop that copies bytes; a front part and an end part that meet; words; the copy's bytes in four steps; where the items of an edge stand; the copy's bytes; the copy in the lattice. Assumes nothing.
+-- In order: a turn of a loop that copies bytes; a front part and an end part that meet; words; the copy's bytes in four steps; where the fields of an edge stand; the copy's bytes; the copy in the lattice. Assumes nothing.
 use mathlib.Core.Path.{_≡_, refl, sym, ap, _∙_}
 use mathlib.Core.Logic.{inl, inr}
 use mathlib.Core.List.{List, [], _∷_, _++_, append-assoc}
@@ -134,7 +134,7 @@ length-before e =
 pub length-by-txt : (e : Edge) → length (edgeBytes e) ≡ 10 + length (e .type) + length (e .txt) + length (fieldsBytes e)
 length-by-txt e = let l = length-edge e in let k = length-key e in omega arith
 
--- ---- where the items of an edge stand that stands in w
+-- ---- where the fields of an edge stand that stands in w
 module _ (w : List ℕ) (at : ℕ) (e : Edge) (fits : EdgeFits e) (there : part w at (length (edgeBytes e)) ≡ edgeBytes e) where
   rest : List ℕ
   rest = drop (length (edgeBytes e)) (drop at w)

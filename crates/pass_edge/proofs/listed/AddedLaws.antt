@@ -1,4 +1,4 @@
--- An item with its texts is added: what the crates above say of it by `add_texts`. Assumes nothing.
+-- A stored edge with its texts is added: what the crates above say of it by `add_texts`. Assumes nothing.
 use mathlib.Core.Path.{_≡_}
 use mathlib.Core.List.{List}
 use Prim.Native.Nat.{ℕ}
@@ -13,15 +13,15 @@ use Rattle.lattice.specs.Lattice.{add}
 use Rattle.lattice.specs.declared.Lattice.{Lattice}
 use Rattle.lattice.specs.Kept.{Holds}
 use Rattle.numbers.specs.Listed.{listedEdge}
-use Rattle.pass_edge.specs.Sound.{StoredIs}
+use Rattle.pass_edge.specs.Grounded.{StoredIs}
 use Rattle.pass_edge.specs.Texts.{TextsAre}
-use Rattle.pass_edge.specs.Adding.{Asks, Adds}
+use Rattle.pass_edge.specs.Adding.{Addable, Added}
 
 module _ {line t : List ℕ} {e : PassEdge} {ty tx : Text} (are : (x : StoredEdge) → StoredIs line t e x → TextsAre line t e ty tx x) where
-  pub texts-there : {s : List ℕ} {l : Lattice} {offs : List ℕ} → Asks s l line offs t e → (x : StoredEdge) × TextsAre line t e ty tx x
-  texts-there a = (a .item .0, are (a .item .0) (a .item .1))
+  pub texts-there : {s : List ℕ} {l : Lattice} {offs : List ℕ} → Addable s l line offs t e → (x : StoredEdge) × TextsAre line t e ty tx x
+  texts-there a = (a .stored-edge .0, are (a .stored-edge .0) (a .stored-edge .1))
 
   pub texts-added : {s u : List ℕ} {l r : Lattice}
       → (drop 39424 u ≡ drop 39424 s) × ((es : List Edge) (x : StoredEdge) → Holds s l es → TextsAre line t e ty tx x → Holds u r (add es (listedEdge (edgeOf (chars line) t x))))
-      → Adds line t e s l u r
+      → Added line t e s l u r
   texts-added h = record { frame = h .0; holds = λ es x q is. h .1 es x q (are x is) }

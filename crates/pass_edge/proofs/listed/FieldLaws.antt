@@ -1,4 +1,4 @@
--- Laws of an item's fields. In order: the fraction; a numeric edge by its map and its fields; the item's map; its fields; what can be written.
+-- Laws of a stored edge's fields. In order: the fraction; a numeric edge by its map and its fields; the stored edge's map; its fields; what can be written.
 use mathlib.Core.Path.{_≡_, refl, sym, ap, _∙_, subst}
 use mathlib.Core.Bool.{Bool, true, false, cond}
 use mathlib.Core.List.{List}
@@ -27,7 +27,7 @@ use Rattle.edge.specs.Write.{numeric, fieldsOf, Writable}
 use Rattle.edge.proofs.theorems.ReadBackLaws.{Bits, map-bits}
 use Rattle.numbers.specs.Listed.{listedEdge}
 use Rattle.pass_edge.specs.declared.Fraction.{Fraction}
-use Rattle.pass_edge.specs.Sound.{LegalAt, Sound, StoredIs}
+use Rattle.pass_edge.specs.Grounded.{LegalAt, Grounded, StoredIs}
 use Rattle.pass_edge.specs.Texts.{charType, typeOf, TextsAre}
 use Rattle.pass_edge.specs.Fields.{storedFraction, FractionIs, storedMap, partOr, storedFields, Listable}
 use Rattle.pass_edge.proofs.TextLaws.{part-places, spans, Spans, between-short, txt-short, type-short, places-of}
@@ -75,7 +75,7 @@ numeric-is o c v d n f =
       only-there (n .value-s) (textOf v (d .«value_s»)) (bit 8 (d .map)) (b .value-s) (f .value-s),
     )
 
--- ---- what an item is listed as
+-- ---- what a stored edge is listed as
 unfoldable pub numericIn : List ℕ → List ℕ → StoredEdge → Numeric
 numericIn w t x = record {
   orig = between w (x .start) (x .end);
@@ -93,7 +93,7 @@ pub listed-is : (w t : List ℕ) (x : StoredEdge) → listedEdge (edgeOf w t x) 
 unfolding listedEdge edgeOf numericIn typeOf charType storedFraction
 listed-is w t x = refl
 
--- ---- the item's map
+-- ---- the stored edge's map
 -- it is the sum of what the fields that are there are worth
 pub map-summed : (e : PassEdge) (f : Bool) {v r b m s l d : ℕ} → v ≡ 2 * flag (e .num .«has_value») → r ≡ 4 * flag f → b ≡ 8 * flag (e .num .«has_base») → m ≡ 16 * flag (e .num .«has_mult»)
     → s ≡ 32 * flag (e .num .«has_script») → l ≡ 64 * flag (e .num .«large_power») → d ≡ 256 * flag (eqb (e .kind) 1) → 129 + v + r + b + m + s + l + d ≡ storedMap e f
@@ -145,7 +145,7 @@ map-small e f =
       flag-small (eqb (e .kind) 1),
     )
 
--- ---- the item's fields
+-- ---- the stored edge's fields
 pub only-told : {A : Type 0} (b : Bool) (u a : A) → optionally b u ≡ some a → u ≡ a
 only-told true u a e = Option·some-injective u a e
 only-told false u a e = absurd (Option·some-ne-none a (sym e))
@@ -165,7 +165,7 @@ digits-told false txt u a h e = absurd (Option·some-ne-none a (sym e))
 txt-of-digits : (w t : List ℕ) (x : StoredEdge) → eqb (x .kind) 1 ≡ true → txtOf w t x ≡ padded (x .end - x .start) (x .value)
 txt-of-digits w t x e = let k : x .kind ≡ 1 = eqb-true (x .kind) 1 e in rw (ne-eqb (x .kind) 0 (λ o. omega arith), e)
 
-module _ (line offs t : List ℕ) (x : StoredEdge) (f : Fraction) (sound : Sound (chars line) t x) (o : Offsets line offs) (h : FractionIs f (storedFraction t (x .kind) (x .record-at))) (txt : Text) (is : txt ≡ txtOf (chars line) t x) where
+module _ (line offs t : List ℕ) (x : StoredEdge) (f : Fraction) (sound : Grounded (chars line) t x) (o : Offsets line offs) (h : FractionIs f (storedFraction t (x .kind) (x .record-at))) (txt : Text) (is : txt ≡ txtOf (chars line) t x) where
   pub fields-are : FieldsAre line t txt (storedFields offs (passEdge x) f (length txt)) (numericIn (chars line) t x)
   unfolding storedFields fieldsOf numericIn f64Bits
   fields-are = record {
@@ -191,7 +191,7 @@ part-or-len false at n m h = omega arith
 pub record Room (ty txt : Text) (d : NumFields) : Type 0 where
   pub all : length ty + length txt + d .orig .len + d .script .len + d .«value_s» .len ≤ 1990
 
-module _ (line offs t : List ℕ) (x : StoredEdge) (f : Fraction) (sound : Sound (chars line) t x) (o : Offsets line offs) (h : FractionIs f (storedFraction t (x .kind) (x .record-at))) (txt : Text) (is : txt ≡ txtOf (chars line) t x) (few : length (chars line) ≤ 256) where
+module _ (line offs t : List ℕ) (x : StoredEdge) (f : Fraction) (sound : Grounded (chars line) t x) (o : Offsets line offs) (h : FractionIs f (storedFraction t (x .kind) (x .record-at))) (txt : Text) (is : txt ≡ txtOf (chars line) t x) (few : length (chars line) ≤ 256) where
   orig-spans : Spans line offs (x .start) (x .end)
   orig-spans = spans line offs (x .start) (x .end) o (omega (arith, sound .made .ordered)) (sound .made .inside)
 
@@ -207,9 +207,9 @@ module _ (line offs t : List ℕ) (x : StoredEdge) (f : Fraction) (sound : Sound
   value-s-len : partOr (eqb (x .kind) 1) 0 (length txt) .len ≤ 256
   value-s-len = part-or-len (eqb (x .kind) 1) 0 (length txt) 256 (λ k. txt-len)
 
-  writable-item : Writable line t txt (storedFields offs (passEdge x) f (length txt))
+  writable-stored-edge : Writable line t txt (storedFields offs (passEdge x) f (length txt))
   unfolding storedFields fieldsOf
-  writable-item =
+  writable-stored-edge =
       let d = storedFields offs (passEdge x) f (length txt) in
       record {
         numeric = eq-eqb (bit 0 (d .map)) 1 (bits-of d (numericIn (chars line) t x) (map-listed (chars line) t x f h) .numeric);
@@ -222,9 +222,9 @@ module _ (line offs t : List ℕ) (x : StoredEdge) (f : Fraction) (sound : Sound
         value-s-len = omega (arith, value-s-len);
       }
 
-  room-item : (ty : Text) → length ty ≤ 60 → Room ty txt (storedFields offs (passEdge x) f (length txt))
+  room-stored-edge : (ty : Text) → length ty ≤ 60 → Room ty txt (storedFields offs (passEdge x) f (length txt))
   unfolding storedFields fieldsOf
-  room-item ty l = record { all = omega (arith, l, txt-len, orig-len, script-len, value-s-len) }
+  room-stored-edge ty l = record { all = omega (arith, l, txt-len, orig-len, script-len, value-s-len) }
 
 -- ---- the same of the code's edge e
 module _ (line offs t : List ℕ) (e : PassEdge) (x : StoredEdge) (h : StoredIs line t e x) (o : Offsets line offs) (few : length (chars line) ≤ 256) where
@@ -240,26 +240,26 @@ module _ (line offs t : List ℕ) (e : PassEdge) (x : StoredEdge) (h : StoredIs 
       }
 
 module _ (line offs t : List ℕ) (e : PassEdge) (x : StoredEdge) (f : Fraction) (ty txt : Text) (a : TextsAre line t e ty txt x) (o : Offsets line offs) (few : length (chars line) ≤ 256) (h : FractionIs f (storedFraction t (e .kind) (e .«record_at» .0))) (d : NumFields) (is : d ≡ storedFields offs e f (length txt)) where
-  item-fraction : FractionIs f (storedFraction t (x .kind) (x .record-at))
-  item-fraction = h ∙ ap (λ (e : PassEdge). storedFraction t (e .kind) (e .«record_at» .0)) (a .item .is .is)
+  stored-edge-fraction : FractionIs f (storedFraction t (x .kind) (x .record-at))
+  stored-edge-fraction = h ∙ ap (λ (e : PassEdge). storedFraction t (e .kind) (e .«record_at» .0)) (a .stored-edge .is .is)
 
-  item-fields : storedFields offs (passEdge x) f (length txt) ≡ d
-  item-fields = sym (is ∙ ap (λ (e : PassEdge). storedFields offs e f (length txt)) (a .item .is .is))
+  stored-edge-fields : storedFields offs (passEdge x) f (length txt) ≡ d
+  stored-edge-fields = sym (is ∙ ap (λ (e : PassEdge). storedFields offs e f (length txt)) (a .stored-edge .is .is))
 
   pub writable : Writable line t txt d
-  writable = subst (Writable line t txt) item-fields (writable-item line offs t x f (a .item .sound) o item-fraction txt (a .txt) few)
+  writable = subst (Writable line t txt) stored-edge-fields (writable-stored-edge line offs t x f (a .stored-edge .sound) o stored-edge-fraction txt (a .txt) few)
 
   pub room : Room ty txt d
   room =
-      let short : length ty ≤ 60 = rw (a .type) (type-short (chars line) t x (a .item .sound)) in
-      subst (Room ty txt) item-fields (room-item line offs t x f (a .item .sound) o item-fraction txt (a .txt) few ty short)
+      let short : length ty ≤ 60 = rw (a .type) (type-short (chars line) t x (a .stored-edge .sound)) in
+      subst (Room ty txt) stored-edge-fields (room-stored-edge line offs t x f (a .stored-edge .sound) o stored-edge-fraction txt (a .txt) few ty short)
 
   pub edge-is : numeric (e .start .0) (e .end .0) ty txt line t txt d ≡ listedEdge (edgeOf (chars line) t x)
   edge-is =
-      let fields : FieldsAre line t txt d (numericIn (chars line) t x) = subst (λ (d : NumFields). FieldsAre line t txt d (numericIn (chars line) t x)) item-fields (fields-are line offs t x f (a .item .sound) o item-fraction txt (a .txt)) in
+      let fields : FieldsAre line t txt d (numericIn (chars line) t x) = subst (λ (d : NumFields). FieldsAre line t txt d (numericIn (chars line) t x)) stored-edge-fields (fields-are line offs t x f (a .stored-edge .sound) o stored-edge-fraction txt (a .txt)) in
       let num : numericOf line t txt d ≡ numericIn (chars line) t x = numeric-is line t txt d (numericIn (chars line) t x) fields in
-      let from : e .start .0 ≡ x .start = ap (λ (e : PassEdge). e .start .0) (a .item .is .is) in
-      let to : e .end .0 ≡ x .end = ap (λ (e : PassEdge). e .end .0) (a .item .is .is) in
+      let from : e .start .0 ≡ x .start = ap (λ (e : PassEdge). e .start .0) (a .stored-edge .is .is) in
+      let to : e .end .0 ≡ x .end = ap (λ (e : PassEdge). e .end .0) (a .stored-edge .is .is) in
       rw (num, from, to, a .type, a .txt) (sym (listed-is (chars line) t x))
 
 -- a character's record is legal

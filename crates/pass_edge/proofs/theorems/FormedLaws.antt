@@ -1,4 +1,4 @@
--- The texts of a sound item are UTF-8, and its fraction may be listed. In order: ASCII; decimal digits; the type; the txt; the fraction.
+-- The texts of a sound stored edge are UTF-8, and its fraction may be listed. In order: ASCII; decimal digits; the type; the txt; the fraction.
 -- Assumes nothing.
 use mathlib.Core.Path.{_≡_, refl, sym, ap, _∙_, subst}
 use mathlib.Core.Bool.{Bool, true, false, cond, _&&_}
@@ -26,7 +26,7 @@ use Rattle.edge.specs.Check.{each, upToTop, soundFraction}
 use Rattle.pass_list.specs.StoredEdge.{StoredEdge, Every, nil, cons}
 use Rattle.pass_list.specs.Edges.{between, kindName, txtOf}
 use Rattle.pass_list.proofs.in_turn.EveryLaws.{every-append}
-use Rattle.pass_edge.specs.Sound.{LegalAt, Sound}
+use Rattle.pass_edge.specs.Grounded.{LegalAt, Grounded}
 use Rattle.pass_edge.specs.Texts.{charTxt, charType, typeOf}
 use Rattle.pass_edge.specs.Fields.{storedFraction}
 
@@ -82,7 +82,7 @@ record-texts r h =
     let both = and-true (wellFormed (r .type)) (allOf wellFormed (r .rom) && allOf wellFormed (r .script)) h in
     (both .0, and-true (allOf wellFormed (r .rom)) (allOf wellFormed (r .script)) (both .1) .0)
 
-module _ (w t : List ℕ) (x : StoredEdge) (s : Sound w t x) where
+module _ (w t : List ℕ) (x : StoredEdge) (s : Grounded w t x) where
   pub type-formed : wellFormed (typeOf t x) ≡ true
   unfolding typeOf charType
   type-formed = go (eqb (x .kind) 0) refl
@@ -101,7 +101,7 @@ unfolding allOf
 get-formed none d h k = k
 get-formed (some t) d h k = h
 
-module _ (w t : List ℕ) (x : StoredEdge) (s : Sound w t x) (scalars : Scalars w) where
+module _ (w t : List ℕ) (x : StoredEdge) (s : Grounded w t x) (scalars : Scalars w) where
   pub txt-formed : wellFormed (txtOf w t x) ≡ true
   unfolding charTxt
   txt-formed = go (eqb (x .kind) 0) (eqb (x .kind) 1) refl
@@ -141,7 +141,7 @@ record-ratio r h =
     let two = and-true (allOf small (r .value) && allOf legalRatio (r .fraction)) (allOf positive (r .base)) three .0 in
     and-true (allOf small (r .value)) (allOf legalRatio (r .fraction)) two .1
 
-module _ (w t : List ℕ) (x : StoredEdge) (s : Sound w t x) where
+module _ (w t : List ℕ) (x : StoredEdge) (s : Grounded w t x) where
   pub fraction-fits : AllFits (storedFraction t (x .kind) (x .record-at))
   unfolding storedFraction
   fraction-fits = go (eqb (x .kind) 0) refl

@@ -1,5 +1,5 @@
--- The edges that sound items stand for are edges of the call (stages/specs/CallEdge.antt): they may be listed, they are short, and their value is whole.
--- In order: fields that may be absent; the numeric data; the edge; lists of items. Assumes nothing.
+-- The edges that sound stored edges stand for are edges of the call (stages/specs/CallEdge.antt): they may be listed, they are short, and their value is whole.
+-- In order: fields that may be absent; the numeric data; the edge; lists of stored edges. Assumes nothing.
 use mathlib.Core.Path.{_≡_, refl, sym, ap, _∙_, subst}
 use mathlib.Core.Bool.{Bool, true, false, cond, _&&_}
 use mathlib.Core.List.{List, [], _∷_, map}
@@ -26,7 +26,7 @@ use Rattle.pass_list.specs.Edges.{between, edgeOf, txtOf}
 use Rattle.numbers.specs.CallEdge.{Short, CallEdge, CallEdges}
 use Rattle.numbers.proofs.stages.CallLaws.{allowed-map}
 use Rattle.numbers.specs.Listed.{listedEdge}
-use Rattle.pass_edge.specs.Sound.{ScriptAt, Sound, Sounds}
+use Rattle.pass_edge.specs.Grounded.{ScriptAt, Grounded, AllGrounded}
 use Rattle.pass_edge.specs.Texts.{typeOf}
 use Rattle.pass_edge.specs.Fields.{storedFraction}
 use Rattle.pass_edge.proofs.TextLaws.{between-short, txt-short, type-short}
@@ -50,7 +50,7 @@ fraction-at : {o : Option (ℕ × ℕ)} {p : ℕ × ℕ} → AllFits o → o ≡
 fraction-at h e = subst AllFits e h
 
 -- ---- the numeric data
-module _ (w t : List ℕ) (x : StoredEdge) (s : Sound w t x) (scalars : Scalars w) (few : length w ≤ 256) where
+module _ (w t : List ℕ) (x : StoredEdge) (s : Grounded w t x) (scalars : Scalars w) (few : length w ≤ 256) where
   orig-short : length (between w (x .start) (x .end)) ≤ 1024
   orig-short = omega (arith, between-short w (x .start) (x .end), s .made .inside)
 
@@ -120,15 +120,15 @@ module _ (w t : List ℕ) (x : StoredEdge) (s : Sound w t x) (scalars : Scalars 
   unfolding numericIn
   listed-value b e = (x .value, s .small .value, sym (map-told f64Bits (x .has-value) (x .value) b e))
 
-  pub item-call : CallEdge (length w) (listedEdge (edgeOf w t x))
-  item-call = subst (CallEdge (length w)) (sym (listed-is w t x)) (record {
+  pub stored-edge-call : CallEdge (length w) (listedEdge (edgeOf w t x))
+  stored-edge-call = subst (CallEdge (length w)) (sym (listed-is w t x)) (record {
     legal = record { fits = listed-fits; map = allowed-map (some (numericIn w t x)); content = listed-sound };
     short = of-listed (Short listed) listed-short;
     value = λ y b e v. of-listed WholeValue listed-value y e b v;
   })
 
--- ---- lists of items
+-- ---- lists of stored edges
 module _ (w t : List ℕ) (scalars : Scalars w) (few : length w ≤ 256) where
-  pub items-call : (l : List StoredEdge) → Sounds w t l → CallEdges (length w) (map listedEdge (map (edgeOf w t) l))
-  items-call [] nil = nil
-  items-call (x ∷ l) (cons s h) = cons (item-call w t x s scalars few) (items-call l h)
+  pub stored-edges-call : (l : List StoredEdge) → AllGrounded w t l → CallEdges (length w) (map listedEdge (map (edgeOf w t) l))
+  stored-edges-call [] nil = nil
+  stored-edges-call (x ∷ l) (cons s h) = cons (stored-edge-call w t x s scalars few) (stored-edges-call l h)

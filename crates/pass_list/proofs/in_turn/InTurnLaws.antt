@@ -1,5 +1,5 @@
--- The passes in turn on items, and refusal 7.
--- In order: the edges that the items stand for; the first pass that joins an edge above TOP decides.
+-- The passes in turn on stored edges, and refusal 7.
+-- In order: the edges that the stored edges stand for; the first pass that joins an edge above TOP decides.
 use Prim.Native.Nat.{ℕ}
 use mathlib.Core.Path.{_≡_, refl, sym, ap, _∙_}
 use mathlib.Core.Bool.{Bool, true, false, cond}

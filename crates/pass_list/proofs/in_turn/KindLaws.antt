@@ -1,5 +1,5 @@
--- The items that a pass joins are those of its kind in the list after it, where the list before it has items of earlier kinds only.
--- In order: the chains' kinds; the joined items; the kinds in the list after the pass.
+-- The stored edges that a pass joins are those of its kind in the list after it, where the list before it has stored edges of earlier kinds only.
+-- In order: the chains' kinds; the joined stored edges; the kinds in the list after the pass.
 use Prim.Native.Nat.{_≤_, _<_}
 use native.Mathlib.Omega.{arith}
 use mathlib.Core.Path.{_≡_, refl, sym, ap, subst}
@@ -55,7 +55,7 @@ module _ (p : Pass) where
   unfolding chainsOf
   chains-kind = chains-sound begin (next p) begin (next p) (λ x. x) (λ c. c) Earlier ChainKind kinds-agree
 
-  -- ---- the joined items
+  -- ---- the joined stored edges
   joined-of-kind : (cs : List StoredChain) → Every ChainKind cs → joinedOf cs ≡ ofKind (kindOf p) (edgesOf cs)
   unfolding joinedOf ofKind
   joined-of-kind [] nil = refl

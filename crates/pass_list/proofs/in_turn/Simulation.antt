@@ -1,4 +1,4 @@
--- The passes on items are the passes on the edges that the items stand for (`pass_list`, specs/Edges.antt), for any line of scalar values and any table's bytes.
+-- The passes on stored edges are the passes on the edges that the stored edges stand for (`pass_list`, specs/Edges.antt), for any line of scalar values and any table's bytes.
 -- In order: one generic law of chains; numbers that may be absent; texts; the rules; the joined edges; one step; whole lists.
 -- No contract cites this file.
 -- Assumes nothing.
@@ -352,7 +352,7 @@ module _ (w t : List ℕ) (scalars : Scalars w) where
     unfolding joins
     joins-is p = refl
 
-    -- the edge over the chain, whose edge is that of the item
+    -- the edge over the chain, whose edge is that of the stored edge
     chain-edge-is : chainOf w t c .edge ≡ edgeOf w t (c .edge)
     unfolding chainOf
     chain-edge-is = refl

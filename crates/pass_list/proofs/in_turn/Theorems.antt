@@ -1,4 +1,4 @@
--- A line's characters through the five passes on items are what the call's definitions say (01, "From characters to edges", "Five passes"): the list after the
+-- A line's characters through the five passes on stored edges are what the call's definitions say (01, "From characters to edges", "Five passes"): the list after the
 -- fifth pass, the joined edges in order, and refusal 7's place. Each fact is a citation.
 use Prim.Native.Nat.{ℕ}
 use mathlib.Core.Path.{_≡_, ap, _∙_}
@@ -17,7 +17,7 @@ use Rattle.pass_list.specs.Edges.{edgeOf, WellMade}
 use Rattle.pass_list.specs.InTurn.{through, addedBy}
 use Rattle.pass_list.specs.FirstStored.{FirstStored}
 use Rattle.pass_list.proofs.in_turn.InTurnLaws.{through-agrees, through-made, added-by-agrees, above-by-agrees}
-use Rattle.pass_list.proofs.in_turn.FirstItemsLaws.{first-items-all}
+use Rattle.pass_list.proofs.in_turn.FirstStoredLaws.{first-stored-edges-all}
 
 pub record FiveAre (w t : List ℕ) (table : Table) (l : List StoredEdge) : Type 0 where
   pub first : map (edgeOf w t) l ≡ firstList table w
@@ -28,7 +28,7 @@ pub record FiveAre (w t : List ℕ) (table : Table) (l : List StoredEdge) : Type
 
 pub five-are : (w t : List ℕ) → Scalars w → (table : Table) (l : List StoredEdge) → FirstStored w t (table .records) (length w) l → FiveAre w t table l
 five-are w t scalars table l h =
-    let first : map (edgeOf w t) l ≡ firstList table w = first-items-all w t (table .records) l h in
+    let first : map (edgeOf w t) l ≡ firstList table w = first-stored-edges-all w t (table .records) l h in
     record {
       first = first;
       fifth = through-agrees w t scalars five l (h .made) ∙ ap (passes.through five) first;

@@ -11,7 +11,7 @@ use Rattle.fields.specs.Fields.{leAt}
 use Rattle.fields.specs.Part.{part}
 use Rattle.fields.proofs.FieldsLaws.{leAt-of-part, leAt-lt}
 use Rattle.whole.specs.Whole.{ofNat}
-use Rattle.pass_list.specs.declared.record.NumData.{NumData}
+use Rattle.pass_list.specs.declared.record.PassData.{PassData}
 use Rattle.pass_list.specs.declared.record.PassEdge.{PassEdge}
 use Rattle.pass_list.specs.StoredEdge.{StoredEdge, numData, passEdge, Small, Fits}
 use Rattle.pass_list.specs.Stored.{bit, storedOf, storedAt}
@@ -38,18 +38,18 @@ fieldsAt s at = record {
   cjk = bit (leAt s (at + 6) 2) 1024;
 }
 
-pub itemAt-fields : (s : List ℕ) (at : ℕ) → storedAt s at ≡ fieldsAt s at
+pub storedAt-fields : (s : List ℕ) (at : ℕ) → storedAt s at ≡ fieldsAt s at
 unfolding storedAt storedOf
-itemAt-fields s at =
+storedAt-fields s at =
     let at-field : (i w : ℕ) → i + w ≤ 56 → leAt (part s at 56) i w ≡ leAt s (at + i) w = λ i w h. leAt-of-part s at 56 i w h in
     rw (at-field 0 2 (omega arith), add-zero at, at-field 2 2 (omega arith), at-field 4 2 (omega arith), at-field 6 2 (omega arith), at-field 8 8 (omega arith), at-field 16 8 (omega arith), at-field 24 8 (omega arith), at-field 32 8 (omega arith), at-field 40 8 (omega arith), at-field 48 8 (omega arith))
 
 pub small-at : (s : List ℕ) (at : ℕ) → Small (storedAt s at) → Small (fieldsAt s at)
-small-at s at small = subst Small (itemAt-fields s at) small
+small-at s at small = subst Small (storedAt-fields s at) small
 
 -- the numeric data, read field by field
 pub num-read : (s : List ℕ) (at : ℕ) {v k : Float} {m n b r a l : ℕ} → m ≡ leAt s (at + 6) 2 → n ≡ leAt s (at + 8) 8 → v ≡ ofNat n → r ≡ leAt s (at + 24) 8 → k ≡ ofNat r → b ≡ leAt s (at + 16) 8 → a ≡ leAt s (at + 40) 8 → l ≡ leAt s (at + 48) 8
-    → _≡_ {A = NumData} (record {
+    → _≡_ {A = PassData} (record {
       value = v;
       «base_multiplier» = k;
       base = b;
@@ -64,16 +64,16 @@ pub num-read : (s : List ℕ) (at : ℕ) {v k : Float} {m n b r a l : ℕ} → m
       script = record { 0 = a };
       «script_len» = l;
     }) (numData (storedAt s at))
-num-read s at em en ev er ek eb ea el = rw (itemAt-fields s at, ev, ek, em, en, er, eb, ea, el)
+num-read s at em en ev er ek eb ea el = rw (storedAt-fields s at, ev, ek, em, en, er, eb, ea, el)
 
-pub edge-read : (s : List ℕ) (at : ℕ) {a e k r : ℕ} {n : NumData} → a ≡ leAt s at 2 → e ≡ leAt s (at + 2) 2 → k ≡ leAt s (at + 4) 2 → r ≡ leAt s (at + 32) 8 → n ≡ numData (storedAt s at)
+pub edge-read : (s : List ℕ) (at : ℕ) {a e k r : ℕ} {n : PassData} → a ≡ leAt s at 2 → e ≡ leAt s (at + 2) 2 → k ≡ leAt s (at + 4) 2 → r ≡ leAt s (at + 32) 8 → n ≡ numData (storedAt s at)
     → _≡_ {A = PassEdge} (record { start = record { 0 = a }; end = record { 0 = e }; kind = k; «record_at» = record { 0 = r }; num = n }) (passEdge (storedAt s at))
-edge-read s at ea ee ek er en = rw (en, itemAt-fields s at, ea, ee, ek, er)
+edge-read s at ea ee ek er en = rw (en, storedAt-fields s at, ea, ee, ek, er)
 
 -- a record of bytes fits, where 01's bounds hold
-pub itemAt-fits : (s : List ℕ) (at : ℕ) → ((j : ℕ) → getD s j 0 < 256) → Small (storedAt s at) → Fits (storedAt s at)
-itemAt-fits s at bytes small =
-    subst Fits (sym (itemAt-fields s at))
+pub storedAt-fits : (s : List ℕ) (at : ℕ) → ((j : ℕ) → getD s j 0 < 256) → Small (storedAt s at) → Fits (storedAt s at)
+storedAt-fits s at bytes small =
+    subst Fits (sym (storedAt-fields s at))
     (record {
       small = small-at s at small;
       start = leAt-lt s at 2 bytes;

@@ -17,7 +17,7 @@ use Rattle.pass_list.specs.Stored.{storedAt}
 use Rattle.pass_list.specs.StoredPass.{StoredChain, begin, touches, d1Rule, g1Rule, comparable, g2Rule, g3Rule, g4Rule, rule, retaggable, retags, withNumbers, retagged, counted, joins, next}
 use Rattle.pass_list.specs.declared.chain.Next.the-variants.{Ends}
 use Rattle.pass_list.specs.Answers.{answer}
-use Rattle.pass_list.proofs.read.FieldLaws.{fieldsAt, itemAt-fields}
+use Rattle.pass_list.proofs.read.FieldLaws.{fieldsAt, storedAt-fields}
 
 -- ---- rows of tests
 all-three : (a b c : Bool) → (a && b && c) ≡ true → (a ≡ true) × (b ≡ true) × (c ≡ true)
@@ -126,7 +126,7 @@ may-join G4 x y h = g4-needs (begin x) y h
 -- ---- by the fields in the list
 module _ (s : List ℕ) (a b : ℕ) (p : Pass) (j : joins p (begin (storedAt s a)) (storedAt s b) ≡ true) where
   both : joins p (begin (fieldsAt s a)) (fieldsAt s b) ≡ true
-  both = subst (λ (x : StoredEdge). joins p (begin x) (fieldsAt s b) ≡ true) (itemAt-fields s a) (subst (λ (y : StoredEdge). joins p (begin (storedAt s a)) y ≡ true) (itemAt-fields s b) j)
+  both = subst (λ (x : StoredEdge). joins p (begin x) (fieldsAt s b) ≡ true) (storedAt-fields s a) (subst (λ (y : StoredEdge). joins p (begin (storedAt s a)) y ≡ true) (storedAt-fields s b) j)
 
   pub join-touches : leAt s (a + 2) 2 ≡ leAt s b 2
   unfolding begin
@@ -137,7 +137,7 @@ module _ (s : List ℕ) (a b : ℕ) (p : Pass) (j : joins p (begin (storedAt s a
 
 module _ (s : List ℕ) (at : ℕ) (p : Pass) (c : StoredChain) (j : joins p c (storedAt s at) ≡ true) where
   field : joins p c (fieldsAt s at) ≡ true
-  field = subst (λ (y : StoredEdge). joins p c y ≡ true) (itemAt-fields s at) j
+  field = subst (λ (y : StoredEdge). joins p c y ≡ true) (storedAt-fields s at) j
 
   pub take-may : (eqb (c .edge .end) (leAt s at 2) && mayTake p c (fieldsAt s at)) ≡ true
   take-may = let t = joins-both p c (fieldsAt s at) field in rw (t .0, may-take p c (fieldsAt s at) (t .1))

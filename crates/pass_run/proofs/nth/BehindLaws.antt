@@ -8,7 +8,7 @@ use lib.ListN.{length, take, drop, length-drop, drop-of-length-le}
 use lib.Seq.{take-all, length-take-le, drop-at}
 use borrow.Rule.Slice.PartMut.{postOf, putMid}
 use Rattle.passes.specs.Passes.{Pass}
-use Rattle.pass_list.specs.declared.run.Passed.{Passed}
+use Rattle.pass_list.specs.declared.run.PassAnswer.{PassAnswer}
 use Rattle.pass_list.specs.StoredEdge.{AllSmall}
 use Rattle.pass_list.specs.Stored.{storedListAt}
 use Rattle.pass_list.specs.Answers.{PassedIs}
@@ -28,7 +28,7 @@ module _ (a : ℕ) (w : List ℕ) where
       let e : postOf a (length w - a) w ≡ [] = drop-of-length-le (drop a w) {i = length w - a} (omega arith) in
       drop-at (take a w) (ys ++ postOf a (length w - a) w) a (length-take-le a w h) ∙ ap (λ (z : List ℕ). ys ++ z) e ∙ append-nil ys
 
-  pub passed-behind : (p : Pass) (ys : List ℕ) (n : ℕ) (r : Passed) → a ≤ length w → PassedIs p (storedListAt (take (length w - a) (drop a w)) 0 n) ys r
+  pub passed-behind : (p : Pass) (ys : List ℕ) (n : ℕ) (r : PassAnswer) → a ≤ length w → PassedIs p (storedListAt (take (length w - a) (drop a w)) 0 n) ys r
       → PassedIs p (storedListAt (drop a w) 0 n) (drop a (putMid a (length w - a) w ys)) r
   passed-behind p ys n r h q =
       subst (λ (s : List ℕ). PassedIs p (storedListAt (drop a w) 0 n) s r) (sym (back-behind ys h)) (subst (λ (s : List ℕ). PassedIs p (storedListAt s 0 n) ys r) lent-behind q)

@@ -5,8 +5,8 @@ use Rattle.pass_run.proofs.RunLaws.{small-one}
 use Rattle.pass_run.proofs.step.Statement.{statement}
 use Rattle.pass_run.proofs.step.Tie as tie
 
-alone-requires : tie.Need-alone-requires
-alone-requires c κs = let p = c .before .before .pre in (p .1, p .2)
+is-own-chain-requires : tie.Need-is-own-chain-requires
+is-own-chain-requires c κs = let p = c .before .before .pre in (p .1, p .2)
 
 move-record-requires : tie.Need-move-record-requires
 move-record-requires c κs = let p = c .before .before .before .before .before .pre in (p .0, omega (arith, p .1, p .2))
@@ -19,7 +19,7 @@ same-length c = c .before .before .move-record .kept .0
 
 returns : tie.Need-returns
 unfolding RunIs
-returns c = let p = c .before .before .before .before .before .before .before .before .pre in record { over = _; first = c .before .before .before .before .before .alone .ensures (c .before .before .before .before .if1 .taken); small = small-one _ _ _ _ (omega arith) (p .1) (p .3); ended = c .before .before .move-record .ensures }
+returns c = let p = c .before .before .before .before .before .before .before .before .pre in record { over = _; first = c .before .before .before .before .before .is-own-chain .ensures (c .before .before .before .before .if1 .taken); small = small-one _ _ _ _ (omega arith) (p .1) (p .3); ended = c .before .before .move-record .ensures }
 
 run-chain-requires : tie.Need-run-chain-requires
 run-chain-requires c κs = c .before .before .before .before .before .pre
@@ -34,7 +34,7 @@ pub step-spec : {M : Type 1} → statement M
 step-spec =
     tie.close
     (tie.spec
-    alone-requires
+    is-own-chain-requires
     move-record-requires
     add-t12
     same-length

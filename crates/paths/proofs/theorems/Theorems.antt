@@ -27,7 +27,7 @@ use Rattle.edge.specs.Edge.{Text, Edge}
 use Rattle.edge.specs.Layout.{textAt, nextAt, edgeAt, edgesAt, listed}
 use Rattle.paths.specs.declared.Query.{Query}
 use Rattle.paths.specs.declared.Query.the-variants.{Right}
-use Rattle.paths.specs.declared.Checked.the-variants as Checked
+use Rattle.paths.specs.declared.ReadCheck.the-variants as ReadCheck
 use Rattle.paths.specs.Best.{class, asked, rank, score, Best, scored, better, bestFrom, best, withOffsets, found}
 use Rattle.paths.specs.Reading.{readCheck}
 use Rattle.paths.specs.Shown.{shownBy, shown, shownPart}
@@ -150,7 +150,7 @@ unfolding withOffsets edgesAt
 offsets-edges zero s at = refl
 offsets-edges (suc k) s at = ap (λ (es : List Edge). edgeAt s at ∷ es) (offsets-edges k s (nextAt s at))
 
-pub read-edges : (line s : List ℕ) {n k : ℕ} → readCheck line s ≡ Checked.Readable n k → map (λ (x : ℕ × Edge). x .1) (withOffsets k s 2) ≡ listed s
+pub read-edges : (line s : List ℕ) {n k : ℕ} → readCheck line s ≡ ReadCheck.Readable n k → map (λ (x : ℕ × Edge). x .1) (withOffsets k s 2) ≡ listed s
 read-edges line s {n} {k} e = offsets-edges k s 2 ∙ ap (λ (j : ℕ). edgesAt j s 2) (reads line s n k e .edges)
 
 -- ---- the text shown
@@ -191,7 +191,7 @@ abbrev pub textShown : List ℕ → ℕ → Best → Text
 textShown line p none = partOf line p (suc p)
 textShown line p (some x) = x .1 .txt
 
-pub shown-is : (line s : List ℕ) (p : Place) {n k : ℕ} → readCheck line s ≡ Checked.Readable n k → p .0 < n
+pub shown-is : (line s : List ℕ) (p : Place) {n k : ℕ} → readCheck line s ≡ ReadCheck.Readable n k → p .0 < n
     → shownPart line s (shown line s p) ≡ textShown line (p .0) (best false (Right p) (withOffsets k s 2))
 unfolding shownPart shownBy found edgeAt textAt
 shown-is line s p {n} {k} e h =

@@ -2,7 +2,7 @@
 use mathlib.Core.Path.{_≡_, sym, _∙_}
 use borrow.Author.Needs.{needs}
 use borrow.Author.Tests.{not-true, not-false}
-use Rattle.paths.specs.declared.Checked.the-variants as Checked
+use Rattle.paths.specs.declared.ReadCheck.the-variants as ReadCheck
 use Rattle.paths.specs.Reading.{readCheck}
 use Rattle.paths.proofs.ReadingLaws.{reads, spans-whole, answer-refused, answer-outside, answer-best}
 use Rattle.queries.proofs.best_edge.Statement.{statement}
@@ -22,7 +22,7 @@ is-inside-requires c κs = search needs
 
 -- the checks refuse nothing
 is-readable : (c : tie.After-known-told2) → let a = c .before .before .before .before .before .before .args in
-    readCheck (a .line .now) (a .listing .now) ≡ Checked.Readable (c .before .chars .given .0 .0) (c .before .chars .given .0 .1 .0)
+    readCheck (a .line .now) (a .listing .now) ≡ ReadCheck.Readable (c .before .chars .given .0 .0) (c .before .chars .given .0 .1 .0)
 is-readable c = sym (c .before .before .before .check .ensures) ∙ c .before .chars .given .1
 
 returns : tie.Need-returns

@@ -1,4 +1,4 @@
--- `signs::add_signs` meets its contract. The loop's invariant: with the items that are left, the lattice is what it shall be (`Toward`), and they are sound.
+-- `signs::add_signs` meets its contract. The loop's invariant: with the stored edges that are left, the lattice is what it shall be (`Toward`), and they are sound.
 -- The measure is how many are left. Assumes nothing.
 use mathlib.Core.Path.{_≡_, sym, subst, _∙_}
 use mathlib.Core.List.{List, map}
@@ -12,19 +12,19 @@ use Rattle.table.specs.Answers.{tableOf}
 use Rattle.pass_list.specs.StoredEdge.{Small, EdgeIs}
 use Rattle.pass_list.specs.Stored.{storedAt, storedListAt}
 use Rattle.pass_list.specs.Edges.{edgeOf}
-use Rattle.pass_edge.specs.Sound.{Sound, Sounds}
+use Rattle.pass_edge.specs.Grounded.{Grounded, AllGrounded}
 use Rattle.numbers.specs.Signs.{signs}
 use Rattle.signs.specs.SignsOf.{signsOf}
 use Rattle.signs.proofs.edges.BufferLaws.{behind-length}
 use Rattle.signs.proofs.edges.TowardLaws.{Toward, toward-start, toward-next, toward-end}
-use Rattle.signs.proofs.ItemLaws.{rest, rest-start, rest-next, rest-end, sounds-start, sounds-next}
+use Rattle.signs.proofs.StoredEdgeLaws.{rest, rest-start, rest-next, rest-end, sounds-start, sounds-next}
 use Rattle.signs.proofs.add_signs.Statement.{statement}
 use Rattle.signs.proofs.add_signs.Tie as tie
 
 abbrev Inv-loop : tie.InvT-loop
 Inv-loop w₀ line offs table h n list grown₀ i₀ w grown i =
     Toward w₀ grown₀ (signs (tableOf table h) (chars line) (map (edgeOf (chars line) table) (storedListAt (drop 39424 w₀) 0 n))) w grown (rest (tableOf table h) (chars line) table (drop 39424 w₀) n i)
-    × Sounds (chars line) table (storedListAt (drop 39424 w₀) i (n - i)) × (i ≤ n)
+    × AllGrounded (chars line) table (storedListAt (drop 39424 w₀) i (n - i)) × (i ≤ n)
 
 abbrev μ-loop : tie.MeasureT-loop
 μ-loop w₀ line offs table h n list grown₀ i₀ w grown i = n - i
@@ -33,41 +33,41 @@ abbrev μ-loop : tie.MeasureT-loop
 list-is : (c : tie.In-loop Inv-loop μ-loop) → let w = c .before .loop .w in take (length w - 39424) (drop 39424 w) ≡ drop 39424 (c .before .before .before .before .before .args .w .now)
 list-is c = part-to-end (c .before .loop .w) 39424 ∙ c .before .loop .inv .0 .frame
 
--- the item of this turn is sound, and so are the others
+-- the stored edge of this turn is sound, and so are the others
 here : (c : tie.In-loop Inv-loop μ-loop) → let a = c .before .before .before .before .before .args in let s = drop 39424 (a .w .now) in let i = c .before .loop .i in
-    Sound (chars (a .line .now)) (a .table .now) (storedAt s (i * 56)) × Sounds (chars (a .line .now)) (a .table .now) (storedListAt s (i + 1) (a .n - (i + 1)))
+    Grounded (chars (a .line .now)) (a .table .now) (storedAt s (i * 56)) × AllGrounded (chars (a .line .now)) (a .table .now) (storedListAt s (i + 1) (a .n - (i + 1)))
 here c = sounds-next _ _ _ _ _ (c .loop-test .taken) (c .before .loop .inv .1)
 
 room : (c : tie.In-loop Inv-loop μ-loop) → 39424 + c .before .before .before .before .before .args .n * 56 ≤ length (c .before .loop .w)
 room c = omega (arith, c .before .loop .inv .0 .long, c .before .before .before .before .before .pre .4)
 
--- what was read is this turn's item
-read-is : (c : tie.After-get Inv-loop μ-loop) → EdgeIs (c .get .result) (storedAt (drop 39424 (c .before .before .before .before .before .before .before .before .args .w .now)) (c .before .before .before .before .loop .i * 56))
-read-is c = subst (λ (s : List ℕ). EdgeIs (c .get .result) (storedAt s (c .before .before .before .before .loop .i * 56))) (list-is (c .before .before .before)) (c .get .ensures)
+-- what was read is this turn's stored edge
+read-is : (c : tie.After-read-edge Inv-loop μ-loop) → EdgeIs (c .read-edge .result) (storedAt (drop 39424 (c .before .before .before .before .before .before .before .before .args .w .now)) (c .before .before .before .before .loop .i * 56))
+read-is c = subst (λ (s : List ℕ). EdgeIs (c .read-edge .result) (storedAt s (c .before .before .before .before .loop .i * 56))) (list-is (c .before .before .before)) (c .read-edge .ensures)
 
 loop-holds : tie.Need-loop-holds Inv-loop μ-loop
 loop-holds c = let a = c .before .before .before in (rw rest-start (toward-start _ _ _), sounds-start _ _ _ _ (a .pre .3), omega arith)
 
-sub-get : tie.Need-sub-get Inv-loop μ-loop
-sub-get c = omega (arith, room c)
+sub-read-edge : tie.Need-sub-read-edge Inv-loop μ-loop
+sub-read-edge c = omega (arith, room c)
 
-part-get-start : tie.Need-part-get-start Inv-loop μ-loop
-part-get-start c = omega (arith, room (c .before))
+part-read-edge-start : tie.Need-part-read-edge-start Inv-loop μ-loop
+part-read-edge-start c = omega (arith, room (c .before))
 
-part-get-end : tie.Need-part-get-end Inv-loop μ-loop
-part-get-end c = search needs
+part-read-edge-end : tie.Need-part-read-edge-end Inv-loop μ-loop
+part-read-edge-end c = search needs
 
-mul-get : tie.Need-mul-get Inv-loop μ-loop
-mul-get c = let l = c .before .before in omega (arith, room l, l .loop-test .taken, c .before .before .before .before .before .before .before .good)
+mul-read-edge : tie.Need-mul-read-edge Inv-loop μ-loop
+mul-read-edge c = let l = c .before .before in omega (arith, room l, l .loop-test .taken, c .before .before .before .before .before .before .before .good)
 
-get-requires : tie.Need-get-requires Inv-loop μ-loop
-get-requires c κs =
+read-edge-requires : tie.Need-read-edge-requires Inv-loop μ-loop
+read-edge-requires c κs =
     let l = c .before .before in
     let i = l .before .loop .i in
     (omega (arith, room l, l .loop-test .taken, behind-length 39424 (l .before .loop .w)), subst (λ (s : List ℕ). Small (storedAt s (i * 56))) (sym (list-is l)) (here l .0 .small))
 
-add-item-signs-requires : tie.Need-add-item-signs-requires Inv-loop μ-loop
-add-item-signs-requires c κs =
+add-edge-signs-requires : tie.Need-add-edge-signs-requires Inv-loop μ-loop
+add-edge-signs-requires c κs =
     let g = c .before in
     let l = g .before .before .before in
     let a = l .before .before .before .before .before in
@@ -89,7 +89,7 @@ loop-again c =
     let i = l .before .loop .i in
     let w = chars (a .line .now) in
     let edges = signsOf (tableOf (a .table .now) (a .h)) w (edgeOf w (a .table .now) (storedAt (drop 39424 (a .w .now)) (i * 56))) in
-    (toward-next (l .before .loop .inv .0) edges (rest-next (tableOf (a .table .now) (a .h)) (chars (a .line .now)) (a .table .now) (drop 39424 (a .w .now)) (a .n) i (l .loop-test .taken)) (k .add-item-signs .kept .0) (k .add-item-signs .ensures .0) (λ es q. k .add-item-signs .ensures .1 es (storedAt (drop 39424 (a .w .now)) (i * 56)) q (read-is g)), here l .1, omega (arith, l .loop-test .taken))
+    (toward-next (l .before .loop .inv .0) edges (rest-next (tableOf (a .table .now) (a .h)) (chars (a .line .now)) (a .table .now) (drop 39424 (a .w .now)) (a .n) i (l .loop-test .taken)) (k .add-edge-signs .kept .0) (k .add-edge-signs .ensures .0) (λ es q. k .add-edge-signs .ensures .1 es (storedAt (drop 39424 (a .w .now)) (i * 56)) q (read-is g)), here l .1, omega (arith, l .loop-test .taken))
 
 same-length : tie.Need-same-length Inv-loop μ-loop
 same-length c = c .before .loop .inv .0 .long
@@ -107,12 +107,12 @@ add-signs-spec =
     Inv-loop
     μ-loop
     loop-holds
-    sub-get
-    part-get-start
-    part-get-end
-    mul-get
-    get-requires
-    add-item-signs-requires
+    sub-read-edge
+    part-read-edge-start
+    part-read-edge-end
+    mul-read-edge
+    read-edge-requires
+    add-edge-signs-requires
     add-i
     loop-less
     loop-again

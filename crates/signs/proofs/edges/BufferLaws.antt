@@ -19,7 +19,7 @@ use Rattle.edge.specs.Write.{regular}
 use Rattle.lattice.specs.declared.Lattice.{Lattice}
 use Rattle.lattice.specs.Lattice.{add}
 use Rattle.lattice.specs.Kept.{Holds}
-use Rattle.pass_edge.specs.Sound.{StoredIs}
+use Rattle.pass_edge.specs.Grounded.{StoredIs}
 use Rattle.pass_edge.specs.Texts.{typeOf, Front}
 use Rattle.pass_edge.proofs.TextLaws.{front-take, txt-short, type-short, type-of-edge}
 use Rattle.signs.specs.SignEdges.{signEdgeAt, Begins}

@@ -24,7 +24,7 @@ use Rattle.table.proofs.LayoutLaws.{many-nil, many-fault, many-cons}
 use Rattle.table.proofs.LookupLaws.{rising-lower, drop-stops, found-other}
 use Rattle.table.specs.Walk.{Stands}
 use Rattle.table.proofs.record.WalkLaws.{record-begins}
-use Rattle.table.specs.Index.{FoundAt, FoundIs, Whole, Tail, Ahead, Entry, strideOf, Indexed, Growing}
+use Rattle.table.specs.Index.{FoundAt, FoundIs, Whole, RecordsTail, RecordsAhead, Entry, strideOf, Indexed, IndexGrowing}
 use Rattle.table.specs.declared.index.Index.{Index}
 use Rattle.table.specs.declared.index.CharRecord.{CharRecord}
 use Rattle.table.specs.declared.index.CharRecord.the-variants.{At, Nothing}
@@ -74,7 +74,7 @@ module _ (t : List ℕ) (left at : ℕ) where
     full-next reads = omega (arith, ap length (rest-cons reads some-left))
 
 -- ---- a turn of `find_from`
-module _ (t : List ℕ) (rs : List Record) (c at left : ℕ) (a : Ahead t rs c at left) where
+module _ (t : List ℕ) (rs : List Record) (c at left : ℕ) (a : RecordsAhead t rs c at left) where
   pub turn-none : recordsAt left t at ≡ [] → find rs c ≡ none
   turn-none e = sym (a .finds) ∙ rw e (find-nil c)
 
@@ -98,7 +98,7 @@ module _ (t : List ℕ) (rs : List Record) (c at left : ℕ) (a : Ahead t rs c a
       none-here : c < leAt t at 4 → find rs c ≡ none
       none-here h = let begins = record-begins t at reads .1 in sym finds-here ∙ sym (found-other c (r ∷ behind) rises-here (sym (drop-stops c r behind (omega arith))) (λ e. omega arith))
 
-      pub turn-next : (leAt t at 4 ≡ c → ⊥) → Ahead t rs c next (left - 1)
+      pub turn-next : (leAt t at 4 ≡ c → ⊥) → RecordsAhead t rs c next (left - 1)
       turn-next n = record {
         whole = record {
           full = full-next t left at (a .whole .full) some-left reads;
@@ -119,11 +119,11 @@ module _ (t : List ℕ) (rs : List Record) (c at left : ℕ) (a : Ahead t rs c a
         go Fault e = turn-fault e
 
 -- ---- a turn of `index_records`
-module _ (t : List ℕ) (rs : List Record) (at left least : ℕ) (a : Tail t rs at left least) (r : Record) (next : ℕ) (reads : readRecord t at ≡ Is r next) (some-left : 0 < left) where
+module _ (t : List ℕ) (rs : List Record) (at left least : ℕ) (a : RecordsTail t rs at left least) (r : Record) (next : ℕ) (reads : readRecord t at ≡ Is r next) (some-left : 0 < left) where
   rises-from : (least ≤ r .code-point) × (rising (r .code-point + 1) (recordsAt (left - 1) t next) ≡ true)
   rises-from = rising-parts least r (recordsAt (left - 1) t next) (rw (← rest-cons t left at reads some-left) (a .rises))
 
-  pub tail-next : Tail t rs next (left - 1) (r .code-point + 1)
+  pub tail-next : RecordsTail t rs next (left - 1) (r .code-point + 1)
   tail-next = record {
     full = full-next t left at (a .full) some-left reads;
     rises = rises-from .1;
@@ -139,11 +139,11 @@ module _ (t : List ℕ) (rs : List Record) (at left least : ℕ) (a : Tail t rs 
       let begins = record-begins t at reads in
       record { least = least; tail = a; there = begins .0; low = rw (← begins .1) (rises-from .0) }
 
-pub tail-all : (t : List ℕ) (at left : ℕ) → Whole t at left → Tail t (recordsAt left t at) at left 0
+pub tail-all : (t : List ℕ) (at left : ℕ) → Whole t at left → RecordsTail t (recordsAt left t at) at left 0
 tail-all t at left h = record { full = h .full; rises = h .rises; finds = λ c k. refl }
 
 -- ---- the index
-pub index-none : (t : List ℕ) (rs : List Record) (os : List ℕ) (all : ℕ) → length os ≡ 256 → Growing t rs os all (record { n = 0; due = all })
+pub index-none : (t : List ℕ) (rs : List Record) (os : List ℕ) (all : ℕ) → length os ≡ 256 → IndexGrowing t rs os all (record { n = 0; due = all })
 index-none t rs os all l = record {
   made = record { few = omega arith; long = l; inner = λ i h. absurd (omega arith); entries = λ i h. absurd (omega arith) };
   next = omega arith;
@@ -165,7 +165,7 @@ due-room all x next h = index-short all (x .n) (omega (arith, next))
 pub due-next : (all : ℕ) (x : Index) → x .due ≡ all - x .n * strideOf all → x .due - strideOf all ≡ all - (x .n + 1) * strideOf all
 due-next all x next = omega (arith, next, add-mul (x .n) 1 (strideOf all))
 
-module _ (t : List ℕ) (rs : List Record) (os : List ℕ) (all : ℕ) (x : Index) (g : Growing t rs os all x) (left : ℕ) (here : left ≡ x .due) (some-left : 0 < left) where
+module _ (t : List ℕ) (rs : List Record) (os : List ℕ) (all : ℕ) (x : Index) (g : IndexGrowing t rs os all x) (left : ℕ) (here : left ≡ x .due) (some-left : 0 < left) where
   abbrev n : ℕ
   n = x .n
 
@@ -175,7 +175,7 @@ module _ (t : List ℕ) (rs : List Record) (os : List ℕ) (all : ℕ) (x : Inde
   room : n < 256
   room = index-short all n due-inner
 
-  pub index-more : (at : ℕ) → Entry t rs at left → Growing t rs (set os n at) all (record { n = n + 1; due = left - strideOf all })
+  pub index-more : (at : ℕ) → Entry t rs at left → IndexGrowing t rs (set os n at) all (record { n = n + 1; due = left - strideOf all })
   index-more at e = record {
     made = record {
       few = omega (arith, room);
@@ -196,17 +196,17 @@ module _ (t : List ℕ) (rs : List Record) (os : List ℕ) (all : ℕ) (x : Inde
 
 -- from an entry that is not above c one may look for c
 pub index-ahead : (t : List ℕ) (rs : List Record) (os : List ℕ) (all n : ℕ) → Indexed t rs os all n → (i c at : ℕ) → i < n → at ≡ getD os i 0 → leAt t at 4 ≤ c
-    → Ahead t rs c at (all - i * strideOf all)
+    → RecordsAhead t rs c at (all - i * strideOf all)
 index-ahead t rs os all n x i c at h a k =
     let e : Entry t rs at (all - i * strideOf all) = rw a (x .entries i h) in
     let low = e .low in
     record { whole = record { full = e .tail .full; rises = rising-lower 0 (e .least) _ (omega arith) (e .tail .rises) }; finds = e .tail .finds c (omega arith) }
 
-pub ahead-all : (t : List ℕ) (c at left : ℕ) → Whole t at left → Ahead t (recordsAt left t at) c at left
+pub ahead-all : (t : List ℕ) (c at left : ℕ) → Whole t at left → RecordsAhead t (recordsAt left t at) c at left
 ahead-all t c at left h = record { whole = h; finds = refl }
 
 -- what is found from there on is found among all
-pub found-ahead : (t : List ℕ) (rs : List Record) (c at left : ℕ) (r : CharRecord) → Ahead t rs c at left → FoundIs t (recordsAt left t at) c r → FoundIs t rs c r
+pub found-ahead : (t : List ℕ) (rs : List Record) (c at left : ℕ) (r : CharRecord) → RecordsAhead t rs c at left → FoundIs t (recordsAt left t at) c r → FoundIs t rs c r
 found-ahead t rs c at left (At p o) a f = record { found = sym (a .finds) ∙ f .found; reads = f .reads; inside = f .inside }
 found-ahead t rs c at left Nothing a f = sym (a .finds) ∙ f
 

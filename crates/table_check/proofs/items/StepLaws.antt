@@ -11,7 +11,7 @@ use Rattle.table.specs.Check.{legalRecord, readRecords}
 use Rattle.table.specs.Answers.{endOf}
 use Rattle.table.proofs.CheckLaws.{item-legal, records-turn}
 use Rattle.table.proofs.LookupLaws.{item-fine}
-use Rattle.table.specs.Index.{Whole, Tail, Entry, strideOf, Growing, IndexIf}
+use Rattle.table.specs.Index.{Whole, RecordsTail, Entry, strideOf, IndexGrowing, IndexIf}
 use Rattle.table.specs.declared.index.Index.{Index}
 use Rattle.table.proofs.index.IndexLaws.{index-none, tail-all, tail-entry, tail-next}
 use Rattle.record_check.specs.Plain.{LegalAt}
@@ -27,7 +27,7 @@ module _ (s : List ℕ) (at least : ℕ) where
 -- ---- the index, which is right if all records are laid out and rise
 pub record Making (s : List ℕ) (from n : ℕ) (offs : List ℕ) (at left : ℕ) (x : Index) : Type 0 where
   pub next : x .due ≡ n - x .n * strideOf n
-  pub grown : Whole s from n → Growing s (recordsAt n s from) offs n x × ((least : ℕ) × Tail s (recordsAt n s from) at left least)
+  pub grown : Whole s from n → IndexGrowing s (recordsAt n s from) offs n x × ((least : ℕ) × RecordsTail s (recordsAt n s from) at left least)
 
 pub making-none : (s : List ℕ) (from n : ℕ) (offs : List ℕ) → length offs ≡ 256 → Making s from n offs from n (record { n = 0; due = n })
 making-none s from n offs l = record { next = omega arith; grown = λ w. (index-none s (recordsAt n s from) offs n l, (0, tail-all s from n w)) }
@@ -38,7 +38,7 @@ module _ (s : List ℕ) (from n : ℕ) {offs : List ℕ} {at left : ℕ} {x : In
 
   -- a record more, which was entered
   pub making-more : {least c next : ℕ} → Passed s at least c next → 0 < left → {os : List ℕ} {y : Index} → y .due ≡ n - y .n * strideOf n
-      → ((t : List ℕ) (rs : List Record) → Entry t rs at left → Growing t rs offs n x → Growing t rs os n y) → Making s from n os next (left - 1) y
+      → ((t : List ℕ) (rs : List Record) → Entry t rs at left → IndexGrowing t rs offs n x → IndexGrowing t rs os n y) → Making s from n os next (left - 1) y
   making-more {least} {c} {next} p h d g =
       let reads = item-fine at (legalRecord least) (readRecord s at) (p .is) .0 in
       record {

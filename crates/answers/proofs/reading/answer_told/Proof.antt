@@ -2,12 +2,12 @@
 use mathlib.Core.Path.{sym, ap, _∙_}
 use borrow.Author.Needs.{needs}
 use Prim.Native.Nat.{ℕ}
-use Rattle.answers.specs.declared.Told.{Told}
+use Rattle.answers.specs.declared.CStatus.{CStatus}
 use Rattle.answers.specs.Statuses.{answerTold}
 use Rattle.answers.proofs.reading.answer_told.Statement.{statement}
 use Rattle.answers.proofs.reading.answer_told.Tie as tie
 
-abbrev at-offset : ℕ → Told
+abbrev at-offset : ℕ → CStatus
 at-offset n = record { status = 0; at = n }
 
 enum-known-a : tie.Need-enum-known-a

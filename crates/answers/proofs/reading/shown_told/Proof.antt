@@ -1,13 +1,13 @@
 -- `answers::reading::shown_told` meets its contract: the part, or what `refusal_told` answers. Assumes nothing.
 use mathlib.Core.Path.{sym, ap, _∙_}
 use borrow.Author.Needs.{needs}
-use Rattle.answers.specs.declared.Told.{Told}
-use Rattle.answers.specs.declared.reading.ToldText.{ToldText}
+use Rattle.answers.specs.declared.CStatus.{CStatus}
+use Rattle.answers.specs.declared.reading.CText.{CText}
 use Rattle.answers.specs.Statuses.{shownTold}
 use Rattle.answers.proofs.reading.shown_told.Statement.{statement}
 use Rattle.answers.proofs.reading.shown_told.Tie as tie
 
-abbrev no-text : Told → ToldText
+abbrev no-text : CStatus → CText
 no-text t = record { status = t .status; at = t .at; len = 0; in_listing = 0 }
 
 enum-known-a : tie.Need-enum-known-a

@@ -13,7 +13,7 @@ use Rattle.pass_list.specs.Edges.{edgeOf}
 use Rattle.pass_list.specs.Stored.{storedListAt}
 use Rattle.lattice.specs.Kept.{Holds}
 use Rattle.numbers.specs.CallEdge.{CallEdges}
-use Rattle.pass_edge.specs.Sound.{Sounds}
+use Rattle.pass_edge.specs.Grounded.{AllGrounded}
 use Rattle.first_stages.specs.Five.{behind}
 use Rattle.fractions.proofs.NewLaws.{fractions-call}
 use Rattle.signs.proofs.CallLaws.{add-signs-call}
@@ -58,7 +58,7 @@ fractions-requires c κs = search needs
 add-signs-requires : tie.Need-add-signs-requires
 add-signs-requires c κs = let f = c .before .before .before in
     let p = start f .pre in
-    ((_, f .fractions .ensures .1 (p .1 .0) (p .1 .1) (p .1 .2)), p .2, (_, p .0), subst (Sounds (chars (start f .args .line .now)) (start f .args .table .now)) (sym (moved f)) (p .3), omega (arith, p .5, f .fractions .kept .0))
+    ((_, f .fractions .ensures .1 (p .1 .0) (p .1 .1) (p .1 .2)), p .2, (_, p .0), subst (AllGrounded (chars (start f .args .line .now)) (start f .args .table .now)) (sym (moved f)) (p .3), omega (arith, p .5, f .fractions .kept .0))
 
 separate-requires : tie.Need-separate-requires
 separate-requires c κs = let a = c .before .before .before in

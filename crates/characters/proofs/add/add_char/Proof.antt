@@ -3,7 +3,7 @@ use mathlib.Core.Path.{sym, _∙_}
 use native.Mathlib.Omega.{arith}
 use Rattle.text.specs.Text.{chars}
 use Rattle.pass_list.specs.StoredEdge.{StoredEdge}
-use Rattle.pass_edge.specs.Sound.{LegalAt, StoredIs}
+use Rattle.pass_edge.specs.Grounded.{LegalAt, StoredIs}
 use Rattle.pass_edge.specs.Texts.{TextsAre}
 use Rattle.pass_edge.proofs.TextLaws.{places-of, type-within, own-part}
 use Rattle.pass_edge.proofs.listed.FieldLaws.{legal-there}
@@ -14,7 +14,7 @@ use Rattle.characters.proofs.add.add_char.Tie as tie
 
 -- a character's record was checked
 legal : (s : tie.Start) → LegalAt (s .args .table .now) (s .args .x .«record_at» .0)
-legal s = legal-there (s .args .line .now) (s .args .table .now) (s .args .x) (s .pre .0 .item .0) (s .pre .0 .item .1) (s .pre .1)
+legal s = legal-there (s .args .line .now) (s .args .table .now) (s .args .x) (s .pre .0 .stored-edge .0) (s .pre .0 .stored-edge .1) (s .pre .1)
 
 abbrev start : tie.After-type-at → tie.Start
 start c = c .before .before .before .before .before
@@ -30,16 +30,16 @@ rom-texts c =
     let x = s .args .x in
     char-texts (s .args .line .now) (s .args .table .now) x (s .pre .1) (with-rom c .type-at .ensures) (c .rom-at .ensures (chars (s .args .line .now)) (x .start .0) (x .end .0))
 
-abbrev without : tie.After-own-at → tie.After-type-at
+abbrev without : tie.After-line-part → tie.After-type-at
 without c = c .before .before .before
 
-own-texts : (c : tie.After-own-at) → let s = start (without c) in (i : StoredEdge) → StoredIs (s .args .line .now) (s .args .table .now) (s .args .x) i
-    → TextsAre (s .args .line .now) (s .args .table .now) (s .args .x) (without c .type-at .result .now) (c .own-at .result .now) i
+own-texts : (c : tie.After-line-part) → let s = start (without c) in (i : StoredEdge) → StoredIs (s .args .line .now) (s .args .table .now) (s .args .x) i
+    → TextsAre (s .args .line .now) (s .args .table .now) (s .args .x) (without c .type-at .result .now) (c .line-part .result .now) i
 own-texts c =
     let s = start (without c) in
     let x = s .args .x in
     let own = own-part (s .args .table .now) (x .«record_at» .0) (legal s) (chars (s .args .line .now)) (x .start .0) (x .end .0) (c .before .if1 .left) in
-    char-texts (s .args .line .now) (s .args .table .now) x (s .pre .1) (without c .type-at .ensures) (c .own-at .ensures ∙ sym own)
+    char-texts (s .args .line .now) (s .args .table .now) x (s .pre .1) (without c .type-at .ensures) (c .line-part .ensures ∙ sym own)
 
 fraction-at-requires : tie.Need-fraction-at-requires
 fraction-at-requires c κs = legal (c .before .before .before)
@@ -69,11 +69,11 @@ same-length c = c .before .before .add-texts .kept .0
 returns : tie.Need-returns
 returns c = texts-added (rom-texts (c .before .before .before .before)) (c .before .before .add-texts .ensures)
 
-own-at-requires : tie.Need-own-at-requires
-own-at-requires c κs =
+line-part-requires : tie.Need-line-part-requires
+line-part-requires c κs =
     let s = start (c .before .before) in
     let p = s .pre .0 in
-    let places = places-of (s .args .line .now) (s .args .table .now) (s .args .x) (p .item .0) (p .item .1) in
+    let places = places-of (s .args .line .now) (s .args .table .now) (s .args .x) (p .stored-edge .0) (p .stored-edge .1) in
     (p .offsets, places .0, places .1, p .few)
 
 add-texts-requires-2 : tie.Need-add-texts-requires-2
@@ -101,7 +101,7 @@ add-char-spec =
     add-texts-requires
     same-length
     returns
-    own-at-requires
+    line-part-requires
     add-texts-requires-2
     same-length-2
     returns-2)

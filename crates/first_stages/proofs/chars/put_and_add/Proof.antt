@@ -1,4 +1,4 @@
--- `first_stages::chars::put_and_add` meets its contract: the item is stored behind the lattice, which stays, and then its edge is added. Assumes nothing.
+-- `first_stages::chars::put_and_add` meets its contract: the stored edge is stored behind the lattice, which stays, and then its edge is added. Assumes nothing.
 use borrow.Author.Needs.{needs}
 use mathlib.Core.Path.{_≡_, ap, _∙_}
 use Prim.Native.Nat.{_+_, _*_}
@@ -7,7 +7,7 @@ use lib.Seq.{sets}
 use Rattle.pass_list.specs.declared.record.PassEdge.{PassEdge}
 use Rattle.pass_list.specs.StoredEdge.{StoredEdge}
 use Rattle.pass_list.specs.Stored.{recordBytes}
-use Rattle.pass_edge.specs.Sound.{StoredIs}
+use Rattle.pass_edge.specs.Grounded.{StoredIs}
 use Rattle.characters.specs.CharStored.{charStored}
 use Rattle.characters.proofs.CharLaws.{char-kind}
 use Rattle.first_stages.proofs.chars.AddingLaws.{stored-holds, stored-behind}
@@ -17,29 +17,29 @@ use Rattle.first_stages.proofs.chars.put_and_add.Tie as tie
 abbrev start : tie.After-char-edge → tie.Start
 start e = e .before .before .before .before
 
-abbrev item : tie.After-char-edge → StoredEdge
-item e = let a = start e .args in charStored (a .table .now) (a .p) (a .record-at) (a .place) (a .c)
+abbrev stored-edge : tie.After-char-edge → StoredEdge
+stored-edge e = let a = start e .args in charStored (a .table .now) (a .p) (a .record-at) (a .place) (a .c)
 
-is : (e : tie.After-char-edge) → StoredIs (start e .args .line .now) (start e .args .table .now) (e .char-edge .result) (item e)
+is : (e : tie.After-char-edge) → StoredIs (start e .args .line .now) (start e .args .table .now) (e .char-edge .result) (stored-edge e)
 is e = record { is = e .char-edge .ensures; sound = start e .pre .4 }
 
-abbrev edge : tie.After-put → tie.After-char-edge
+abbrev edge : tie.After-write-edge → tie.After-char-edge
 edge c = c .before .before
 
-stored : (c : tie.After-put) → let a = start (edge c) .args in c .put .last .0 ≡ sets (a .w .now) (39424 + a .n * 56) (recordBytes (item (edge c)))
-stored c = c .put .ensures (item (edge c)) (edge c .char-edge .ensures)
+stored : (c : tie.After-write-edge) → let a = start (edge c) .args in c .write-edge .last .0 ≡ sets (a .w .now) (39424 + a .n * 56) (recordBytes (stored-edge (edge c)))
+stored c = c .write-edge .ensures (stored-edge (edge c)) (edge c .char-edge .ensures)
 
 char-edge-requires : tie.Need-char-edge-requires
 char-edge-requires c κs = let p = c .before .before .before .pre in (p .3, p .4 .small, omega (arith, p .2))
 
-mul-put : tie.Need-mul-put
-mul-put c = omega (arith, start (c .before) .pre .1)
+mul-write-edge : tie.Need-mul-write-edge
+mul-write-edge c = omega (arith, start (c .before) .pre .1)
 
-add-put : tie.Need-add-put
-add-put c = omega (arith, start (c .before) .pre .1)
+add-write-edge : tie.Need-add-write-edge
+add-write-edge c = omega (arith, start (c .before) .pre .1)
 
-put-requires : tie.Need-put-requires
-put-requires c κs = let p = start (c .before) .pre in (omega (arith, p .1, p .0 .long), (item (c .before), c .before .char-edge .ensures))
+write-edge-requires : tie.Need-write-edge-requires
+write-edge-requires c κs = let p = start (c .before) .pre in (omega (arith, p .1, p .0 .long), (stored-edge (c .before), c .before .char-edge .ensures))
 
 add-char-requires : tie.Need-add-char-requires
 add-char-requires c κs =
@@ -49,9 +49,9 @@ add-char-requires c κs =
     let a = s .args in
     let room = s .pre .0 in (
       record {
-        holds = (_, stored-holds (a .w .now) (at-put .put .last .0) (a .n) (item e) (stored at-put) (room .holds .1));
+        holds = (_, stored-holds (a .w .now) (at-put .write-edge .last .0) (a .n) (stored-edge e) (stored at-put) (room .holds .1));
         offsets = room .offsets;
-        item = (item e, is e);
+        stored-edge = (stored-edge e, is e);
         few = room .few;
       },
       ap (λ (x : PassEdge). x .kind) (e .char-edge .ensures .is) ∙ char-kind (a .table .now) (a .p) (a .record-at) (a .place) (a .c),
@@ -68,10 +68,10 @@ returns c =
     let s = start e in
     let w = s .args .w .now in
     let n = s .args .n in
-    let v = at-put .put .last .0 in
+    let v = at-put .write-edge .last .0 in
     let added = at-add .add-char .ensures in (
-      stored-behind w v n (item e) (stored at-put) (at-add .add-char .last .0) (e .char-edge .ensures .fits) (omega (arith, s .pre .1, s .pre .0 .long)) (added .frame),
-      λ es h. added .holds es (item e) (stored-holds w v n (item e) (stored at-put) h) (is e),
+      stored-behind w v n (stored-edge e) (stored at-put) (at-add .add-char .last .0) (e .char-edge .ensures .fits) (omega (arith, s .pre .1, s .pre .0 .long)) (added .frame),
+      λ es h. added .holds es (stored-edge e) (stored-holds w v n (stored-edge e) (stored at-put) h) (is e),
     )
 
 pub put-and-add-spec : {M : Type 1} → statement M
@@ -79,9 +79,9 @@ put-and-add-spec =
     tie.close
     (tie.spec
     char-edge-requires
-    mul-put
-    add-put
-    put-requires
+    mul-write-edge
+    add-write-edge
+    write-edge-requires
     add-char-requires
     same-length
     returns)

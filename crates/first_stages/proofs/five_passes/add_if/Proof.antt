@@ -1,4 +1,4 @@
--- `first_stages::five_passes::add_if` meets its contract: the item that is read is the one of the list behind the lattice, and what is read first is its kind. Assumes nothing.
+-- `first_stages::five_passes::add_if` meets its contract: the stored edge that is read is the one of the list behind the lattice, and what is read first is its kind. Assumes nothing.
 use mathlib.Core.Path.{_≡_, refl, sym, ap, _∙_, subst}
 use Prim.Native.Nat.{_*_}
 use native.Mathlib.Omega.{arith}
@@ -8,26 +8,26 @@ use Rattle.pass_list.specs.declared.record.PassEdge.{PassEdge}
 use Rattle.pass_list.specs.StoredEdge.{StoredEdge, Small}
 use Rattle.pass_list.specs.Stored.{storedAt}
 use Rattle.lattice.specs.Kept.{Holds}
-use Rattle.pass_edge.specs.Sound.{StoredIs}
-use Rattle.first_stages.proofs.five_passes.AddingLaws.{kind-behind, item-behind-is, item-behind, passes-over, added-if}
+use Rattle.pass_edge.specs.Grounded.{StoredIs}
+use Rattle.first_stages.proofs.five_passes.AddingLaws.{kind-behind, stored-edge-behind-is, stored-edge-behind, passes-over, added-if}
 use Rattle.first_stages.proofs.five_passes.add_if.Statement.{statement}
 use Rattle.first_stages.proofs.five_passes.add_if.Tie as tie
 
 abbrev start : tie.After-u16-at → tie.Start
 start c = c .before .before .before .before .before
 
-abbrev item : tie.After-u16-at → StoredEdge
-item c = storedAt (drop 39424 (start c .args .w .now)) (start c .args .i * 56)
+abbrev stored-edge : tie.After-u16-at → StoredEdge
+stored-edge c = storedAt (drop 39424 (start c .args .w .now)) (start c .args .i * 56)
 
-kind : (c : tie.After-u16-at) → c .u16-at .result ≡ item c .kind
+kind : (c : tie.After-u16-at) → c .u16-at .result ≡ stored-edge c .kind
 kind c = c .u16-at .ensures ∙ kind-behind (start c .args .w .now) (start c .args .i * 56)
 
--- the item, as it is decoded
-abbrev at-kind : tie.After-get → tie.After-u16-at
+-- the stored edge, as it is decoded
+abbrev at-kind : tie.After-read-edge → tie.After-u16-at
 at-kind c = c .before .before .before
 
-is : (c : tie.After-get) → let s = start (at-kind c) in StoredIs (s .args .line .now) (s .args .table .now) (c .get .result) (item (at-kind c))
-is c = let s = start (at-kind c) in let a = s .args in item-behind (a .line .now) (a .table .now) (a .w .now) (a .i * 56) (c .get .result) (s .pre .3) (c .get .ensures)
+is : (c : tie.After-read-edge) → let s = start (at-kind c) in StoredIs (s .args .line .now) (s .args .table .now) (c .read-edge .result) (stored-edge (at-kind c))
+is c = let s = start (at-kind c) in let a = s .args in stored-edge-behind (a .line .now) (a .table .now) (a .w .now) (a .i * 56) (c .read-edge .result) (s .pre .3) (c .read-edge .ensures)
 
 mul-at : tie.Need-mul-at
 mul-at c = omega (arith, c .before .before .before .pre .4)
@@ -48,19 +48,19 @@ returns : tie.Need-returns
 returns c =
     let g = c .before in
     let a = start g .args in
-    (refl, λ es h. subst (Holds _ _) (passes-over (chars (a .line .now)) (a .table .now) (a .kind) es (item g) (λ e. c .if1 .taken (kind g ∙ e))) h)
+    (refl, λ es h. subst (Holds _ _) (passes-over (chars (a .line .now)) (a .table .now) (a .kind) es (stored-edge g) (λ e. c .if1 .taken (kind g ∙ e))) h)
 
-get-requires : tie.Need-get-requires
-get-requires c κs =
+read-edge-requires : tie.Need-read-edge-requires
+read-edge-requires c κs =
     let s = start (c .before .before) in
-    (s .pre .4, subst Small (sym (item-behind-is (s .args .w .now) (s .args .i * 56))) (s .pre .3 .small))
+    (s .pre .4, subst Small (sym (stored-edge-behind-is (s .args .w .now) (s .args .i * 56))) (s .pre .3 .small))
 
 add-joined-requires : tie.Need-add-joined-requires
 add-joined-requires c κs =
     let g = c .before in
     let p = start (at-kind g) .pre in
-    let of-kind : g .get .result .kind ≡ start (at-kind g) .args .kind = ap (λ (e : PassEdge). e .kind) (is g .is .is) ∙ sym (kind (at-kind g)) ∙ g .before .before .if1 .left in
-    (record { holds = p .0; offsets = p .1; item = (item (at-kind g), is g); few = p .2 }, λ z. p .5 (sym of-kind ∙ z))
+    let of-kind : g .read-edge .result .kind ≡ start (at-kind g) .args .kind = ap (λ (e : PassEdge). e .kind) (is g .is .is) ∙ sym (kind (at-kind g)) ∙ g .before .before .if1 .left in
+    (record { holds = p .0; offsets = p .1; stored-edge = (stored-edge (at-kind g), is g); few = p .2 }, λ z. p .5 (sym of-kind ∙ z))
 
 same-length-2 : tie.Need-same-length-2
 same-length-2 c = c .before .before .add-joined .kept .0
@@ -71,7 +71,7 @@ returns-2 c =
     let g = c .before .before .before .before in
     let k = at-kind g in
     let a = start k .args in
-    (added .frame, added-if (a .line .now) (a .table .now) (a .kind) (g .get .result) (item k) (is g) (sym (kind k) ∙ g .before .before .if1 .left) added)
+    (added .frame, added-if (a .line .now) (a .table .now) (a .kind) (g .read-edge .result) (stored-edge k) (is g) (sym (kind k) ∙ g .before .before .if1 .left) added)
 
 pub add-if-spec : {M : Type 1} → statement M
 add-if-spec =
@@ -83,7 +83,7 @@ add-if-spec =
     u16-at-requires
     same-length
     returns
-    get-requires
+    read-edge-requires
     add-joined-requires
     same-length-2
     returns-2)

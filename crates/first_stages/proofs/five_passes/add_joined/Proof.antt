@@ -6,7 +6,7 @@ use native.Mathlib.Omega.{arith}
 use lib.ListN.{length, take}
 use lib.Seq.{length-take-le}
 use Rattle.pass_list.specs.StoredEdge.{StoredEdge}
-use Rattle.pass_edge.specs.Sound.{StoredIs}
+use Rattle.pass_edge.specs.Grounded.{StoredIs}
 use Rattle.pass_edge.specs.Texts.{TextsAre}
 use Rattle.pass_edge.proofs.listed.FieldLaws.{fraction-joined}
 use Rattle.pass_edge.proofs.listed.AddedLaws.{texts-there, texts-added}
@@ -32,7 +32,7 @@ texts c =
 fits : (c : tie.After-add-texts-arg) → (at-type c .type-of .result ≤ length (at-type c .type-of .last .0)) × (at-txt c .txt-of .result ≤ length (at-txt c .txt-of .last .0))
 fits c =
     let s = start c in
-    let (i, is) = s .pre .0 .item in
+    let (i, is) = s .pre .0 .stored-edge in
     let f = joined-fits (s .args .line .now) (s .args .table .now) (s .args .x) (at-type c .type-of .ensures) refl (at-txt c .txt-of .ensures) refl (s .pre .0 .few) i is in
     (omega (arith, f .0, at-type c .type-of .kept .0), omega (arith, f .1, at-txt c .txt-of .kept .0))
 

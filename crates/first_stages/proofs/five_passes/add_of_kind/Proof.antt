@@ -1,10 +1,10 @@
--- `first_stages::five_passes::add_of_kind` meets its contract. The loop's invariant is `Adding`: what the lattice holds are the items of this kind among the first i, and the list
--- behind it is as it was. The measure is what is left of the items. Assumes nothing.
+-- `first_stages::five_passes::add_of_kind` meets its contract. The loop's invariant is `Adding`: what the lattice holds are the stored edges of this kind among the first i, and the list
+-- behind it is as it was. The measure is what is left of the stored edges. Assumes nothing.
 use borrow.Author.Needs.{needs}
 use Prim.Native.Nat.{_-_}
 use native.Mathlib.Omega.{arith}
 use Rattle.text.specs.Text.{chars}
-use Rattle.first_stages.proofs.five_passes.AddingLaws.{Adding, adding-none, adding-more, adding-all, item-sound}
+use Rattle.first_stages.proofs.five_passes.AddingLaws.{Adding, adding-none, adding-more, adding-all, stored-edge-sound}
 use Rattle.first_stages.proofs.five_passes.add_of_kind.Statement.{statement}
 use Rattle.first_stages.proofs.five_passes.add_of_kind.Tie as tie
 
@@ -24,7 +24,7 @@ add-if-requires c κs =
     let a = start .args in
     let i = at-loop .loop .inv in
     let (es, h) = start .pre .0 in
-    ((_, i .holds es h), start .pre .1, start .pre .2, item-sound (chars (a .line .now)) (a .table .now) (a .kind) (a .n) (a .w .now) (a .l) _ _ (at-loop .loop .i) i (start .pre .3) (c .before .loop-test .taken), omega (arith, i .long, start .pre .4, c .before .loop-test .taken), start .pre .5)
+    ((_, i .holds es h), start .pre .1, start .pre .2, stored-edge-sound (chars (a .line .now)) (a .table .now) (a .kind) (a .n) (a .w .now) (a .l) _ _ (at-loop .loop .i) i (start .pre .3) (c .before .loop-test .taken), omega (arith, i .long, start .pre .4, c .before .loop-test .taken), start .pre .5)
 
 add-i : tie.Need-add-i Inv-loop μ-loop
 add-i c = search needs

@@ -5,8 +5,8 @@ use mathlib.Core.Path.{_≡_, _∙_, subst}
 use Prim.Native.Nat.{_-_, _≤_}
 use native.Mathlib.Omega.{arith}
 use Rattle.text.specs.Text.{chars}
-use Rattle.first_stages.specs.Five.{OneIs}
-use Rattle.first_stages.specs.declared.five_passes.Passes.{Passes}
+use Rattle.first_stages.specs.Five.{OnePass}
+use Rattle.first_stages.specs.declared.five_passes.PassesAnswer.{PassesAnswer}
 use Rattle.first_stages.proofs.five_passes.FiveLaws.{Going, going-start, going-above, going-next, going-end}
 use Rattle.first_stages.proofs.five_passes.five_passes.Statement.{statement}
 use Rattle.first_stages.proofs.five_passes.five_passes.Tie as tie
@@ -21,10 +21,10 @@ abbrev at-loop : tie.After-one-pass Inv-loop μ-loop → tie.At-loop Inv-loop μ
 at-loop o = o .before .before .before
 
 -- what the pass answered
-answered : (o : tie.After-one-pass Inv-loop μ-loop) (r : Passes) → o .one-pass .result ≡ r → let a = at-loop o in let s = a .before .before .before .before .args in
-    OneIs (chars (s .line .now)) (s .table .now) (a .loop .i) (a .loop .w) (a .loop .grown) (a .loop .count) (o .one-pass .last .0) r
+answered : (o : tie.After-one-pass Inv-loop μ-loop) (r : PassesAnswer) → o .one-pass .result ≡ r → let a = at-loop o in let s = a .before .before .before .before .args in
+    OnePass (chars (s .line .now)) (s .table .now) (a .loop .i) (a .loop .w) (a .loop .grown) (a .loop .count) (o .one-pass .last .0) r
 answered o r e = let a = at-loop o in let s = a .before .before .before .before .args in
-    subst (OneIs (chars (s .line .now)) (s .table .now) (a .loop .i) (a .loop .w) (a .loop .grown) (a .loop .count) (o .one-pass .last .0)) e (o .one-pass .ensures)
+    subst (OnePass (chars (s .line .now)) (s .table .now) (a .loop .i) (a .loop .w) (a .loop .grown) (a .loop .count) (o .one-pass .last .0)) e (o .one-pass .ensures)
 
 loop-holds : tie.Need-loop-holds Inv-loop μ-loop
 loop-holds c = (going-start (c .before .before .before .pre .4), omega arith)

@@ -1,4 +1,4 @@
--- `first_stages::five_passes::one_pass` meets its contract: the pass leaves the lattice as it is, and then the items of its kind are added, where there are any. Assumes nothing.
+-- `first_stages::five_passes::one_pass` meets its contract: the pass leaves the lattice as it is, and then the stored edges of its kind are added, where there are any. Assumes nothing.
 use borrow.Author.Needs.{needs}
 use mathlib.Core.Path.{_≡_}
 use native.Mathlib.Omega.{arith}

@@ -34,14 +34,14 @@ read c =
     let e = b .before in
     value-read _ _ (e .edge-at .ensures) (b .bit .ensures) (b2 .before .if1 .left) (b2 .bit2 .ensures) (c .before .if2 .left) (e .before .before .pre .1) (c .fields-at .ensures)
 
-float-from-bits-to-u64 : tie.Need-float-from-bits-to-u64
-float-from-bits-to-u64 c = read-number (read (c .before))
+float-from-bits-whole-part : tie.Need-float-from-bits-whole-part
+float-from-bits-whole-part c = read-number (read (c .before))
 
-to-u64-requires : tie.Need-to-u64-requires
-to-u64-requires c κs = search needs
+whole-part-requires : tie.Need-whole-part-requires
+whole-part-requires c κs = search needs
 
 returns-3 : tie.Need-returns-3
-returns-3 c = let r = read (c .before .before) in ap some (c .to-u64 .ensures _ (r .small) (read-float r)) ∙ sym (r .is)
+returns-3 c = let r = read (c .before .before) in ap some (c .whole-part .ensures _ (r .small) (read-float r)) ∙ sym (r .is)
 
 pub whole-value-at-spec : {M : Type 1} → statement M
 whole-value-at-spec =
@@ -53,6 +53,6 @@ whole-value-at-spec =
     bit-requires-2
     returns-2
     fields-at-requires
-    float-from-bits-to-u64
-    to-u64-requires
+    float-from-bits-whole-part
+    whole-part-requires
     returns-3)

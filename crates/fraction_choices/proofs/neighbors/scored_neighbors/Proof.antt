@@ -7,14 +7,14 @@ use Prim.Native.Nat.{_-_}
 use native.Mathlib.Omega.{arith}
 use Rattle.edge.specs.Edge.{Edge}
 use Rattle.paths.specs.Best.{score}
-use Rattle.fraction_choices.specs.Around.{Keeps, placeOf}
+use Rattle.fraction_choices.specs.Around.{HoldsLine, placeOf}
 use Rattle.fraction_choices.proofs.decision.NeighborLaws.{Table, table-start, table-turn, table-ends, keeps-count, keeps-few, keeps-edge, keeps-next, keeps-head, keeps-ten, keeps-place}
 use borrow.Author.Needs.{needs}
 use Rattle.fraction_choices.proofs.neighbors.scored_neighbors.Statement.{statement}
 use Rattle.fraction_choices.proofs.neighbors.scored_neighbors.Tie as tie
 
 abbrev Inv-loop : tie.InvT-loop
-Inv-loop w l right tops₀ table₀ at₀ i₀ tops table at i = (es : List Edge) → Keeps w l es → Table right es at i tops table
+Inv-loop w l right tops₀ table₀ at₀ i₀ tops table at i = (es : List Edge) → HoldsLine w l es → Table right es at i tops table
 
 abbrev μ-loop : tie.MeasureT-loop
 μ-loop w l right tops₀ table₀ at₀ i₀ tops table at i = l .count - i

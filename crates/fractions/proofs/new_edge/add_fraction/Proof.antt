@@ -8,7 +8,7 @@ use Rattle.edge.specs.Edge.{Edge}
 use Rattle.lattice.specs.Lattice.{add}
 use Rattle.lattice.specs.Kept.{noEdge, Holds}
 use Rattle.fraction_choices.specs.Choice.{Two}
-use Rattle.fractions.specs.MadeParts.{Has, scriptFrom, fractionWith}
+use Rattle.fractions.specs.MadeParts.{HoldsCall, scriptFrom, fractionWith}
 use Rattle.fractions.specs.NewEdge.{fractionOf}
 use Rattle.fractions.proofs.texts.TextLaws.{text-count}
 use Rattle.fractions.proofs.new_edge.FractionLaws.{fraction-is}
@@ -33,13 +33,13 @@ left c = c .before .before .before .before
 abbrev right : tie.After-put-fraction → tie.After-value-of2
 right c = c .before .before
 
-script : (c : tie.After-put-fraction) {n : ℕ} {es : List Edge} → Has n (start c .args .w .now) (start c .args .l) es → Two es (start c .args .left) (start c .args .right)
+script : (c : tie.After-put-fraction) {n : ℕ} {es : List Edge} → HoldsCall n (start c .args .w .now) (start c .args .l) es → Two es (start c .args .left) (start c .args .right)
     → ScriptRead (start c .args .w .now) (getD es (start c .args .right) noEdge) (second c .head-of2 .result)
 script c h t = let p = start c .pre in script-read (call-at h (p .1) _ (right-in h (p .1) t)) (t .right-value) (second c .head-of2 .ensures _ _ h)
 
 -- k: after the script was copied
 made : (k : tie.After-lowest) {n : ℕ} {es : List Edge} → let c = k .before .before .before .before in
-    Has n (start c .args .w .now) (start c .args .l) es → Two es (start c .args .left) (start c .args .right)
+    HoldsCall n (start c .args .w .now) (start c .args .l) es → Two es (start c .args .left) (start c .args .right)
     → fractionWith (first c .head-of .result .start .0) (second c .head-of2 .result .end .0) (take (c .put-fraction .result) (c .put-fraction .last .0)) (k .lowest .result .numerator, k .lowest .result .denominator)
     (scriptFrom (k .before .copy-script .last .0) (k .before .copy-script .result))
     ≡ fractionOf es (start c .args .left) (start c .args .right)

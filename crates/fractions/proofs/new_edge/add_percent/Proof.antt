@@ -11,7 +11,7 @@ use Rattle.lattice.specs.Lattice.{add}
 use Rattle.lattice.specs.Kept.{Holds}
 use Rattle.numbers.specs.Fractions.{percentageType}
 use Rattle.fraction_choices.specs.Choice.{Two}
-use Rattle.fractions.specs.MadeParts.{Has}
+use Rattle.fractions.specs.MadeParts.{HoldsCall}
 use Rattle.fractions.specs.NewEdge.{percentOf}
 use Rattle.fractions.proofs.texts.TextLaws.{text-count}
 use Rattle.fractions.proofs.parts.WriteLaws.{regular-is}
@@ -30,7 +30,7 @@ first c = c .before .before .before .before .before .before
 abbrev second : tie.After-put-percent → tie.After-head-of2
 second c = c .before .before .before .before
 
-made : (c : tie.After-put-percent) {n : ℕ} {es : List Edge} → Has n (start c .args .w .now) (start c .args .l) es → Two es (start c .args .left) (start c .args .right)
+made : (c : tie.After-put-percent) {n : ℕ} {es : List Edge} → HoldsCall n (start c .args .w .now) (start c .args .l) es → Two es (start c .args .left) (start c .args .right)
     → regular (first c .head-of .result .start .0) (second c .head-of2 .result .end .0) percentageType (take (c .put-percent .result) (c .put-percent .last .0)) ≡ percentOf es (start c .args .left) (start c .args .right)
 made c h t =
     regular-is percentageType (first c .head-of .ensures _ _ h .start) (second c .head-of2 .ensures _ _ h .end)

@@ -9,7 +9,7 @@ use Rattle.edge.specs.Write.{regular}
 use Rattle.lattice.specs.Lattice.{add}
 use Rattle.lattice.specs.Kept.{Holds}
 use Rattle.numbers.specs.Fractions.{percentageType}
-use Rattle.fractions.specs.MadeParts.{Has, txtPercentOf}
+use Rattle.fractions.specs.MadeParts.{HoldsCall, txtPercentOf}
 use Rattle.fractions.proofs.texts.TextLaws.{text-count}
 use Rattle.fractions.proofs.parts.WriteLaws.{regular-is}
 use Rattle.lattice.proofs.HoldsLaws.{behind-same}
@@ -24,7 +24,7 @@ start c = c .before .before .before .before .before .before
 abbrev head : tie.After-put-txt-percent → tie.After-head-of
 head c = c .before .before .before
 
-made : (c : tie.After-put-txt-percent) {n : ℕ} {es : List Edge} → Has n (start c .args .w .now) (start c .args .l) es
+made : (c : tie.After-put-txt-percent) {n : ℕ} {es : List Edge} → HoldsCall n (start c .args .w .now) (start c .args .l) es
     → regular (start c .args .p .0) (head c .head-of .result .end .0) percentageType (take (c .put-txt-percent .result) (c .put-txt-percent .last .0)) ≡ txtPercentOf es (start c .args .p .0) (start c .args .right)
 made c h =
     let r = head c .head-of .ensures _ _ h in

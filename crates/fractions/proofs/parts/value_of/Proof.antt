@@ -11,7 +11,7 @@ use Rattle.edge.specs.declared.NumFields.{NumFields}
 use Rattle.edge.proofs.theorems.Theorems.{f64-bits-not-nan, f64-bits-back}
 use Rattle.lattice.specs.Kept.{noEdge}
 use Rattle.fraction_choices.specs.Choice.{HasValue}
-use Rattle.fractions.specs.MadeParts.{Has}
+use Rattle.fractions.specs.MadeParts.{HoldsCall}
 use Rattle.fractions.proofs.parts.EdgeLaws.{call-at, ValueRead, value-read}
 use Rattle.fractions.proofs.parts.value_of.Statement.{statement}
 use Rattle.fractions.proofs.parts.value_of.Tie as tie
@@ -19,7 +19,7 @@ use Rattle.fractions.proofs.parts.value_of.Tie as tie
 head-of-requires : tie.Need-head-of-requires
 head-of-requires c κs = let p = c .before .pre in ((p .0 .0, (p .0 .1 .0, p .0 .1 .1)), p .1, p .2)
 
-read : (c : tie.After-head-of) {n : ℕ} {es : List Edge} → Has n (c .before .before .args .w .now) (c .before .before .args .l) es → HasValue (getD es (c .before .before .args .i) noEdge)
+read : (c : tie.After-head-of) {n : ℕ} {es : List Edge} → HoldsCall n (c .before .before .args .w .now) (c .before .before .args .l) es → HasValue (getD es (c .before .before .args .i) noEdge)
     → ValueRead (c .before .before .args .w .now) (getD es (c .before .before .args .i) noEdge) (c .head-of .result)
 read c h v = let p = c .before .before .pre in value-read (call-at h (p .1) _ (p .2)) v (c .head-of .ensures _ _ h)
 
@@ -32,16 +32,16 @@ whole c r = ap (λ (d : NumFields). ofBits binary64 (d .value)) (c .fields-at .e
 fields-at-requires : tie.Need-fields-at-requires
 fields-at-requires c κs = mine c .inside
 
-float-from-bits-to-u64 : tie.Need-float-from-bits-to-u64
-float-from-bits-to-u64 c = let r = mine (c .before .before) in rw (c .before .fields-at .ensures, r .bits) (f64-bits-not-nan (r .small))
+float-from-bits-whole-part : tie.Need-float-from-bits-whole-part
+float-from-bits-whole-part c = let r = mine (c .before .before) in rw (c .before .fields-at .ensures, r .bits) (f64-bits-not-nan (r .small))
 
-to-u64-requires : tie.Need-to-u64-requires
-to-u64-requires c κs = search needs
+whole-part-requires : tie.Need-whole-part-requires
+whole-part-requires c κs = search needs
 
 returns : tie.Need-returns
-returns c = λ n es h v. let r = read (c .before .before .before) h v in c .to-u64 .ensures (r .whole) (r .small) (whole (c .before .before) r) ∙ r .is
+returns c = λ n es h v. let r = read (c .before .before .before) h v in c .whole-part .ensures (r .whole) (r .small) (whole (c .before .before) r) ∙ r .is
 
 pub value-of-spec : {M : Type 1} → statement M
 value-of-spec =
     tie.close
-    (tie.spec head-of-requires fields-at-requires float-from-bits-to-u64 to-u64-requires returns)
+    (tie.spec head-of-requires fields-at-requires float-from-bits-whole-part whole-part-requires returns)

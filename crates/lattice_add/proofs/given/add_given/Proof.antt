@@ -28,25 +28,25 @@ stands c = given-stands _ (λ j. c .shared-slice-known .given j .fits) _ _ (star
 size : (c : tie.After-shared-slice-known) → start c .args .at + 2 ≤ start c .args .to
 size c = given-size _ (λ j. c .shared-slice-known .given j .fits) _ _ (start c .pre .1) (start c .pre .2) (start c .pre .3)
 
-says : (c : tie.After-how-to-add) (es : List Edge) → Holds (start (c .before .before) .args .w .now) (start (c .before .before) .args .l) es
-    → (r : Adding) → c .how-to-add .result ≡ r → AddingIs (start (c .before .before) .args .l) es (E (start (c .before .before))) r
-says c es q r p = let b = c .before .before in subst (AddingIs (start b .args .l) es (E (start b))) p (c .how-to-add .ensures es (E (start b)) q (stands b))
+says : (c : tie.After-plan-add) (es : List Edge) → Holds (start (c .before .before) .args .w .now) (start (c .before .before) .args .l) es
+    → (r : Adding) → c .plan-add .result ≡ r → AddingIs (start (c .before .before) .args .l) es (E (start (c .before .before))) r
+says c es q r p = let b = c .before .before in subst (AddingIs (start b .args .l) es (E (start b))) p (c .plan-add .ensures es (E (start b)) q (stands b))
 
 -- where the edge goes into a bucket
-abbrev asked : tie.After-copy-in-arg → tie.After-how-to-add
+abbrev asked : tie.After-copy-in-arg → tie.After-plan-add
 asked c = c .before .before .before .before
 
 abbrev copying : tie.After-link-arg → tie.After-copy-in-arg
 copying c = c .before .before .before .before .before
 
-sub-how-to-add : tie.Need-sub-how-to-add
-sub-how-to-add c = let h = size (c .before) in omega arith
+sub-plan-add : tie.Need-sub-plan-add
+sub-plan-add c = let h = size (c .before) in omega arith
 
-sub-how-to-add-2 : tie.Need-sub-how-to-add-2
-sub-how-to-add-2 c = let h = size (c .before) in omega arith
+sub-plan-add-2 : tie.Need-sub-plan-add-2
+sub-plan-add-2 c = let h = size (c .before) in omega arith
 
-how-to-add-requires : tie.Need-how-to-add-requires
-how-to-add-requires c κs = (start (c .before) .pre .0, (E (start (c .before)), stands (c .before)))
+plan-add-requires : tie.Need-plan-add-requires
+plan-add-requires c κs = (start (c .before) .pre .0, (E (start (c .before)), stands (c .before)))
 
 enum-told : tie.Need-enum-told
 enum-told c = search needs
@@ -130,9 +130,9 @@ pub add-given-spec : {M : Type 1} → statement M
 add-given-spec =
     tie.close
     (tie.spec
-    sub-how-to-add
-    sub-how-to-add-2
-    how-to-add-requires
+    sub-plan-add
+    sub-plan-add-2
+    plan-add-requires
     enum-told
     enum-told-2
     enum-known-bucket

@@ -4,7 +4,7 @@ use mathlib.Core.Path.{sym, ap, _∙_}
 use mathlib.Core.List.{[]}
 use native.Mathlib.Omega.{arith}
 use lib.ListN.{length}
-use Rattle.pass_edge.specs.Sound.{LegalAt}
+use Rattle.pass_edge.specs.Grounded.{LegalAt}
 use Rattle.pass_edge.proofs.TextLaws.{front-is, type-char, type-kind, type-fits, rooted-char}
 use Rattle.pass_edge.proofs.edge_type.type_of.Statement.{statement}
 use Rattle.pass_edge.proofs.edge_type.type_of.Tie as tie

@@ -1,4 +1,4 @@
--- `pass_edge::listed::add_texts` meets its contract: what is written is the item's edge. Assumes nothing.
+-- `pass_edge::listed::add_texts` meets its contract: what is written is the stored edge's edge. Assumes nothing.
 use borrow.Author.Needs.{needs}
 use mathlib.Core.Path.{_≡_, sym}
 use native.Mathlib.Omega.{arith}
@@ -11,7 +11,7 @@ fields-of-requires : tie.Need-fields-of-requires
 fields-of-requires c κs =
     let start = c .before .before .before .before .before in
     let (i, are) = start .pre .2 in
-    listable (start .args .line .now) (start .args .offs .now) (start .args .table .now) (start .args .x) i (are .item) (start .pre .1) (start .pre .3)
+    listable (start .args .line .now) (start .args .offs .now) (start .args .table .now) (start .args .x) i (are .stored-edge) (start .pre .1) (start .pre .3)
 
 add-numeric-requires : tie.Need-add-numeric-requires
 add-numeric-requires c κs =
@@ -19,7 +19,7 @@ add-numeric-requires c κs =
     let start = at-fields .before .before .before .before .before .before in
     let a = start .args in
     let (i, are) = start .pre .2 in
-    let places = places-of (a .line .now) (a .table .now) (a .x) i (are .item) in
+    let places = places-of (a .line .now) (a .table .now) (a .x) i (are .stored-edge) in
     let write = writable (a .line .now) (a .offs .now) (a .table .now) (a .x) i (a .f) (a .ty .now) (a .txt .now) are (start .pre .1) (start .pre .3) (start .pre .4) (at-fields .fields-of .result) (at-fields .fields-of .ensures) in
     let all = room (a .line .now) (a .offs .now) (a .table .now) (a .x) i (a .f) (a .ty .now) (a .txt .now) are (start .pre .1) (start .pre .3) (start .pre .4) (at-fields .fields-of .result) (at-fields .fields-of .ensures) in
     (start .pre .0, omega (arith, places .0, places .1, start .pre .3), omega (arith, places .1, start .pre .3), write, all .all)

@@ -4,44 +4,44 @@ use Rattle.pass_edge.proofs.listed.FieldLaws.{map-summed}
 use Rattle.pass_edge.proofs.listed.map_of.Statement.{statement}
 use Rattle.pass_edge.proofs.listed.map_of.Tie as tie
 
-worth-requires : tie.Need-worth-requires
-worth-requires c κs = search needs
+bit-if-requires : tie.Need-bit-if-requires
+bit-if-requires c κs = search needs
 
 add-result : tie.Need-add-result
 add-result c = search needs
 
-worth-requires-2 : tie.Need-worth-requires-2
-worth-requires-2 c κs = search needs
+bit-if-requires-2 : tie.Need-bit-if-requires-2
+bit-if-requires-2 c κs = search needs
 
 add-result-2 : tie.Need-add-result-2
 add-result-2 c = search needs
 
-worth-requires-3 : tie.Need-worth-requires-3
-worth-requires-3 c κs = search needs
+bit-if-requires-3 : tie.Need-bit-if-requires-3
+bit-if-requires-3 c κs = search needs
 
 add-result-3 : tie.Need-add-result-3
 add-result-3 c = search needs
 
-worth-requires-4 : tie.Need-worth-requires-4
-worth-requires-4 c κs = search needs
+bit-if-requires-4 : tie.Need-bit-if-requires-4
+bit-if-requires-4 c κs = search needs
 
 add-result-4 : tie.Need-add-result-4
 add-result-4 c = search needs
 
-worth-requires-5 : tie.Need-worth-requires-5
-worth-requires-5 c κs = search needs
+bit-if-requires-5 : tie.Need-bit-if-requires-5
+bit-if-requires-5 c κs = search needs
 
 add-result-5 : tie.Need-add-result-5
 add-result-5 c = search needs
 
-worth-requires-6 : tie.Need-worth-requires-6
-worth-requires-6 c κs = search needs
+bit-if-requires-6 : tie.Need-bit-if-requires-6
+bit-if-requires-6 c κs = search needs
 
 add-result-6 : tie.Need-add-result-6
 add-result-6 c = search needs
 
-worth-requires-7 : tie.Need-worth-requires-7
-worth-requires-7 c κs = search needs
+bit-if-requires-7 : tie.Need-bit-if-requires-7
+bit-if-requires-7 c κs = search needs
 
 add-result-7 : tie.Need-add-result-7
 add-result-7 c = search needs
@@ -54,24 +54,24 @@ returns c =
     let w3 = w4 .before in
     let w2 = w3 .before in
     let w1 = w2 .before in
-    map-summed (w1 .before .args .x) (w1 .before .args .fraction) (w1 .worth .ensures .0) (w2 .worth2 .ensures .0) (w3 .worth3 .ensures .0) (w4 .worth4 .ensures .0) (w5 .worth5 .ensures .0) (w6 .worth6 .ensures .0) (c .worth7 .ensures .0)
+    map-summed (w1 .before .args .x) (w1 .before .args .fraction) (w1 .bit-if .ensures .0) (w2 .bit-if2 .ensures .0) (w3 .bit-if3 .ensures .0) (w4 .bit-if4 .ensures .0) (w5 .bit-if5 .ensures .0) (w6 .bit-if6 .ensures .0) (c .bit-if7 .ensures .0)
 
 pub map-of-spec : {M : Type 1} → statement M
 map-of-spec =
     tie.close
     (tie.spec
-    worth-requires
+    bit-if-requires
     add-result
-    worth-requires-2
+    bit-if-requires-2
     add-result-2
-    worth-requires-3
+    bit-if-requires-3
     add-result-3
-    worth-requires-4
+    bit-if-requires-4
     add-result-4
-    worth-requires-5
+    bit-if-requires-5
     add-result-5
-    worth-requires-6
+    bit-if-requires-6
     add-result-6
-    worth-requires-7
+    bit-if-requires-7
     add-result-7
     returns)

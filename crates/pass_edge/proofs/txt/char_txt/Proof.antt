@@ -40,17 +40,17 @@ same-length c = c .before .before .put-text .kept .0
 returns : tie.Need-returns
 returns c = let r = c .before .before .before in front-is (r .rom-at .ensures _ _ _) (c .before .before .put-text .ensures)
 
-own-at-requires : tie.Need-own-at-requires
-own-at-requires c κs = search needs
+line-part-requires : tie.Need-line-part-requires
+line-part-requires c κs = search needs
 
 put-text-requires-2 : tie.Need-put-text-requires-2
-put-text-requires-2 c κs = let e = c .before .before in omega (arith, ap length (c .own-at .ensures), ap length (own e), start e .pre .4)
+put-text-requires-2 c κs = let e = c .before .before in omega (arith, ap length (c .line-part .ensures), ap length (own e), start e .pre .4)
 
 same-length-2 : tie.Need-same-length-2
 same-length-2 c = c .before .before .put-text2 .kept .0
 
 returns-2 : tie.Need-returns-2
-returns-2 c = let r = c .before .before .before in front-is (r .own-at .ensures ∙ sym (own (r .before .before))) (c .before .before .put-text2 .ensures)
+returns-2 c = let r = c .before .before .before in front-is (r .line-part .ensures ∙ sym (own (r .before .before))) (c .before .before .put-text2 .ensures)
 
 pub char-txt-spec : {M : Type 1} → statement M
 char-txt-spec =
@@ -62,7 +62,7 @@ char-txt-spec =
     put-text-requires
     same-length
     returns
-    own-at-requires
+    line-part-requires
     put-text-requires-2
     same-length-2
     returns-2)

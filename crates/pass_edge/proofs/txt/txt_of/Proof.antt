@@ -27,8 +27,8 @@ returns c i is =
     let a = c .before .before .before .before .before .before .before .before .before .args in
     front-is (txt-char (chars (a .line .now)) (a .table .now) (a .x) i is (c .before .before .before .before .if1 .taken)) (c .before .before .char-txt .ensures)
 
-u64-of-requires : tie.Need-u64-of-requires
-u64-of-requires c κs =
+exact-u64-requires : tie.Need-exact-u64-requires
+exact-u64-requires c κs =
     let start = c .before .before .before .before .before in
     let (i, is) = start .pre .1 in
     (i .value, is .is .fits .small .value, value-is (start .args .x) i (is .is))
@@ -53,7 +53,7 @@ returns-2 c i is =
     let at-value = c .before .before .before .before .before .before .before in
     let at-else = at-value .before in
     let a = at-else .before .before .before .before .before .args in
-    let value = at-value .u64-of .ensures (i .value) (is .fits .small .value) (value-is (a .x) i is) in
+    let value = at-value .exact-u64 .ensures (i .value) (is .fits .small .value) (value-is (a .x) i is) in
     front-is (txt-digits (chars (a .line .now)) (a .table .now) (a .x) i is (at-else .if1 .left) (c .before .before .before .before .before .if2 .taken) value)
     (record { wrote = c .before .before .put-padded .ensures; long = sym (length-padded _ _) })
 
@@ -62,9 +62,9 @@ put-decimal-requires c κs =
     let at-value = c .before .before .before in
     let start = at-value .before .before .before .before .before .before in
     let (i, is) = start .pre .1 in
-    let value = at-value .u64-of .ensures (i .value) (is .is .fits .small .value) (value-is (start .args .x) i (is .is)) in
+    let value = at-value .exact-u64 .ensures (i .value) (is .is .fits .small .value) (value-is (start .args .x) i (is .is)) in
     let small = is .is .fits .small .value in
-    omega (arith, length-decimal-top (at-value .u64-of .result) (omega arith), start .pre .3)
+    omega (arith, length-decimal-top (at-value .exact-u64 .result) (omega arith), start .pre .3)
 
 same-length-3 : tie.Need-same-length-3
 same-length-3 c = c .before .before .put-decimal .kept .0
@@ -74,7 +74,7 @@ returns-3 c i is =
     let at-value = c .before .before .before .before .before .before in
     let at-else = at-value .before in
     let a = at-else .before .before .before .before .before .args in
-    let value = at-value .u64-of .ensures (i .value) (is .fits .small .value) (value-is (a .x) i is) in
+    let value = at-value .exact-u64 .ensures (i .value) (is .fits .small .value) (value-is (a .x) i is) in
     front-is (txt-value (chars (a .line .now)) (a .table .now) (a .x) i is (at-else .if1 .left) (c .before .before .before .before .if2 .left) value)
     (record { wrote = c .before .before .put-decimal .ensures .1; long = c .before .before .put-decimal .ensures .0 ∙ zero-add _ })
 
@@ -85,7 +85,7 @@ txt-of-spec =
     char-txt-requires
     same-length
     returns
-    u64-of-requires
+    exact-u64-requires
     sub-len
     put-padded-requires
     same-length-2

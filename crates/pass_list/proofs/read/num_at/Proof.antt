@@ -16,8 +16,8 @@ add-u64-at c = search needs
 u64-at-requires : tie.Need-u64-at-requires
 u64-at-requires c κs = search needs
 
-f64-of-requires : tie.Need-f64-of-requires
-f64-of-requires c κs =
+exact-f64-requires : tie.Need-exact-f64-requires
+exact-f64-requires c κs =
     let p = c .before .before .before in
     rw (c .u64-at .ensures) (small-at (p .args .s .now) (p .args .at) (p .pre .1) .value)
 
@@ -27,8 +27,8 @@ add-u64-at-2 c = search needs
 u64-at-requires-2 : tie.Need-u64-at-requires-2
 u64-at-requires-2 c κs = search needs
 
-f64-of-requires-2 : tie.Need-f64-of-requires-2
-f64-of-requires-2 c κs =
+exact-f64-requires-2 : tie.Need-exact-f64-requires-2
+exact-f64-requires-2 c κs =
     let p = c .before .before .before .before .before in
     rw (c .u64-at2 .ensures) (small-at (p .args .s .now) (p .args .at) (p .pre .1) .mult)
 
@@ -56,7 +56,7 @@ returns c =
     let value = multiplier .before .before in
     let map = value .before .before in
     let start = map .before .before in
-    num-read (start .args .s .now) (start .args .at) (map .u16-at .ensures) (value .before .u64-at .ensures) (value .f64-of .ensures) (multiplier .before .u64-at2 .ensures) (multiplier .f64-of2 .ensures) (c .before .before .u64-at3 .ensures) (c .before .u64-at4 .ensures) (c .u64-at5 .ensures)
+    num-read (start .args .s .now) (start .args .at) (map .u16-at .ensures) (value .before .u64-at .ensures) (value .exact-f64 .ensures) (multiplier .before .u64-at2 .ensures) (multiplier .exact-f642 .ensures) (c .before .before .u64-at3 .ensures) (c .before .u64-at4 .ensures) (c .u64-at5 .ensures)
 
 pub num-at-spec : {M : Type 1} → statement M
 num-at-spec =
@@ -66,10 +66,10 @@ num-at-spec =
     u16-at-requires
     add-u64-at
     u64-at-requires
-    f64-of-requires
+    exact-f64-requires
     add-u64-at-2
     u64-at-requires-2
-    f64-of-requires-2
+    exact-f64-requires-2
     add-u64-at-3
     u64-at-requires-3
     add-u64-at-4

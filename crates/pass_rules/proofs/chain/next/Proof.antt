@@ -30,12 +30,12 @@ valued c x y p q =
     let r = as-counted (c .before .before .before) x y p q in
     c .joined-value .ensures _ _ (p .fits .small .value) (r .fits .small .value) (ap (λ (k : Chain). k .edge .num .value) (p .is)) (ap (λ (e : PassEdge). e .num .value) (r .is))
 
-joined : (c : tie.After-over) (x : StoredChain) (y : StoredEdge) → ChainIs (c .before .before .before .before .before .before .before .before .before .before .before .before .args .c) x → EdgeIs (c .before .before .before .before .before .before .before .before .before .before .before .before .args .e) y → c .over .result ≡ passEdge (over (passOf (c .before .before .before .before .before .before .before .before .before .before .before .before .args .pass)) (x .edge) (counted (passOf (c .before .before .before .before .before .before .before .before .before .before .before .before .args .pass)) (x .edge) y) (joinedValue (passOf (c .before .before .before .before .before .before .before .before .before .before .before .before .args .pass)) x y))
+joined : (c : tie.After-joined-edge) (x : StoredChain) (y : StoredEdge) → ChainIs (c .before .before .before .before .before .before .before .before .before .before .before .before .args .c) x → EdgeIs (c .before .before .before .before .before .before .before .before .before .before .before .before .args .e) y → c .joined-edge .result ≡ passEdge (over (passOf (c .before .before .before .before .before .before .before .before .before .before .before .before .args .pass)) (x .edge) (counted (passOf (c .before .before .before .before .before .before .before .before .before .before .before .before .args .pass)) (x .edge) y) (joinedValue (passOf (c .before .before .before .before .before .before .before .before .before .before .before .before .args .pass)) x y))
 joined c x y p q =
     let v = value-fits (joinedValue (passOf (c .before .before .before .before .before .before .before .before .before .before .before .before .args .pass)) x y) (sym (valued (c .before .before .before .before) x y p q) ∙ c .before .before .v .given .1) in
-    c .over .ensures _ _ _ (chain-edge p .is) (as-counted (c .before .before .before .before .before .before .before) x y p q .is) (v .1)
+    c .joined-edge .ensures _ _ _ (chain-edge p .is) (as-counted (c .before .before .before .before .before .before .before) x y p q .is) (v .1)
 
-joined-answer : (c : tie.After-over) (x : StoredChain) (y : StoredEdge) → ChainIs (c .before .before .before .before .before .before .before .before .before .before .before .before .args .c) x → EdgeIs (c .before .before .before .before .before .before .before .before .before .before .before .before .args .e) y → Longer (passChain (longer (passOf (c .before .before .before .before .before .before .before .before .before .before .before .before .args .pass)) x y)) ≡ answer (passOf (c .before .before .before .before .before .before .before .before .before .before .before .before .args .pass)) x y
+joined-answer : (c : tie.After-joined-edge) (x : StoredChain) (y : StoredEdge) → ChainIs (c .before .before .before .before .before .before .before .before .before .before .before .before .args .c) x → EdgeIs (c .before .before .before .before .before .before .before .before .before .before .before .before .args .e) y → Longer (passChain (longer (passOf (c .before .before .before .before .before .before .before .before .before .before .before .before .args .pass)) x y)) ≡ answer (passOf (c .before .before .before .before .before .before .before .before .before .before .before .before .args .pass)) x y
 joined-answer c x y p q =
     let v = value-fits (joinedValue (passOf (c .before .before .before .before .before .before .before .before .before .before .before .before .args .pass)) x y) (sym (valued (c .before .before .before .before) x y p q) ∙ c .before .before .v .given .1) in
     longer-answer _ x y (touching (c .before .before .before .before .before .before .before .before .before) x y p q) (sym (judged (c .before .before .before .before .before .before) x y p q) ∙ not-false _ (c .before .before .before .before .before .if2 .left)) (v .0)
@@ -62,8 +62,8 @@ enum-told c = search needs
 enum-known-v : tie.Need-enum-known-v
 enum-known-v c = search needs
 
-over-requires : tie.Need-over-requires
-over-requires c κs = search needs
+joined-edge-requires : tie.Need-joined-edge-requires
+joined-edge-requires c κs = search needs
 
 take-requires : tie.Need-take-requires
 take-requires c κs = search needs
@@ -87,7 +87,7 @@ next-spec =
     joined-value-requires
     enum-told
     enum-known-v
-    over-requires
+    joined-edge-requires
     take-requires
     returns-3
     returns-4)

@@ -28,8 +28,8 @@ module _ {c : Chain} {e : PassEdge} {x : StoredChain} {y : StoredEdge} (p : Chai
   there-is : c .edge .num .«has_value» && e .num .«has_value» && e .num .«has_base» ≡ x .edge .has-value && y .has-value && y .has-base
   there-is = rw (p .is, q .is)
 
-u64-of-requires : tie.Need-u64-of-requires
-u64-of-requires c κs = let (y, q) = c .pre .1 in (y .value, q .fits .small .value, right-is _ y q)
+exact-u64-requires : tie.Need-exact-u64-requires
+exact-u64-requires c κs = let (y, q) = c .pre .1 in (y .value, q .fits .small .value, right-is _ y q)
 
 enum-told : tie.Need-enum-told
 enum-told c = search needs
@@ -40,8 +40,8 @@ d1-rule-requires c κs = search needs
 enum-told-2 : tie.Need-enum-told-2
 enum-told-2 c = search needs
 
-u64-of-requires-2 : tie.Need-u64-of-requires-2
-u64-of-requires-2 c κs = let (x, p) = c .before .before .before .pre .0 in (x .edge .value, p .fits .small .value, left-is _ x p)
+exact-u64-requires-2 : tie.Need-exact-u64-requires-2
+exact-u64-requires-2 c κs = let (x, p) = c .before .before .before .pre .0 in (x .edge .value, p .fits .small .value, left-is _ x p)
 
 g1-rule-requires : tie.Need-g1-rule-requires
 g1-rule-requires c κs = search needs
@@ -69,12 +69,12 @@ returns c x y p q = rw (c .before .enum-told .given .1) (c .d1-rule .ensures x y
 
 returns-2 : tie.Need-returns-2
 returns-2 c x y p q =
-    rw (c .before .before .enum-told2 .given .1) (c .g1-rule .ensures x y (ap (λ (k : Chain). k .more) (p .is)) (ap (λ (k : Chain). k .edge .num .base) (p .is)) (c .before .u64-of2 .ensures (x .edge .value) (p .fits .small .value) (left-is _ x p)) (ap (λ (k : PassEdge). k .num .base) (q .is)) (ap (λ (k : PassEdge). k .num .«large_power») (q .is)))
+    rw (c .before .before .enum-told2 .given .1) (c .g1-rule .ensures x y (ap (λ (k : Chain). k .more) (p .is)) (ap (λ (k : Chain). k .edge .num .base) (p .is)) (c .before .exact-u642 .ensures (x .edge .value) (p .fits .small .value) (left-is _ x p)) (ap (λ (k : PassEdge). k .num .base) (q .is)) (ap (λ (k : PassEdge). k .num .«large_power») (q .is)))
 
 returns-3 : tie.Need-returns-3
 returns-3 c x y p q =
     let told = c .before .before .before .before .before .before .before in
-    let value = told .before .before .u64-of .ensures (y .value) (q .fits .small .value) (right-is _ y q) in
+    let value = told .before .before .exact-u64 .ensures (y .value) (q .fits .small .value) (right-is _ y q) in
     rw (told .enum-told3 .given .1) (c .g2-rule .ensures x y (plain-is p q) (both-is p q) (ap (λ (k : Chain). k .near) (p .is)) value (ap (λ (k : PassEdge). k .num .base) (q .is)) (ap (λ (k : PassEdge). k .num .gap) (q .is)))
 
 returns-4 : tie.Need-returns-4
@@ -83,18 +83,18 @@ returns-4 c x y p q = rw (c .before .enum-told4 .given .1) (c .g3-rule .ensures 
 returns-5 : tie.Need-returns-5
 returns-5 c x y p q =
     let told = c .before .before .before .before in
-    let value = told .before .before .u64-of .ensures (y .value) (q .fits .small .value) (right-is _ y q) in
+    let value = told .before .before .exact-u64 .ensures (y .value) (q .fits .small .value) (right-is _ y q) in
     rw (told .enum-told5 .given .1) (c .g4-rule .ensures x y (there-is p q) (ap (λ (k : Chain). k .edge .num .base) (p .is)) value (ap (λ (k : PassEdge). k .num .base) (q .is)))
 
 pub ruled-spec : {M : Type 1} → statement M
 ruled-spec =
     tie.close
     (tie.spec
-    u64-of-requires
+    exact-u64-requires
     enum-told
     d1-rule-requires
     enum-told-2
-    u64-of-requires-2
+    exact-u64-requires-2
     g1-rule-requires
     enum-told-3
     g2-rule-requires

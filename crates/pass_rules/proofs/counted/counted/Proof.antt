@@ -10,7 +10,7 @@ use Rattle.pass_rules.proofs.counted.counted.Tie as tie
 
 -- G4's test
 tested : (c : tie.After-retags) (x y : StoredEdge) → EdgeIs (c .before .before .before .before .args .last) x → EdgeIs (c .before .before .before .before .args .e) y → c .retags .result ≡ retags x y
-tested c x y p q = c .retags .ensures x y (p .is) (q .is) (c .before .u64-of .ensures (y .value) (q .fits .small .value) (ap (λ (e : PassEdge). e .num .value) (q .is)))
+tested c x y p q = c .retags .ensures x y (p .is) (q .is) (c .before .exact-u64 .ensures (y .value) (q .fits .small .value) (ap (λ (e : PassEdge). e .num .value) (q .is)))
 
 enum-told : tie.Need-enum-told
 enum-told c = search needs
@@ -18,8 +18,8 @@ enum-told c = search needs
 enum-told-2 : tie.Need-enum-told-2
 enum-told-2 c = search needs
 
-u64-of-requires : tie.Need-u64-of-requires
-u64-of-requires c κs = let (y, q) = c .before .before .pre .1 in (y .value, q .fits .small .value, ap (λ (e : PassEdge). e .num .value) (q .is))
+exact-u64-requires : tie.Need-exact-u64-requires
+exact-u64-requires c κs = let (y, q) = c .before .before .pre .1 in (y .value, q .fits .small .value, ap (λ (e : PassEdge). e .num .value) (q .is))
 
 retags-requires : tie.Need-retags-requires
 retags-requires c κs = let y = c .before .before .before .pre .1 in let s = y .1 .fits .start in omega (arith, ap (λ (e : PassEdge). e .start .0) (y .1 .is))
@@ -66,7 +66,7 @@ counted-spec =
     (tie.spec
     enum-told
     enum-told-2
-    u64-of-requires
+    exact-u64-requires
     retags-requires
     retagged-requires
     enum-told-3

@@ -10,16 +10,16 @@ use borrow.Author.Needs.{needs}
 use Rattle.pass_rules.proofs.counted.retagged.Statement.{statement}
 use Rattle.pass_rules.proofs.counted.retagged.Tie as tie
 
-f64-of-requires : tie.Need-f64-of-requires
-f64-of-requires c κs = let (x, p) = c .before .pre .0 in let s = p .fits .small .base in omega (arith, ap (λ (e : PassEdge). e .num .base) (p .is))
+exact-f64-requires : tie.Need-exact-f64-requires
+exact-f64-requires c κs = let (x, p) = c .before .pre .0 in let s = p .fits .small .base in omega (arith, ap (λ (e : PassEdge). e .num .base) (p .is))
 
 returns : tie.Need-returns
 unfolding withNumbers
 returns c x y p q =
     let s = p .fits .small .base in
-    let f = c .before .before .before .before .before .f64-of in
+    let f = c .before .before .before .before .before .exact-f64 in
     let tenth : f .result ≡ ofNat (x .base / 10) = f .ensures ∙ ap (λ (e : PassEdge). ofNat (e .num .base / 10)) (p .is) in
     rw (tenth, p .is, q .is, ofNat-mul {n = x .base / 10} (q .fits .small .value) (omega arith))
 
 pub retagged-spec : {M : Type 1} → statement M
-retagged-spec = tie.close (tie.spec f64-of-requires returns)
+retagged-spec = tie.close (tie.spec exact-f64-requires returns)

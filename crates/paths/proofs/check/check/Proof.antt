@@ -6,8 +6,8 @@ use Rattle.text.specs.Line.{lineCheck}
 use Rattle.text.specs.declared.Offset.{Offset}
 use Rattle.text.specs.declared.LineCheck.the-variants.{IllFormed, TooLong}
 use Rattle.paths.specs.Reading.{readCheck}
-use Rattle.paths.specs.declared.Refusal.the-variants.{NotUtf8, OverLong}
-use Rattle.paths.specs.declared.Checked.the-variants.{Refused}
+use Rattle.paths.specs.declared.ReadRefusal.the-variants.{NotUtf8, OverLong}
+use Rattle.paths.specs.declared.ReadCheck.the-variants.{Refused}
 use borrow.Author.Needs.{needs}
 use Rattle.paths.proofs.check.check.Statement.{statement}
 use Rattle.paths.proofs.check.check.Tie as tie

@@ -4,7 +4,7 @@ use mathlib.Core.Bool.{true}
 use native.Mathlib.Nat.{le-trans}
 use lib.ListN.{length}
 use borrow.Author.Tests.{not-true, not-false}
-use Rattle.paths.specs.declared.Checked.the-variants as Checked
+use Rattle.paths.specs.declared.ReadCheck.the-variants as ReadCheck
 use Rattle.paths.specs.declared.Query.the-variants as Query
 use Rattle.paths.specs.Reading.{readCheck, inside}
 use Rattle.paths.specs.Path.{written, after}
@@ -16,7 +16,7 @@ use Rattle.queries.proofs.path.path.Tie as tie
 
 -- the checks refuse nothing, and the places are within the line
 is-readable : (c : tie.After-known-told2) → let a = c .before .before .before .before .before .before .before .args in
-    readCheck (a .line .now) (a .listing .now) ≡ Checked.Readable (c .before .chars .given .0 .0) (c .before .chars .given .0 .1 .0)
+    readCheck (a .line .now) (a .listing .now) ≡ ReadCheck.Readable (c .before .chars .given .0 .0) (c .before .chars .given .0 .1 .0)
 is-readable c = sym (c .before .before .before .check .ensures) ∙ c .before .chars .given .1
 
 is-within : (c : tie.Else1) → let k = c .before .before in let a = k .before .before .before .before .before .before .before .args in

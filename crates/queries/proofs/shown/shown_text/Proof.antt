@@ -1,7 +1,7 @@
 -- `queries::shown::shown_text` meets its contract, by what the checks answer. Assumes nothing.
 use mathlib.Core.Path.{_≡_, sym, _∙_}
 use borrow.Author.Needs.{needs}
-use Rattle.paths.specs.declared.Checked.the-variants as Checked
+use Rattle.paths.specs.declared.ReadCheck.the-variants as ReadCheck
 use Rattle.paths.specs.Reading.{readCheck}
 use Rattle.paths.proofs.ReadingLaws.{reads}
 use Rattle.paths.proofs.ShownLaws.{shown-refused, shown-outside, shown-inside}
@@ -19,7 +19,7 @@ enum-known-chars c = search needs
 
 -- the checks refuse nothing
 is-readable : (c : tie.After-known-told2) → let a = c .before .before .before .before .before .before .args in
-    readCheck (a .line .now) (a .listing .now) ≡ Checked.Readable (c .before .chars .given .0 .0) (c .before .chars .given .0 .1 .0)
+    readCheck (a .line .now) (a .listing .now) ≡ ReadCheck.Readable (c .before .chars .given .0 .0) (c .before .chars .given .0 .1 .0)
 is-readable c = sym (c .before .before .before .check .ensures) ∙ c .before .chars .given .1
 
 returns : tie.Need-returns

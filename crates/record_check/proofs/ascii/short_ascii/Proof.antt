@@ -22,14 +22,14 @@ shared-slice-read-if2 c = search needs
 returns-2 : tie.Need-returns-2
 returns-2 c = λ e. absurd (true≢false (sym e))
 
-sub-low-four : tie.Need-sub-low-four
-sub-low-four c = search needs
+sub-four-ascii : tie.Need-sub-four-ascii
+sub-four-ascii c = search needs
 
-low-four-requires : tie.Need-low-four-requires
-low-four-requires c κs = (omega arith, λ j. c .before .before .shared-slice-known2 .given j .fits)
+four-ascii-requires : tie.Need-four-ascii-requires
+four-ascii-requires c κs = (omega arith, λ j. c .before .before .shared-slice-known2 .given j .fits)
 
 returns-3 : tie.Need-returns-3
-returns-3 c = λ e. ascii-part _ _ _ _ _ (omega arith) (omega arith) (c .low-four .ensures e)
+returns-3 c = λ e. ascii-part _ _ _ _ _ (omega arith) (omega arith) (c .four-ascii .ensures e)
 
 low-eight-requires : tie.Need-low-eight-requires
 low-eight-requires c κs = (omega arith, λ j. c .before .before .before .shared-slice-known2 .given j .fits)
@@ -55,8 +55,8 @@ short-ascii-spec =
     sub-if2
     shared-slice-read-if2
     returns-2
-    sub-low-four
-    low-four-requires
+    sub-four-ascii
+    four-ascii-requires
     returns-3
     low-eight-requires
     returns-4

@@ -14,17 +14,17 @@ shared-slice-read-map c = search needs
 u32-at-requires : tie.Need-u32-at-requires
 u32-at-requires c κs = search needs
 
-told-requires : tie.Need-told-requires
-told-requires c κs = search needs
+map-fits-requires : tie.Need-map-fits-requires
+map-fits-requires c κs = search needs
 
 returns : tie.Need-returns
-returns c = λ e. head-above _ _ _ (c .before .before .u32-at .ensures) (c .told .ensures) (c .before .if1 .taken) e
+returns c = λ e. head-above _ _ _ (c .before .before .u32-at .ensures) (c .map-fits .ensures) (c .before .if1 .taken) e
 
-told-requires-2 : tie.Need-told-requires-2
-told-requires-2 c κs = search needs
+map-fits-requires-2 : tie.Need-map-fits-requires-2
+map-fits-requires-2 c κs = search needs
 
 returns-2 : tie.Need-returns-2
-returns-2 c = λ e. head-below _ _ _ (c .before .before .u32-at .ensures) (c .told2 .ensures) (omega (arith, c .before .if1 .left)) e
+returns-2 c = λ e. head-below _ _ _ (c .before .before .u32-at .ensures) (c .map-fits2 .ensures) (omega (arith, c .before .if1 .left)) e
 
 pub legal-head-spec : {M : Type 1} → statement M
 legal-head-spec =
@@ -33,7 +33,7 @@ legal-head-spec =
     add-map
     shared-slice-read-map
     u32-at-requires
-    told-requires
+    map-fits-requires
     returns
-    told-requires-2
+    map-fits-requires-2
     returns-2)

@@ -1,4 +1,4 @@
--- `signs::edges::add_sign` meets its contract, by whether the sign stands before the item. Assumes nothing.
+-- `signs::edges::add_sign` meets its contract, by whether the sign stands before the stored edge. Assumes nothing.
 use borrow.Author.Needs.{needs}
 use mathlib.Core.Path.{_≡_, refl, ap, _∙_}
 use Prim.Native.Nat.{_+_, _-_, _≤_}
@@ -17,13 +17,13 @@ use Rattle.signs.proofs.edges.BufferLaws.{start-is}
 use Rattle.signs.proofs.edges.add_sign.Statement.{statement}
 use Rattle.signs.proofs.edges.add_sign.Tie as tie
 
--- the item's place, the sign, and what is known of them
+-- the stored edge's place, the sign, and what is known of them
 abbrev start : tie.After-sign-before-arg → tie.Start
 start c = c .before .before .before .before .before
 
 inside : (a : tie.Start) → a .args .x .start .0 ≤ length (chars (a .args .line .now))
 inside a =
-    let (i, is) = a .pre .0 .item in
+    let (i, is) = a .pre .0 .stored-edge in
     let places = places-of (a .args .line .now) (a .args .table .now) (a .args .x) i is in
     omega (arith, places .0, places .1)
 

@@ -14,7 +14,7 @@ use Rattle.signs.proofs.edges.BufferLaws.{edge-added, sign-short}
 use Rattle.signs.proofs.edges.add_signed.Statement.{statement}
 use Rattle.signs.proofs.edges.add_signed.Tie as tie
 
--- the two texts, for an item that x is
+-- the two texts, for a stored edge that x is
 abbrev typed : tie.After-sign-type → tie.Start
 typed c = c .before .before .before .before .before
 
@@ -34,37 +34,37 @@ slice-aggregate-sign-type c = search needs
 sign-type-requires : tie.Need-sign-type-requires
 sign-type-requires c κs =
     let s = c .before .before .before .before in
-    let (i, is) = s .pre .0 .item in
+    let (i, is) = s .pre .0 .stored-edge in
     (omega arith, (i, is .is, type-short (chars (s .args .line .now)) (s .args .table .now) i (is .sound), is .sound .rooted))
 
 slice-aggregate-sign-txt : tie.Need-slice-aggregate-sign-txt
 slice-aggregate-sign-txt c = search needs
 
 sign-txt-requires : tie.Need-sign-txt-requires
-sign-txt-requires c κs = let p = typed (c .before .before) .pre .0 in (p .offsets, p .item, p .few, omega arith)
+sign-txt-requires c κs = let p = typed (c .before .before) .pre .0 in (p .offsets, p .stored-edge, p .few, omega arith)
 
 array-share-prefix-ty : tie.Need-array-share-prefix-ty
 array-share-prefix-ty c =
     let at-type = c .before .before .before .before .before in
-    let (i, is) = typed at-type .pre .0 .item in
+    let (i, is) = typed at-type .pre .0 .stored-edge in
     type-is at-type i (is .is) .inside
 
 slice-aggregate-add-regular : tie.Need-slice-aggregate-add-regular
 slice-aggregate-add-regular c =
     let at-type = c .before .before .before .before .before .before in
-    let (i, is) = typed at-type .pre .0 .item in
+    let (i, is) = typed at-type .pre .0 .stored-edge in
     sym (length-take-le _ _ (type-is at-type i (is .is) .inside))
 
 array-share-prefix-txt : tie.Need-array-share-prefix-txt
 array-share-prefix-txt c =
     let at-txt = c .before .before .before in
-    let (i, is) = texted at-txt .pre .0 .item in
+    let (i, is) = texted at-txt .pre .0 .stored-edge in
     txt-is at-txt i (is .is) .inside
 
 slice-aggregate-add-regular-2 : tie.Need-slice-aggregate-add-regular-2
 slice-aggregate-add-regular-2 c =
     let at-txt = c .before .before .before .before in
-    let (i, is) = texted at-txt .pre .0 .item in
+    let (i, is) = texted at-txt .pre .0 .stored-edge in
     sym (length-take-le _ _ (txt-is at-txt i (is .is) .inside))
 
 add-regular-requires : tie.Need-add-regular-requires
@@ -73,7 +73,7 @@ add-regular-requires c κs =
     let at-type = at-txt .before .before .before in
     let s = texted at-txt in
     let p = s .pre .0 in
-    let (i, is) = p .item in
+    let (i, is) = p .stored-edge in
     let places = places-of (s .args .line .now) (s .args .table .now) (s .args .x) i is in
     let short = sign-short (s .args .line .now) (s .args .table .now) is (p .few) (s .args .sign) (type-is at-type i (is .is) .is) (txt-is at-txt i (is .is) .is) in
     (p .holds, omega (arith, s .pre .1), omega (arith, places .1, p .few), short)

@@ -74,8 +74,8 @@ add-sign-requires c κs =
     let t = m .before .before in
     let l = at-loop m in
     let p = start l .pre .0 in
-    let d = l .loop .inv .0 (p .item .0) (p .item .1 .is) .holds (p .holds .0) (p .holds .1) in (
-      record { holds = (d .0, d .1); offsets = p .offsets; item = p .item; few = p .few },
+    let d = l .loop .inv .0 (p .stored-edge .0) (p .stored-edge .1 .is) .holds (p .holds .0) (p .holds .1) in (
+      record { holds = (d .0, d .1); offsets = p .offsets; stored-edge = p .stored-edge; few = p .few },
       within-told _ (t .text-at .ensures .1) (m .m .given .1),
       formed-first _ _ _ (l .loop .inv .1) (t .before .loop-test .taken) (told-at m),
     )
@@ -108,7 +108,7 @@ same-length : tie.Need-same-length Inv-loop μ-loop
 same-length c =
     let l = c .before .before .before .before in
     let p = start l .pre .0 in
-    l .loop .inv .0 (p .item .0) (p .item .1 .is) .long
+    l .loop .inv .0 (p .stored-edge .0) (p .stored-edge .1 .is) .long
 
 returns-2 : tie.Need-returns-2 Inv-loop μ-loop
 returns-2 c =
@@ -118,7 +118,7 @@ returns-2 c =
     let p = start l .pre .0 in
     let fault = told (textField (a .table .now)) (t .text-at .ensures .0) (c .enum-told .given .1) in
     record {
-      frame = l .loop .inv .0 (p .item .0) (p .item .1 .is) .frame;
+      frame = l .loop .inv .0 (p .stored-edge .0) (p .stored-edge .1 .is) .frame;
       holds = λ es i q e. toward-end (l .loop .inv .0 i e) (signs-fault (chars (a .line .now)) (a .sign) (edgeOf (chars (a .line .now)) (a .table .now) i) (a .table .now) (l .loop .next) (l .loop .left) fault) es q;
     }
 
@@ -126,7 +126,7 @@ same-length-2 : tie.Need-same-length-2 Inv-loop μ-loop
 same-length-2 c =
     let l = c .before in
     let p = start l .pre .0 in
-    l .loop .inv .0 (p .item .0) (p .item .1 .is) .long
+    l .loop .inv .0 (p .stored-edge .0) (p .stored-edge .1 .is) .long
 
 returns-3 : tie.Need-returns-3 Inv-loop μ-loop
 returns-3 c =
@@ -134,7 +134,7 @@ returns-3 c =
     let a = start l .args in
     let p = start l .pre .0 in
     record {
-      frame = l .loop .inv .0 (p .item .0) (p .item .1 .is) .frame;
+      frame = l .loop .inv .0 (p .stored-edge .0) (p .stored-edge .1 .is) .frame;
       holds = λ es i q e. toward-end (l .loop .inv .0 i e) (signs-end (chars (a .line .now)) (a .sign) (edgeOf (chars (a .line .now)) (a .table .now) i) (a .table .now) (l .loop .next) (l .loop .left) (c .loop-test .left)) es q;
     }
 

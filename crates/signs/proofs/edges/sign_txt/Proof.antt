@@ -11,7 +11,7 @@ use Rattle.signs.proofs.edges.BufferLaws.{behind-length, begins-txt}
 use Rattle.signs.proofs.edges.sign_txt.Statement.{statement}
 use Rattle.signs.proofs.edges.sign_txt.Tie as tie
 
--- how long the item's txt is
+-- how long the stored edge's txt is
 small : (c : tie.After-slice-known2) → c .before .before .txt-of .result ≤ 256
 small c = let a = c .before .before .before .before .before .before .before in let p = a .pre .1 in
     omega (arith, c .before .before .txt-of .ensures (p .0) (p .1 .is) .long, txt-short (chars (a .args .line .now)) (a .args .table .now) (p .0) (p .1 .sound) (a .pre .2))

@@ -7,7 +7,7 @@ use Rattle.signs.proofs.edges.BufferLaws.{front-length, begins-type}
 use Rattle.signs.proofs.edges.sign_type.Statement.{statement}
 use Rattle.signs.proofs.edges.sign_type.Tie as tie
 
--- how long the item's type is, and the buffer behind it
+-- how long the stored edge's type is, and the buffer behind it
 small : (c : tie.After-slice-known2) → c .before .before .type-of .result ≤ 60
 small c = let p = c .before .before .before .before .before .before .pre .1 in omega (arith, c .before .before .type-of .ensures (p .0) (p .1) .long, p .2)
 

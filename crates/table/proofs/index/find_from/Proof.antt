@@ -2,14 +2,14 @@
 use mathlib.Core.Path.{sym, _∙_}
 use native.Mathlib.Omega.{arith}
 use Rattle.table.specs.Layout.{recordsAt}
-use Rattle.table.specs.Index.{Ahead}
+use Rattle.table.specs.Index.{RecordsAhead}
 use Rattle.table.proofs.index.IndexLaws.{rest-none, full-stands, full-begins, turn-none, turn-found, turn-above, turn-next, ahead-all}
 use borrow.Author.Needs.{needs}
 use Rattle.table.proofs.index.find_from.Statement.{statement}
 use Rattle.table.proofs.index.find_from.Tie as tie
 
 abbrev Inv-loop : tie.InvT-loop
-Inv-loop table c at₀ left₀ at left = Ahead table (recordsAt left₀ table at₀) c at left
+Inv-loop table c at₀ left₀ at left = RecordsAhead table (recordsAt left₀ table at₀) c at left
 
 abbrev μ-loop : tie.MeasureT-loop
 μ-loop table c at₀ left₀ at left = left

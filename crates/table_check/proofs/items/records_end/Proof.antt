@@ -28,8 +28,8 @@ record-item-requires c κs = search needs
 enum-known-code : tie.Need-enum-known-code Inv-loop μ-loop
 enum-known-code c = search needs
 
-enter-requires : tie.Need-enter-requires Inv-loop μ-loop
-enter-requires c κs = let v = c .before .before .before .before .before .before .loop .inv in (v .1 .next, c .before .before .before .before .before .loop-test .taken, v .2)
+index-record-requires : tie.Need-index-record-requires Inv-loop μ-loop
+index-record-requires c κs = let v = c .before .before .before .before .before .before .loop .inv in (v .1 .next, c .before .before .before .before .before .loop-test .taken, v .2)
 
 cast-least : tie.Need-cast-least Inv-loop μ-loop
 cast-least c = search needs
@@ -51,7 +51,7 @@ loop-again c =
     let l = m .before .before in
     let p = subst (StepIs _ _ _) (k .code .given .1) (m .record-item .ensures) in
     let h = m .before .loop-test .taken in
-    (sym (passed-turn _ _ _ _ h p) ∙ l .loop .inv .0, making-more _ _ _ (l .loop .inv .1) p h (entered .enter .ensures .0) (entered .enter .ensures .1), entered .enter .kept .0 ∙ l .loop .inv .2)
+    (sym (passed-turn _ _ _ _ h p) ∙ l .loop .inv .0, making-more _ _ _ (l .loop .inv .1) p h (entered .index-record .ensures .0) (entered .index-record .ensures .1), entered .index-record .kept .0 ∙ l .loop .inv .2)
 
 enum-known-number : tie.Need-enum-known-number Inv-loop μ-loop
 enum-known-number c = search needs
@@ -80,7 +80,7 @@ records-end-spec =
     loop-holds
     record-item-requires
     enum-known-code
-    enter-requires
+    index-record-requires
     cast-least
     add-least
     sub-left

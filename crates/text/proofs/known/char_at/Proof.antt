@@ -8,26 +8,26 @@ use Rattle.text.proofs.known.char_at.Statement.{statement}
 use Rattle.text.proofs.known.char_at.Tie as tie
 
 -- the bytes of a sequence of two, three and four, by the tests
-of-two : (c : tie.Then2) → let a = c .before .before .before .before .before in At (a .pre) 1 (c .before .before .wide .result % 32)
-of-two c = two-at (c .before .before .before .before .before .pre) (c .before .before .wide .ensures) (c .before .if1 .left) (c .if2 .taken)
+of-two : (c : tie.Then2) → let a = c .before .before .before .before .before in At (a .pre) 1 (c .before .before .widen .result % 32)
+of-two c = two-at (c .before .before .before .before .before .pre) (c .before .before .widen .ensures) (c .before .if1 .left) (c .if2 .taken)
 
-of-three : (c : tie.Then3) → let a = c .before .before .before .before .before .before in At (a .pre) 2 (c .before .before .before .wide .result % 16)
-of-three c = three-at (c .before .before .before .before .before .before .pre) (c .before .before .before .wide .ensures) (c .before .if2 .left) (c .if3 .taken)
+of-three : (c : tie.Then3) → let a = c .before .before .before .before .before .before in At (a .pre) 2 (c .before .before .before .widen .result % 16)
+of-three c = three-at (c .before .before .before .before .before .before .pre) (c .before .before .before .widen .ensures) (c .before .if2 .left) (c .if3 .taken)
 
-of-four : (c : tie.Else3) → let a = c .before .before .before .before .before .before in At (a .pre) 3 (c .before .before .before .wide .result % 8)
-of-four c = four-at (c .before .before .before .before .before .before .pre) (c .before .before .before .wide .ensures) (c .if3 .left)
+of-four : (c : tie.Else3) → let a = c .before .before .before .before .before .before in At (a .pre) 3 (c .before .before .before .widen .result % 8)
+of-four c = four-at (c .before .before .before .before .before .before .pre) (c .before .before .before .widen .ensures) (c .if3 .left)
 
 shared-slice-read-b : tie.Need-shared-slice-read-b
 shared-slice-read-b c = inside (c .before .before .pre)
 
-wide-requires : tie.Need-wide-requires
-wide-requires c κs = search needs
+widen-requires : tie.Need-widen-requires
+widen-requires c κs = search needs
 
 returns : tie.Need-returns
 returns c =
     let w = c .before in
     let h = w .before .before .before .pre in
-    bytes-char h (one-at h (w .wide .ensures) (c .if1 .taken)) refl
+    bytes-char h (one-at h (w .widen .ensures) (c .if1 .taken)) refl
 
 two-requires : tie.Need-two-requires
 two-requires c κs = (bytes-inside (c .before .before .before .before .before .pre) (of-two c), omega arith)
@@ -52,7 +52,7 @@ char-at-spec =
     tie.close
     (tie.spec
     shared-slice-read-b
-    wide-requires
+    widen-requires
     returns
     two-requires
     returns-2

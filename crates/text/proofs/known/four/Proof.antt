@@ -7,19 +7,19 @@ use Rattle.text.proofs.known.four.Tie as tie
 three-requires : tie.Need-three-requires
 three-requires c κs = search needs
 
-add-six-more : tie.Need-add-six-more
-add-six-more c = search needs
+add-append-six-bits : tie.Need-add-append-six-bits
+add-append-six-bits c = search needs
 
-shared-slice-read-six-more : tie.Need-shared-slice-read-six-more
-shared-slice-read-six-more c = search needs
+shared-slice-read-append-six-bits : tie.Need-shared-slice-read-append-six-bits
+shared-slice-read-append-six-bits c = search needs
 
-six-more-requires : tie.Need-six-more-requires
-six-more-requires c κs = search needs
+append-six-bits-requires : tie.Need-append-six-bits-requires
+append-six-bits-requires c κs = search needs
 
 returns : tie.Need-returns
-returns c = c .six-more .ensures ∙ rw (c .before .before .three .ensures)
+returns c = c .append-six-bits .ensures ∙ rw (c .before .before .three .ensures)
 
 pub four-spec : {M : Type 1} → statement M
 four-spec =
     tie.close
-    (tie.spec three-requires add-six-more shared-slice-read-six-more six-more-requires returns)
+    (tie.spec three-requires add-append-six-bits shared-slice-read-append-six-bits append-six-bits-requires returns)

@@ -38,14 +38,14 @@ between-requires-2 c κs = search needs
 between-requires-3 : tie.Need-between-requires-3
 between-requires-3 c κs = search needs
 
-six-more-requires : tie.Need-six-more-requires
-six-more-requires c κs = search needs
+append-six-bits-requires : tie.Need-append-six-bits-requires
+append-six-bits-requires c κs = search needs
 
-six-more-requires-2 : tie.Need-six-more-requires-2
-six-more-requires-2 c κs = search needs
+append-six-bits-requires-2 : tie.Need-append-six-bits-requires-2
+append-six-bits-requires-2 c κs = search needs
 
-six-more-requires-3 : tie.Need-six-more-requires-3
-six-more-requires-3 c κs = search needs
+append-six-bits-requires-3 : tie.Need-append-six-bits-requires-3
+append-six-bits-requires-3 c κs = search needs
 
 char-if-requires : tie.Need-char-if-requires
 char-if-requires c κs = search needs
@@ -57,7 +57,7 @@ returns-2 c =
     let i = b .before .before .before .before in
     let a = i .before .before .args in
     c .char-if .ensures
-    ∙ four-at (a .s .now) _ _ (a .at) _ (b .between .ensures) (m .six-more .ensures) (m .before .before .between2 .ensures) (c .before .before .six-more2 .ensures) (m .before .between3 .ensures) (c .before .six-more3 .ensures) (i .if1 .left)
+    ∙ four-at (a .s .now) _ _ (a .at) _ (b .between .ensures) (m .append-six-bits .ensures) (m .before .before .between2 .ensures) (c .before .before .append-six-bits2 .ensures) (m .before .between3 .ensures) (c .before .append-six-bits3 .ensures) (i .if1 .left)
 
 pub four-spec : {M : Type 1} → statement M
 four-spec =
@@ -74,8 +74,8 @@ four-spec =
     between-requires
     between-requires-2
     between-requires-3
-    six-more-requires
-    six-more-requires-2
-    six-more-requires-3
+    append-six-bits-requires
+    append-six-bits-requires-2
+    append-six-bits-requires-3
     char-if-requires
     returns-2)

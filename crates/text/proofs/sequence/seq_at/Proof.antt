@@ -14,8 +14,8 @@ shared-slice-read-b c = search needs
 row-of-requires : tie.Need-row-of-requires
 row-of-requires c κs = search needs
 
-wide-requires : tie.Need-wide-requires
-wide-requires c κs = search needs
+widen-requires : tie.Need-widen-requires
+widen-requires c κs = search needs
 
 two-requires : tie.Need-two-requires
 two-requires c κs = search needs
@@ -27,25 +27,25 @@ four-requires : tie.Need-four-requires
 four-requires c κs = search needs
 
 returns-2 : tie.Need-returns-2
-returns-2 c = let r = c .before .before in seq-one _ _ (r .before .before .if1 .left) _ (r .row-of .ensures) (c .before .wide .ensures) (c .match .keys1)
+returns-2 c = let r = c .before .before in seq-one _ _ (r .before .before .if1 .left) _ (r .row-of .ensures) (c .before .widen .ensures) (c .match .keys1)
 
 returns-3 : tie.Need-returns-3
 returns-3 c =
     let w = c .before .before in
     let r = w .before in
-    c .two .ensures ∙ seq-two _ _ (r .before .before .if1 .left) _ (r .row-of .ensures) (w .wide .ensures) (c .before .match .keys2)
+    c .two .ensures ∙ seq-two _ _ (r .before .before .if1 .left) _ (r .row-of .ensures) (w .widen .ensures) (c .before .match .keys2)
 
 returns-4 : tie.Need-returns-4
 returns-4 c =
     let w = c .before .before in
     let r = w .before in
-    c .three .ensures ∙ seq-three _ _ (r .before .before .if1 .left) _ (r .row-of .ensures) (w .wide .ensures) (c .before .match .keys3)
+    c .three .ensures ∙ seq-three _ _ (r .before .before .if1 .left) _ (r .row-of .ensures) (w .widen .ensures) (c .before .match .keys3)
 
 returns-5 : tie.Need-returns-5
 returns-5 c =
     let w = c .before .before in
     let r = w .before in
-    c .four .ensures ∙ seq-four _ _ (r .before .before .if1 .left) _ (r .row-of .ensures) (w .wide .ensures) (c .before .match .keys4)
+    c .four .ensures ∙ seq-four _ _ (r .before .before .if1 .left) _ (r .row-of .ensures) (w .widen .ensures) (c .before .match .keys4)
 
 returns-6 : tie.Need-returns-6
 returns-6 c =
@@ -60,7 +60,7 @@ seq-at-spec =
     returns
     shared-slice-read-b
     row-of-requires
-    wide-requires
+    widen-requires
     two-requires
     three-requires
     four-requires

@@ -29,11 +29,11 @@ between-requires c κs = search needs
 between-requires-2 : tie.Need-between-requires-2
 between-requires-2 c κs = search needs
 
-six-more-requires : tie.Need-six-more-requires
-six-more-requires c κs = search needs
+append-six-bits-requires : tie.Need-append-six-bits-requires
+append-six-bits-requires c κs = search needs
 
-six-more-requires-2 : tie.Need-six-more-requires-2
-six-more-requires-2 c κs = search needs
+append-six-bits-requires-2 : tie.Need-append-six-bits-requires-2
+append-six-bits-requires-2 c κs = search needs
 
 char-if-requires : tie.Need-char-if-requires
 char-if-requires c κs = search needs
@@ -45,7 +45,7 @@ returns-2 c =
     let i = b .before .before .before in
     let a = i .before .before .args in
     c .char-if .ensures
-    ∙ three-at (a .s .now) _ _ (a .at) _ (b .between .ensures) (m .six-more .ensures) (m .before .between2 .ensures) (c .before .six-more2 .ensures) (i .if1 .left)
+    ∙ three-at (a .s .now) _ _ (a .at) _ (b .between .ensures) (m .append-six-bits .ensures) (m .before .between2 .ensures) (c .before .append-six-bits2 .ensures) (i .if1 .left)
 
 pub three-spec : {M : Type 1} → statement M
 three-spec =
@@ -59,7 +59,7 @@ three-spec =
     shared-slice-read-d
     between-requires
     between-requires-2
-    six-more-requires
-    six-more-requires-2
+    append-six-bits-requires
+    append-six-bits-requires-2
     char-if-requires
     returns-2)
