@@ -1,9 +1,9 @@
 -- Laws of refusal 6 (`specs/Check.antt`): what the code tests, and what the definition says. No contract cites this file.
--- In order: fields that may be absent; the fields of a numeric edge; the head of an edge; the edges of a listing.
+-- In order: fields that may be absent; the fields of a numeric edge; the head of an edge; the edges of a listing; what an answer says of the listing.
 use mathlib.Core.Path.{_≡_, refl, sym, ap, _∙_}
 use mathlib.Core.Bool.{Bool, true, false, cond, not, _&&_, _||_}
 use mathlib.Core.List.{List}
-use Prim.Native.Nat.{ℕ, suc, _+_, _-_, _≤_, _<_}
+use Prim.Native.Nat.{ℕ, zero, suc, _+_, _-_, _≤_, _<_}
 use native.Mathlib.Nat.{le-trans, le-of-eq}
 use native.Mathlib.Omega.{arith}
 use lib.ListN.{length}
@@ -13,9 +13,10 @@ use Rattle.fields.specs.Fields.{leAt}
 use Rattle.edge.specs.declared.NumFields.{NumFields}
 use Rattle.edge.specs.declared.EdgeView.{EdgeView}
 use Rattle.edge.specs.Layout.{stands, only, mapAt, textAt, stringEnd, txtAt, headEnd, scriptAt, valueSAt, fieldsEnd, nextAt, numericAt, edgeAt}
-use Rattle.edge.specs.Check.{allowed, each, upToTop, soundFraction, soundNumeric, sound, good, checkEdges, checkListing}
+use Rattle.edge.specs.Check.{allowed, each, upToTop, soundFraction, soundNumeric, sound, good, checkEdges, checkListing, goodFrom, faultFrom, accepted, listingRefusal, listingPlace, ListingAnswer}
 use Rattle.edge.specs.View.{partAt, partIf, textOf, viewAt, fieldsAt, numericOf, numbersSound, fieldsSound, Inside}
 use borrow.Author.Tests.{le-leb, lt-leb, lt-ltb, le-ltb, leb-true}
+use Rattle.edge.specs.declared.ListingCheck.{ListingCheck}
 use Rattle.edge.specs.declared.ListingCheck.the-variants.{Edges, Refused}
 use Rattle.edge.proofs.LayoutLaws.{if-on, string-end-ge, within}
 
@@ -173,3 +174,39 @@ module _ (given : Bool) (n : ℕ) (s : List ℕ) where
   pub check-count : {count : ℕ} → 2 ≤ length s → count ≡ leAt s 0 2 → checkEdges given n s count 2 ≡ checkListing given n s
   unfolding checkListing
   check-count h e = sym (rw (le-leb 2 (length s) h, e))
+
+-- ---- what an answer says of the listing: 01's number, and its offset or count
+cond-not : {A : Type 0} (b : Bool) (x y : A) → cond b x y ≡ cond (not b) y x
+cond-not true x y = refl
+cond-not false x y = refl
+
+answers-told : (fine : Bool) (count at : ℕ) → let r = cond fine (Edges count) (Refused (record { 0 = at })) in (listingRefusal r ≡ cond fine 0 6) × (listingPlace r ≡ cond fine count at)
+answers-told true count at = (refl, refl)
+answers-told false count at = (refl, refl)
+
+module _ (given : Bool) (n : ℕ) (s : List ℕ) where
+  abbrev answered : Bool → ℕ → ListingCheck
+  answered fine at = cond fine (Edges (leAt s 0 2)) (Refused (record { 0 = at }))
+
+  edges-told : (k at : ℕ) → checkEdges given n s k at ≡ answered (goodFrom given n s k at) (faultFrom given n s k at)
+  unfolding checkEdges goodFrom faultFrom
+  edges-told zero at = cond-not (ltb at (length s)) _ _
+  edges-told (suc k) at = go (good given n s at) (edges-told k (nextAt s at))
+    where
+      go : (b : Bool) → checkEdges given n s k (nextAt s at) ≡ answered (goodFrom given n s k (nextAt s at)) (faultFrom given n s k (nextAt s at))
+          → cond b (checkEdges given n s k (nextAt s at)) (Refused (record { 0 = at })) ≡ answered (b && goodFrom given n s k (nextAt s at)) (cond b (faultFrom given n s k (nextAt s at)) at)
+      go true later = later
+      go false later = refl
+
+  listing-told : checkListing given n s ≡ answered (accepted given n s) (cond (leb 2 (length s)) (faultFrom given n s (leAt s 0 2) 2) 0)
+  unfolding checkListing
+  listing-told = go (leb 2 (length s))
+    where
+      go : (b : Bool) → cond b (checkEdges given n s (leAt s 0 2) 2) (Refused (record { 0 = 0 })) ≡ answered (b && goodFrom given n s (leAt s 0 2) 2) (cond b (faultFrom given n s (leAt s 0 2) 2) 0)
+      go true = edges-told (leAt s 0 2) 2
+      go false = refl
+
+  pub listing-answer : {r : ListingCheck} → r ≡ checkListing given n s → ListingAnswer given n s r
+  listing-answer e =
+      let told = answers-told (accepted given n s) (leAt s 0 2) (cond (leb 2 (length s)) (faultFrom given n s (leAt s 0 2) 2) 0) in
+      record { is = e; number = ap listingRefusal (e ∙ listing-told) ∙ told .0; place = ap listingPlace (e ∙ listing-told) ∙ told .1 }

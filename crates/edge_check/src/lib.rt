@@ -1,14 +1,13 @@
 // Refusal 6 (01, "Listing"): whether bytes are a listing over a line, and where they are not.
 pub mod sound; // sound.rt: whether one edge may stand
 
-ghost use mathlib.Core.Path.{_≡_};
-ghost use Rattle.edge.specs.Check.{checkListing};
+ghost use Rattle.edge.specs.Check.{ListingAnswer};
 use edge::ListingCheck;
 use text::Offset;
 
 // Refusal 6: a listing over a line of so many characters; given: its edges are given to the call.
 pub fn check_listing(s: &[u8], chars: usize, given: bool) -> ListingCheck
-    ensures { λ r. ⌜ r ≡ checkListing given chars (now (s .entry)) ⌝ }
+    ensures { λ r. ⌜ ListingAnswer given chars (now (s .entry)) r ⌝ }
 {
     if s.len() < 2 {
         return ListingCheck::Refused(Offset(0));

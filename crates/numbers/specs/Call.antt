@@ -13,14 +13,14 @@ use lib.Dec.{ltb}
 use Rattle.text.specs.declared.LineCheck.{LineCheck}
 use Rattle.text.specs.declared.LineCheck.the-variants.{Chars, IllFormed, TooLong}
 use Rattle.text.specs.Text.{chars}
-use Rattle.text.specs.Line.{lineCheck}
+use Rattle.text.specs.Line.{lineCheck, lineRefusal, lineAt}
 use Rattle.table.specs.Table.{Table}
 use Rattle.table.specs.Check.{Checked, Fine, Refused, readTable}
 use Rattle.passes.specs.Characters.{firstList}
 use Rattle.passes.specs.Passes.{fifthList, joinedEdges, aboveAt}
 use Rattle.edge.specs.Edge.{Edge, listingBytes}
 use Rattle.edge.specs.Layout.{listed}
-use Rattle.edge.specs.Check.{checkListing}
+use Rattle.edge.specs.Check.{checkListing, listingRefusal, listingPlace}
 use Rattle.edge.specs.declared.ListingCheck.{ListingCheck}
 use Rattle.edge.specs.declared.ListingCheck.the-variants as ListingCheck
 use Rattle.lattice.specs.Lattice.{addAll, overfull}
@@ -59,7 +59,7 @@ afterChecks t w out given = unlessAbove (aboveAt t w) (finished out (latticeOf t
 
 -- 6: the given edges
 abbrev pub afterEdgesCheck : Table → List ℕ → ℕ → List ℕ → ListingCheck → Answer
-afterEdgesCheck t w out given (ListingCheck.Refused at) = refused 6 (at .0)
+afterEdgesCheck t w out given (ListingCheck.Refused at) = refused (listingRefusal (ListingCheck.Refused at)) (listingPlace (ListingCheck.Refused at))
 afterEdgesCheck t w out given (ListingCheck.Edges n) = afterChecks t w out (listed given)
 
 -- 4 and 5: the table
@@ -69,8 +69,8 @@ afterTableCheck w out given (Fine t at) = afterEdgesCheck t w out given (checkLi
 
 -- 2 and 3: the line
 abbrev pub afterLineCheck : List ℕ → List ℕ → List ℕ → ℕ → LineCheck → Answer
-afterLineCheck line table given out (IllFormed at) = refused 2 (at .0)
-afterLineCheck line table given out (TooLong at) = refused 3 (at .0)
+afterLineCheck line table given out (IllFormed at) = refused (lineRefusal (IllFormed at)) (lineAt (IllFormed at))
+afterLineCheck line table given out (TooLong at) = refused (lineRefusal (TooLong at)) (lineAt (TooLong at))
 afterLineCheck line table given out (Chars n) = afterTableCheck (chars line) out given (readTable table)
 
 -- 1: "work space under 65,536 bytes"

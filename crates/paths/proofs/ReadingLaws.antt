@@ -14,8 +14,9 @@ use Rattle.text.specs.declared.Offset.{Offset}
 use Rattle.text.specs.declared.LineCheck.{LineCheck}
 use Rattle.text.specs.declared.LineCheck.the-variants.{Chars, IllFormed, TooLong}
 use Rattle.text.specs.Text.{chars, wellFormed}
-use Rattle.text.specs.Line.{maxChars, lineCheck}
+use Rattle.text.specs.Line.{lineCheck}
 use Rattle.text.proofs.RowLaws.{cond-cases, and-true}
+use Rattle.text.proofs.line.LineLaws.{checked-line}
 use Rattle.fields.specs.Fields.{leAt}
 use Rattle.edge.specs.declared.ListingCheck.{ListingCheck}
 use Rattle.edge.specs.declared.ListingCheck.the-variants as ListingCheck
@@ -69,16 +70,6 @@ checked-listing n s k =
     cond-cases (λ (r : ListingCheck). r ≡ ListingCheck.Edges k → (k ≡ leAt s 0 2) × Spans n k s 2) (leb 2 (length s))
     (λ t e. let r = checked n s (leAt s 0 2) 2 k (leb-true 2 (length s) t) e in (r .0, rw (r .0) (r .1)))
     (λ t e. let z : _≡_ {A = ℕ} 0 1 = cc in absurd (omega arith))
-
--- a line that is not refused has its characters, at most 256
-checked-line : (line : List ℕ) (n : ℕ) → lineCheck line ≡ Chars n → (n ≡ length (chars line)) × (n ≤ 256) × (wellFormed line ≡ true)
-checked-line line n =
-    cond-cases P (wellFormed line)
-    (λ t. cond-cases P (leb (length (chars line)) maxChars) (λ h e. let m : n ≡ length (chars line) = cc in (m, omega (arith, leb-true (length (chars line)) maxChars h), t)) (λ h e. let z : _≡_ {A = ℕ} 0 1 = cc in absurd (omega arith)))
-    (λ t e. let z : _≡_ {A = ℕ} 0 1 = cc in absurd (omega arith))
-  where
-    P : LineCheck → Type 0
-    P r = r ≡ Chars n → (n ≡ length (chars line)) × (n ≤ 256) × (wellFormed line ≡ true)
 
 -- n characters and k edges are read
 pub record Reads (line s : List ℕ) (n k : ℕ) : Type 0 where

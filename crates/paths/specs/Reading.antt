@@ -13,10 +13,10 @@ use lib.ListN.{length}
 use lib.Dec.{leb}
 use Rattle.text.specs.declared.LineCheck.{LineCheck}
 use Rattle.text.specs.declared.LineCheck.the-variants.{Chars, IllFormed, TooLong}
-use Rattle.text.specs.Line.{lineCheck}
+use Rattle.text.specs.Line.{lineCheck, lineRefusal, lineAt}
 use Rattle.edge.specs.declared.ListingCheck.{ListingCheck}
 use Rattle.edge.specs.declared.ListingCheck.the-variants as ListingCheck
-use Rattle.edge.specs.Check.{checkListing}
+use Rattle.edge.specs.Check.{checkListing, listingRefusal, listingPlace}
 use Rattle.edge.specs.Layout.{edgeAt, nextAt}
 use Rattle.paths.specs.declared.Query.{Query}
 use Rattle.paths.specs.declared.Query.the-variants.{Span, Right, Left}
@@ -29,16 +29,16 @@ use Rattle.paths.specs.declared.EdgeAnswer.the-variants as EdgeAnswer
 use Rattle.paths.specs.Best.{best, withOffsets, found}
 
 abbrev pub number : ReadRefusal → ℕ
-number (NotUtf8 at) = 2
-number (OverLong at) = 3
-number (BadListing at) = 6
+number (NotUtf8 at) = lineRefusal (IllFormed at)
+number (OverLong at) = lineRefusal (TooLong at)
+number (BadListing at) = listingRefusal (ListingCheck.Refused at)
 number ShortOutput = 8
 number BadPlace = 9
 
 abbrev pub place : ReadRefusal → ℕ
-place (NotUtf8 at) = at .0
-place (OverLong at) = at .0
-place (BadListing at) = at .0
+place (NotUtf8 at) = lineAt (IllFormed at)
+place (OverLong at) = lineAt (TooLong at)
+place (BadListing at) = listingPlace (ListingCheck.Refused at)
 place ShortOutput = 0
 place BadPlace = 0
 

@@ -1,9 +1,12 @@
 -- A line: how it is walked, and refusals 2 and 3. Definitions only.
 --     walked s p      the first characters of s, at most p: how many they are, and their length in bytes
 --     maxChars        the most characters that a line may have
+--     lineNumber s, linePlace s  what 01's table says of the line s: the number of its refusal, 0 where it is accepted; the offset, or the count of characters
 --     lineCheck s     refusal 2, then refusal 3, or the count of characters
---     lineRefusal r, lineAt r    the scope's number of an answer, 0 where the line is accepted; its offset, or the count
+--     lineRefusal r, lineAt r    01's number of an answer, 0 where the line is accepted; its offset, or the count
+--     LineAnswer s r  r is the answer for the line s, and says its number and its offset or count
 use Prim.Native.Nat.{ℕ}
+use mathlib.Core.Path.{_≡_}
 use mathlib.Core.Bool.{cond}
 use mathlib.Core.List.{List}
 use lib.ListN.{length, take}
@@ -18,6 +21,14 @@ walked s p = record { count = length (take p (chars s)); at = offsetOf s p }
 
 abbrev pub maxChars : ℕ
 maxChars = 256
+
+-- "line not UTF-8": 2; "over 256 characters": 3
+abbrev pub lineNumber : List ℕ → ℕ
+lineNumber s = cond (wellFormed s) (cond (leb (length (chars s)) maxChars) 0 3) 2
+
+-- "offset of the first ill-formed sequence"; "offset of the 257th"
+abbrev pub linePlace : List ℕ → ℕ
+linePlace s = cond (wellFormed s) (cond (leb (length (chars s)) maxChars) (length (chars s)) (offsetOf s maxChars)) (illAt s)
 
 abbrev pub lineCheck : List ℕ → LineCheck
 lineCheck s =
@@ -34,3 +45,8 @@ abbrev pub lineAt : LineCheck → ℕ
 lineAt (Chars n) = n
 lineAt (IllFormed at) = at .0
 lineAt (TooLong at) = at .0
+
+pub record LineAnswer (s : List ℕ) (r : LineCheck) : Type 0 where
+  pub is : r ≡ lineCheck s
+  pub number : lineRefusal r ≡ lineNumber s
+  pub place : lineAt r ≡ linePlace s

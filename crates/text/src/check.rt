@@ -1,16 +1,15 @@
-// Refusals 2 and 3 of a line. The word of the contract is in `text`'s specs/Line.antt.
+// Refusals 2 and 3 of a line. The words of the contract are in `text`'s specs/Line.antt.
 use crate::LineCheck;
 use crate::Offset;
 use crate::Place;
-ghost use mathlib.Core.Path.{_≡_};
-ghost use Rattle.text.specs.Line.{lineCheck};
+ghost use Rattle.text.specs.Line.{LineAnswer};
 
 // The most characters that a line may have.
 pub const MAX_CHARS: usize = 256;
 
 // Refusals 2 and 3. The whole line is looked at for 2 before 3 is asked; an accepted line is walked once.
 pub fn check_line(line: &[u8]) -> LineCheck
-    ensures { λ r. ⌜ r ≡ lineCheck (now (line .entry)) ⌝ }
+    ensures { λ r. ⌜ LineAnswer (now (line .entry)) r ⌝ }
 {
     let w = crate::line::walk(line, line.len());
     if w.at < line.len() {

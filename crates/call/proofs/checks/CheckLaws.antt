@@ -2,18 +2,18 @@
 -- In order: a table's refusal is 4 or 5; the checks 4 to 6; the line's. Assumes nothing.
 use mathlib.Core.Path.{_≡_, refl, sym, ap, _∙_}
 use mathlib.Core.Logic.{_⊎_, inl, inr}
-use mathlib.Core.Bool.{Bool, true, false, cond}
-use mathlib.Core.List.{List, []}
-use Prim.Native.Nat.{ℕ, zero, suc, _+_, _≤_}
-use native.Mathlib.Omega.{arith}
+use mathlib.Core.Bool.{Bool, true}
+use mathlib.Core.List.{List}
+use Prim.Native.Nat.{ℕ, zero, suc, _+_}
 use lib.ListN.{length}
-use lib.Dec.{eqb, leb}
-use borrow.Author.Tests.{leb-true, le-leb}
+use lib.Dec.{eqb}
+use borrow.Author.Tests.{le-leb}
 use Rattle.text.specs.declared.LineCheck.{LineCheck}
 use Rattle.text.specs.declared.LineCheck.the-variants.{Chars, IllFormed, TooLong}
-use Rattle.text.specs.Text.{chars, wellFormed}
+use Rattle.text.specs.Text.{chars}
 use Rattle.text.specs.Line.{maxChars, lineCheck}
 use Rattle.text.proofs.RowLaws.{cond-cases}
+use Rattle.text.proofs.line.LineLaws.{checked-line}
 use Rattle.table.specs.Table.{Text, Record, Table}
 use Rattle.table.specs.Layout.{Field, Is, Fault, number, text, readRecord}
 use Rattle.table.specs.Check.{Checked, Fine, Refused, thenItem, item, legalMark, legalRecord, readTexts, readList, readRecords, readTable}
@@ -106,16 +106,6 @@ module _ (n : ℕ) (table given : List ℕ) where
     rest-sound p q = (refl, read, sym p ∙ q)
 
 -- ---- the line
--- one that is not refused has its characters, at most 256
-line-facts : (line : List ℕ) (n : ℕ) → lineCheck line ≡ Chars n → (n ≡ length (chars line)) × (n ≤ 256) × (wellFormed line ≡ true)
-line-facts line n =
-    cond-cases P (wellFormed line)
-    (λ t. cond-cases P (leb (length (chars line)) maxChars) (λ h e. let m : n ≡ length (chars line) = cc in (m, omega (arith, leb-true (length (chars line)) maxChars h), t)) (λ h e. let z : _≡_ {A = ℕ} 0 1 = cc in absurd (omega arith)))
-    (λ t e. let z : _≡_ {A = ℕ} 0 1 = cc in absurd (omega arith))
-  where
-    P : LineCheck → Type 0
-    P r = r ≡ Chars n → (n ≡ length (chars line)) × (n ≤ 256) × (wellFormed line ≡ true)
-
 module _ (line table given : List ℕ) {c : LineCheck} (e : c ≡ lineCheck line) where
   pub lent-ill : {at : _} → c ≡ IllFormed at → LentIs line table given (CallCheck.Refused (NotUtf8 at))
   unfolding LentIs
@@ -128,9 +118,9 @@ module _ (line table given : List ℕ) {c : LineCheck} (e : c ≡ lineCheck line
   pub lent-chars : {n : ℕ} → c ≡ Chars n → (r : CallCheck) → RestIs n table given r → LentIs line table given r
   unfolding LentIs RestIs
   lent-chars {n} f (CallCheck.Accepted m h k) q =
-      let l = line-facts line n (sym e ∙ f) in
+      let l = checked-line line n (sym e ∙ f) in
       rw (q .0) (record { ready = record { formed = l .2; count = sym (l .0); few = l .1; checked = q .1 }; edges = q .2 })
-  lent-chars {n} f (CallCheck.Refused r) q = λ out. rw (sym e ∙ f) (q (chars line) (sym (line-facts line n (sym e ∙ f) .0)) out)
+  lent-chars {n} f (CallCheck.Refused r) q = λ out. rw (sym e ∙ f) (q (chars line) (sym (checked-line line n (sym e ∙ f) .0)) out)
 
 -- ---- what is sound is answered by the stages
 pub sound-answer : {line table given : List ℕ} {n : ℕ} {h : Shape} {k : ℕ} → Accepted line table given n h k → (out : ℕ) → afterLineCheck line table given out (lineCheck line) ≡ afterChecks (tableOf table h) (chars line) out (listed given)

@@ -1,7 +1,7 @@
 -- `edge_check::check_listing` meets its contract. The loop's invariant: the offset is within the slice, and checking the edges that are left from there
 -- gives the answer for the whole listing. The measure is how many are left. Assumes nothing.
 use borrow.Author.Tests.{not-true, not-false}
-use Rattle.edge.proofs.CheckLaws.{good-next, check-bad, check-good, check-left-over, check-ends, check-no-count, check-count}
+use Rattle.edge.proofs.CheckLaws.{good-next, check-bad, check-good, check-left-over, check-ends, check-no-count, check-count, listing-answer}
 use Rattle.edge.specs.Check.{checkEdges, checkListing}
 use Rattle.fields.specs.Fields.{leAt}
 use borrow.Author.Needs.{needs}
@@ -19,7 +19,7 @@ abbrev μ-loop : tie.MeasureT-loop
 μ-loop s chars given count left₀ at₀ left at = left
 
 returns : tie.Need-returns Inv-loop μ-loop
-returns c = check-no-count _ _ _ (c .if1 .taken)
+returns c = listing-answer _ _ _ (check-no-count _ _ _ (c .if1 .taken))
 
 u16-at-requires : tie.Need-u16-at-requires Inv-loop μ-loop
 u16-at-requires c κs = search needs
@@ -39,7 +39,7 @@ edge-legal-requires c κs = c .next-at .ensures
 returns-2 : tie.Need-returns-2 Inv-loop μ-loop
 returns-2 c =
     let turn = c .before .before .before in
-    check-bad _ _ _ _ _ (turn .loop-test .taken) (sym (c .before .edge-legal .ensures) ∙ not-true _ (c .if2 .taken)) ∙ turn .before .loop .inv .2
+    listing-answer _ _ _ (check-bad _ _ _ _ _ (turn .loop-test .taken) (sym (c .before .edge-legal .ensures) ∙ not-true _ (c .if2 .taken)) ∙ turn .before .loop .inv .2)
 
 sub-left : tie.Need-sub-left Inv-loop μ-loop
 sub-left c = search needs
@@ -55,10 +55,10 @@ loop-again c =
     (good-next _ _ _ _ next fine, turn .before .loop .inv .1, check-good _ _ _ _ _ (turn .loop-test .taken) next fine ∙ turn .before .loop .inv .2)
 
 returns-3 : tie.Need-returns-3 Inv-loop μ-loop
-returns-3 c = check-left-over _ _ _ _ _ (c .before .loop-test .left) (c .if3 .taken) ∙ c .before .before .loop .inv .2
+returns-3 c = listing-answer _ _ _ (check-left-over _ _ _ _ _ (c .before .loop-test .left) (c .if3 .taken) ∙ c .before .before .loop .inv .2)
 
 returns-4 : tie.Need-returns-4 Inv-loop μ-loop
-returns-4 c = check-ends _ _ _ _ _ (c .before .loop-test .left) (c .if3 .left) (c .before .before .loop .inv .1) ∙ c .before .before .loop .inv .2
+returns-4 c = listing-answer _ _ _ (check-ends _ _ _ _ _ (c .before .loop-test .left) (c .if3 .left) (c .before .before .loop .inv .1) ∙ c .before .before .loop .inv .2)
 
 pub check-listing-spec : {M : Type 1} → statement M
 check-listing-spec =

@@ -1,17 +1,20 @@
--- Laws of a whole line (`specs/Line.antt`): a walk with the line's length as the most characters, and the answers of `text::check::check_line` by its tests.
-use mathlib.Core.Path.{_≡_, sym, ap, _∙_}
-use mathlib.Core.Bool.{true}
+-- Laws of a whole line (`specs/Line.antt`): a walk with the line's length as the most characters, the answers of `text::check::check_line` by its tests, and what an
+-- answer says of the line.
+use mathlib.Core.Path.{_≡_, refl, sym, ap, _∙_}
+use mathlib.Core.Bool.{Bool, true, false, cond}
 use mathlib.Core.List.{List, [], _∷_}
 use Prim.Native.Nat.{ℕ, _+_, _≤_, _<_}
 use native.Mathlib.Omega.{arith}
 use lib.ListN.{length, take, length-append}
 use lib.Seq.{take-all}
-use lib.Dec.{eqb}
-use borrow.Author.Tests.{eq-eqb, ne-eqb, le-leb, lt-leb}
+use lib.Dec.{eqb, leb}
+use borrow.Author.Tests.{eq-eqb, ne-eqb, le-leb, lt-leb, leb-true}
 use Rattle.text.specs.declared.Walked.{Walked}
+use Rattle.text.specs.declared.LineCheck.{LineCheck}
 use Rattle.text.specs.declared.LineCheck.the-variants.{Chars, IllFormed, TooLong}
 use Rattle.text.specs.Text.{chars, left, isNil, wellFormed, encodes, offsetOf, illAt}
-use Rattle.text.specs.Line.{walked, maxChars, lineCheck}
+use Rattle.text.specs.Line.{walked, maxChars, lineCheck, lineRefusal, lineAt, LineAnswer}
+use Rattle.text.proofs.RowLaws.{cond-cases}
 use Rattle.text.proofs.EncodeLaws.{encode-pos}
 use Rattle.text.proofs.TextLaws.{text-split}
 
@@ -19,6 +22,13 @@ length-encodes : (cs : List ℕ) → length cs ≤ length (encodes cs)
 unfolding encodes
 length-encodes [] = omega arith
 length-encodes (c ∷ cs) = rw length-append (omega (arith, encode-pos c, length-encodes cs))
+
+-- an answer by its tests says 01's number, and its offset or count
+answers-told : (ok few : Bool) (n o i : ℕ) → let r = cond ok (cond few (Chars n) (TooLong (record { 0 = o }))) (IllFormed (record { 0 = i })) in
+    (lineRefusal r ≡ cond ok (cond few 0 3) 2) × (lineAt r ≡ cond ok (cond few n o) i)
+answers-told true true n o i = (refl, refl)
+answers-told true false n o i = (refl, refl)
+answers-told false few n o i = (refl, refl)
 
 module _ (s : List ℕ) where
   length-split : length s ≡ length (encodes (chars s)) + length (left s)
@@ -63,3 +73,19 @@ module _ (s : List ℕ) where
 
       pub check-long : maxChars < w .count → (v : ℕ) → v ≡ offsetOf s maxChars → TooLong (record { 0 = v }) ≡ lineCheck s
       check-long k v p = rw (p, whole, lt-leb (length (chars s)) maxChars (omega (arith, counted)))
+
+  -- ---- what an answer says of the line: 01's number, and its offset or count
+  pub line-answer : {r : LineCheck} → r ≡ lineCheck s → LineAnswer s r
+  line-answer e =
+      let told = answers-told (wellFormed s) (leb (length (chars s)) maxChars) (length (chars s)) (offsetOf s maxChars) (illAt s) in
+      record { is = e; number = ap lineRefusal e ∙ told .0; place = ap lineAt e ∙ told .1 }
+
+  -- a line that is not refused has its characters, at most 256
+  pub checked-line : (n : ℕ) → lineCheck s ≡ Chars n → (n ≡ length (chars s)) × (n ≤ 256) × (wellFormed s ≡ true)
+  checked-line n =
+      cond-cases P (wellFormed s)
+      (λ t. cond-cases P (leb (length (chars s)) maxChars) (λ h e. let m : n ≡ length (chars s) = cc in (m, omega (arith, leb-true (length (chars s)) maxChars h), t)) (λ h e. let z : _≡_ {A = ℕ} 0 1 = cc in absurd (omega arith)))
+      (λ t e. let z : _≡_ {A = ℕ} 0 1 = cc in absurd (omega arith))
+    where
+      P : LineCheck → Type 0
+      P r = r ≡ Chars n → (n ≡ length (chars s)) × (n ≤ 256) × (wellFormed s ≡ true)

@@ -22,14 +22,14 @@ check-rest-requires c κs = search needs
 
 returns : tie.Need-returns
 unfolding LentIndexed
-returns c = (lent-ill _ _ _ (c .before .before .before .check-line .ensures) (c .before .at .given .1), tt)
+returns c = (lent-ill _ _ _ (c .before .before .before .check-line .ensures .is) (c .before .at .given .1), tt)
 
 returns-2 : tie.Need-returns-2
 unfolding LentIndexed
-returns-2 c = (lent-long _ _ _ (c .before .before .before .check-line .ensures) (c .before .at2 .given .1), tt)
+returns-2 c = (lent-long _ _ _ (c .before .before .before .check-line .ensures .is) (c .before .at2 .given .1), tt)
 
 returns-3 : tie.Need-returns-3
-returns-3 c = let k = c .before .before .before .before in (lent-chars _ _ _ (k .before .before .check-line .ensures) (k .chars .given .1) _ (c .check-rest .ensures .0), c .check-rest .ensures .1)
+returns-3 c = let k = c .before .before .before .before in (lent-chars _ _ _ (k .before .before .check-line .ensures .is) (k .chars .given .1) _ (c .check-rest .ensures .0), c .check-rest .ensures .1)
 
 pub check-spec : {M : Type 1} → statement M
 check-spec =

@@ -43,18 +43,18 @@ unfolding readCheck
 over-long line s e = rw e
 
 returns : tie.Need-returns
-returns c = ill-formed _ _ (sym (c .before .before .before .check-line .ensures) ∙ c .before .at .given .1)
+returns c = ill-formed _ _ (sym (c .before .before .before .check-line .ensures .is) ∙ c .before .at .given .1)
 
 returns-2 : tie.Need-returns-2
-returns-2 c = over-long _ _ (sym (c .before .before .before .check-line .ensures) ∙ c .before .at2 .given .1)
+returns-2 c = over-long _ _ (sym (c .before .before .before .check-line .ensures .is) ∙ c .before .at2 .given .1)
 
 returns-3 : tie.Need-returns-3
 unfolding readCheck
-returns-3 c = let l = c .before .before .before .before .before in rw (sym (l .before .before .check-line .ensures) ∙ l .chars .given .1, sym (c .before .before .before .check-listing .ensures) ∙ c .before .at3 .given .1)
+returns-3 c = let l = c .before .before .before .before .before in rw (sym (l .before .before .check-line .ensures .is) ∙ l .chars .given .1, sym (c .before .before .before .check-listing .ensures .is) ∙ c .before .at3 .given .1)
 
 returns-4 : tie.Need-returns-4
 unfolding readCheck
-returns-4 c = let l = c .before .before .before .before .before in rw (sym (l .before .before .check-line .ensures) ∙ l .chars .given .1, sym (c .before .before .before .check-listing .ensures) ∙ c .before .count .given .1)
+returns-4 c = let l = c .before .before .before .before .before in rw (sym (l .before .before .check-line .ensures .is) ∙ l .chars .given .1, sym (c .before .before .before .check-listing .ensures .is) ∙ c .before .count .given .1)
 
 pub check-spec : {M : Type 1} → statement M
 check-spec =
