@@ -1,15 +1,13 @@
 -- A character that is known to stand at an offset. Definitions only.
 --     Stands s at     a character stands in s at the offset at
 --     charOf r        an answer of `char_at` as what stands at an offset
---     bits s at m n   the bits m of the byte at the offset at, with the six bits of each of the n bytes behind it
 --     Assumes nothing.
-use Prim.Native.Nat.{ℕ, zero, suc, _+_}
+use Prim.Native.Nat.{ℕ}
 use mathlib.Core.Path.{_≡_}
 use mathlib.Core.List.{List}
-use lib.ListN.{getD, drop}
+use lib.ListN.{drop}
 use Rattle.text.specs.declared.Seq.{Seq}
 use Rattle.text.specs.declared.Seq.the-variants.{Char}
-use Rattle.text.specs.Table.{six}
 use Rattle.text.specs.Sequence.{seq}
 use Rattle.text.specs.declared.known.Known.{Known}
 
@@ -20,7 +18,3 @@ pub record Stands (s : List ℕ) (at : ℕ) : Type 0 where
 
 abbrev pub charOf : Known → Seq
 charOf r = Char (r .code) (r .len)
-
-abbrev pub bits : List ℕ → ℕ → ℕ → ℕ → ℕ
-bits s at m zero = m
-bits s at m (suc n) = six (bits s at m n) (getD s (at + suc n) 0)

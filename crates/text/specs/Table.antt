@@ -3,8 +3,11 @@
 --     rowOf b          the row of the lead byte b: the sequence's length and the second byte's limits; length 0 where there is no row
 --     trail x          x is a byte behind the second
 --     six c x          the code point's bits so far, c, with the six bits of the byte x behind them (table 3-6)
-use Prim.Native.Nat.{ℕ, _+_, _*_, _%_}
+--     bits s at m n    the bits m of the byte at an offset, with the six bits of each of the n bytes behind it
+use Prim.Native.Nat.{ℕ, zero, suc, _+_, _*_, _%_}
 use mathlib.Core.Bool.{Bool, cond, _&&_}
+use mathlib.Core.List.{List}
+use lib.ListN.{getD}
 use lib.Dec.{leb, eqb}
 use Rattle.text.specs.declared.Row.{Row}
 
@@ -32,3 +35,7 @@ trail = within 0x80 0xBF
 
 abbrev pub six : ℕ → ℕ → ℕ
 six c x = c * 64 + x % 64
+
+abbrev pub bits : List ℕ → ℕ → ℕ → ℕ → ℕ
+bits s at m zero = m
+bits s at m (suc n) = six (bits s at m n) (getD s (at + suc n) 0)

@@ -1,5 +1,6 @@
 // Text as bytes and as characters: UTF-8 by Unicode table 3-7, places and offsets, a line. Here are the types of the modules' answers, and equality of bytes.
 pub mod lead_byte; // lead_byte.rt: the row of table 3-7 for a lead byte
+pub mod code_point; // code_point.rt: the code point of a sequence by its bytes
 pub mod sequence; // sequence.rt: one sequence in any bytes
 pub mod known; // known.rt: a character of a text that is known to be well-formed
 pub mod line; // line.rt: a text as characters, the offset of a place

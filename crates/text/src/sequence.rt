@@ -1,32 +1,22 @@
 // One UTF-8 sequence (Unicode Standard, table 3-7). The words of the contracts are those of `text`, in its specs/Table.antt and specs/Sequence.antt.
 use crate::Offset;
 use crate::Seq;
+use crate::code_point::of_four;
+use crate::code_point::of_three;
+use crate::code_point::of_two;
+use crate::code_point::widen;
 use crate::lead_byte::row_of;
 ghost use mathlib.Core.Path.{_≡_};
 ghost use mathlib.Core.Bool.{cond};
 ghost use Prim.Native.Nat.{_+_, _<_};
 ghost use lib.ListN.{length, drop};
-ghost use Rattle.text.specs.Table.{within, six};
+ghost use Rattle.text.specs.Table.{within};
 ghost use Rattle.text.specs.Sequence.{seq, trailing};
 
 fn between(lo: u8, hi: u8, x: u8) -> bool
     ensures { λ r. ⌜ r ≡ within lo hi x ⌝ }
 {
     (lo <= x) & (x <= hi)
-}
-
-// The code point so far with the six bits of a trailing byte behind it.
-fn append_six_bits(c: u32, x: u8) -> u32
-    requires { ⌜ c < 32768 ⌝ }
-    ensures { λ r. ⌜ r ≡ six c x ⌝ }
-{
-    c * 64 + (x % 64) as u32
-}
-
-fn widen(x: u8) -> u32
-    ensures { λ r. ⌜ r ≡ x ⌝ }
-{
-    x as u32
 }
 
 // A character, if its bytes are good.
@@ -48,7 +38,7 @@ fn two(s: &[u8], at: usize, lead: u32, lo: u8, hi: u8) -> Seq
         return Seq::Ill;
     }
     let c = s[at + 1];
-    char_if(between(lo, hi, c), append_six_bits(lead, c), 2)
+    char_if(between(lo, hi, c), of_two(s, at, lead), 2)
 }
 
 fn three(s: &[u8], at: usize, lead: u32, lo: u8, hi: u8) -> Seq
@@ -61,7 +51,7 @@ fn three(s: &[u8], at: usize, lead: u32, lo: u8, hi: u8) -> Seq
     let c = s[at + 1];
     let d = s[at + 2];
     let good = between(lo, hi, c) & between(0x80, 0xBF, d);
-    char_if(good, append_six_bits(append_six_bits(lead, c), d), 3)
+    char_if(good, of_three(s, at, lead), 3)
 }
 
 fn four(s: &[u8], at: usize, lead: u32, lo: u8, hi: u8) -> Seq
@@ -75,11 +65,7 @@ fn four(s: &[u8], at: usize, lead: u32, lo: u8, hi: u8) -> Seq
     let d = s[at + 2];
     let e = s[at + 3];
     let good = between(lo, hi, c) & between(0x80, 0xBF, d) & between(0x80, 0xBF, e);
-    char_if(
-        good,
-        append_six_bits(append_six_bits(append_six_bits(lead, c), d), e),
-        4,
-    )
+    char_if(good, of_four(s, at, lead), 4)
 }
 
 // What stands at an offset.

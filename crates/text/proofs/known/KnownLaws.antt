@@ -8,17 +8,19 @@ use native.Mathlib.Omega.{arith}
 use native.Mathlib.Decide.{decLe}
 use lib.ListN.{length, getD, drop, drop-of-length-le, length-drop}
 use lib.Seq.{getD-drop}
+use lib.Dec.{eqb}
+use borrow.Author.Tests.{ne-eqb}
 use Rattle.text.specs.declared.Row.{Row}
 use Rattle.text.specs.declared.Seq.{Seq}
 use Rattle.text.specs.declared.Seq.the-variants.{Char, Ill, End}
-use Rattle.text.specs.Table.{row, rowOf, within, six}
+use Rattle.text.specs.Table.{rowOf, within, six, bits}
 use Rattle.text.specs.Sequence.{trailing, bySize, seq, encode}
 use Rattle.text.specs.Text.{chars, wellFormed, offsetOf}
-use Rattle.text.proofs.RowLaws.{cond-cases, by-row}
+use Rattle.text.proofs.RowLaws.{cond-cases}
 use Rattle.text.proofs.SequenceLaws.{drop-at, seq-end}
 use Rattle.text.proofs.TextLaws.{chars-nil}
 use Rattle.text.proofs.PlaceLaws.{Reached, offset-end, char-at-place}
-use Rattle.text.specs.Known.{Stands, bits}
+use Rattle.text.specs.Known.{Stands}
 
 -- ---- n bytes of s behind the bits m
 abbrev sixes : ℕ → ℕ → List ℕ → ℕ
@@ -51,41 +53,26 @@ module _ (c l : ℕ) where
     behind : (n lo hi m : ℕ) → trailing n lo hi m 1 s ≡ Char c l → Behind n m c l s
     behind n lo hi m e = let h = trailing-known n lo hi m 1 s e in record { fits = h .0; code = h .1; len = omega arith }
 
-    abbrev Read : Row → Type 0
-    Read r = bySize (r .0) (r .1) (r .2) b s ≡ Char c l
+    -- ---- by the length that the row of the lead byte gives
+    module _ (n lo hi : ℕ) (e : bySize n lo hi b s ≡ Char c l) where
+      by-one : n ≡ 1 → Behind 0 b c l s
+      unfolding bySize trailing
+      by-one p = behind 0 0 0 b (rw p at e)
 
-    -- ---- by the lead byte
-    by-one : b < 0x80 → Read (rowOf b) → Behind 0 b c l s
-    unfolding bySize trailing
-    by-one h =
-        by-row b (λ r. Read r → Behind 0 b c l s)
-        (λ k. behind 0 0 0 b)
-        (λ k g. absurd (omega arith)) (λ k. absurd (omega arith)) (λ k g. absurd (omega arith)) (λ k. absurd (omega arith)) (λ k g. absurd (omega arith))
-        (λ k. absurd (omega arith)) (λ k g. absurd (omega arith)) (λ k. absurd (omega arith)) (λ k g e. ill-char e)
+      by-two : n ≡ 2 → Behind 1 (b % 32) c l s
+      unfolding bySize
+      by-two p = behind 1 lo hi (b % 32) (rw p at e)
 
-    by-two : 0x80 ≤ b → b < 0xE0 → Read (rowOf b) → Behind 1 (b % 32) c l s
-    unfolding bySize
-    by-two h i =
-        by-row b (λ r. Read r → Behind 1 (b % 32) c l s)
-        (λ k. absurd (omega arith)) (λ k g. behind 1 0x80 0xBF (b % 32))
-        (λ k. absurd (omega arith)) (λ k g. absurd (omega arith)) (λ k. absurd (omega arith)) (λ k g. absurd (omega arith))
-        (λ k. absurd (omega arith)) (λ k g. absurd (omega arith)) (λ k. absurd (omega arith)) (λ k g e. ill-char e)
+      by-three : n ≡ 3 → Behind 2 (b % 16) c l s
+      unfolding bySize
+      by-three p = behind 2 lo hi (b % 16) (rw p at e)
 
-    by-three : 0xE0 ≤ b → b < 0xF0 → Read (rowOf b) → Behind 2 (b % 16) c l s
-    unfolding bySize
-    by-three h i =
-        by-row b (λ r. Read r → Behind 2 (b % 16) c l s)
-        (λ k. absurd (omega arith)) (λ k g. absurd (omega arith))
-        (λ k. behind 2 0xA0 0xBF (b % 16)) (λ k g. behind 2 0x80 0xBF (b % 16)) (λ k. behind 2 0x80 0x9F (b % 16)) (λ k g. behind 2 0x80 0xBF (b % 16))
-        (λ k. absurd (omega arith)) (λ k g. absurd (omega arith)) (λ k. absurd (omega arith)) (λ k g e. ill-char e)
-
-    by-four : 0xF0 ≤ b → Read (rowOf b) → Behind 3 (b % 8) c l s
-    unfolding bySize
-    by-four h =
-        by-row b (λ r. Read r → Behind 3 (b % 8) c l s)
-        (λ k. absurd (omega arith)) (λ k g. absurd (omega arith))
-        (λ k. absurd (omega arith)) (λ k g. absurd (omega arith)) (λ k. absurd (omega arith)) (λ k g. absurd (omega arith))
-        (λ k. behind 3 0x90 0xBF (b % 8)) (λ k g. behind 3 0x80 0xBF (b % 8)) (λ k. behind 3 0x80 0x8F (b % 8)) (λ k g e. ill-char e)
+      -- no row is longer than four
+      by-four : (n ≡ 1 → ⊥) → (n ≡ 2 → ⊥) → (n ≡ 3 → ⊥) → Behind 3 (b % 8) c l s
+      unfolding bySize
+      by-four n1 n2 n3 =
+          cond-cases (λ q. q ≡ Char c l → Behind 3 (b % 8) c l s) (eqb n 4) (λ t f. behind 3 lo hi (b % 8) f) (λ t f. ill-char f)
+          (simp (ne-eqb n 1 n1, ne-eqb n 2 n2, ne-eqb n 3 n3) at e)
 
 -- ---- the same at an offset
 sixes-last : (n m : ℕ) (s : List ℕ) → n < length s → sixes (suc n) m s ≡ six (sixes n m s) (getD s n 0)
@@ -107,10 +94,6 @@ module _ {s : List ℕ} {at : ℕ} (h : Stands s at) where
     | no k ↦ omega arith
   ]
 
-  read : Read (h .code) (h .len) (getD s at 0) (drop (at + 1) s) (rowOf (getD s at 0))
-  unfolding seq
-  read = rw (drop-at s at inside) at (h .here)
-
   -- n bytes stand behind the lead byte, whose bits are m
   abbrev pub At : ℕ → ℕ → Type 0
   At n m = Behind n m (h .code) (h .len) (drop (at + 1) s)
@@ -125,19 +108,23 @@ module _ {s : List ℕ} {at : ℕ} (h : Stands s at) where
         let l : n + 1 ≡ h .len = k .len in
         cc (h .here)
 
-  -- the code's lead is that byte
-  module _ {lead : ℕ} (e : lead ≡ getD s at 0) where
-    pub one-at : getD s at 0 < 0x80 → At 0 lead
-    one-at k = rw e (by-one (h .code) (h .len) (getD s at 0) (drop (at + 1) s) k read)
+  -- the code's lead is that byte, and its row that byte's
+  module _ {lead : ℕ} (e : lead ≡ getD s at 0) {r : Row} (row : r ≡ rowOf (getD s at 0)) where
+    read : bySize (r .0) (r .1) (r .2) (getD s at 0) (drop (at + 1) s) ≡ Char (h .code) (h .len)
+    unfolding seq
+    read = rw row (rw (drop-at s at inside) at (h .here))
 
-    pub two-at : 0x80 ≤ getD s at 0 → getD s at 0 < 0xE0 → At 1 (lead % 32)
-    two-at k g = rw e (by-two (h .code) (h .len) (getD s at 0) (drop (at + 1) s) k g read)
+    pub one-at : r .0 ≡ 1 → At 0 lead
+    one-at p = rw e (by-one (h .code) (h .len) (getD s at 0) (drop (at + 1) s) (r .0) (r .1) (r .2) read p)
 
-    pub three-at : 0xE0 ≤ getD s at 0 → getD s at 0 < 0xF0 → At 2 (lead % 16)
-    three-at k g = rw e (by-three (h .code) (h .len) (getD s at 0) (drop (at + 1) s) k g read)
+    pub two-at : r .0 ≡ 2 → At 1 (lead % 32)
+    two-at p = rw e (by-two (h .code) (h .len) (getD s at 0) (drop (at + 1) s) (r .0) (r .1) (r .2) read p)
 
-    pub four-at : 0xF0 ≤ getD s at 0 → At 3 (lead % 8)
-    four-at k = rw e (by-four (h .code) (h .len) (getD s at 0) (drop (at + 1) s) k read)
+    pub three-at : r .0 ≡ 3 → At 2 (lead % 16)
+    three-at p = rw e (by-three (h .code) (h .len) (getD s at 0) (drop (at + 1) s) (r .0) (r .1) (r .2) read p)
+
+    pub four-at : (r .0 ≡ 1 → ⊥) → (r .0 ≡ 2 → ⊥) → (r .0 ≡ 3 → ⊥) → At 3 (lead % 8)
+    four-at n1 n2 n3 = rw e (by-four (h .code) (h .len) (getD s at 0) (drop (at + 1) s) (r .0) (r .1) (r .2) read n1 n2 n3)
 
 -- ---- a walk over a well-formed line: a character stands wherever the line goes on
 module _ (s : List ℕ) (f : wellFormed s ≡ true) (n at : ℕ) (r : Reached s n at) where

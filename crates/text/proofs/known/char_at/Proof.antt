@@ -1,4 +1,4 @@
--- `text::known::char_at` meets its contract: the lead byte tells how many bytes stand behind it, since a character stands there. Assumes nothing.
+-- `text::known::char_at` meets its contract: by the length that the row of the lead byte gives, the bytes behind it are there, since a character stands there. Assumes nothing.
 use mathlib.Core.Path.{refl}
 use Prim.Native.Nat.{_%_}
 use native.Mathlib.Omega.{arith}
@@ -7,56 +7,73 @@ use Rattle.text.proofs.known.KnownLaws.{inside, At, bytes-inside, bytes
 use Rattle.text.proofs.known.char_at.Statement.{statement}
 use Rattle.text.proofs.known.char_at.Tie as tie
 
--- the bytes of a sequence of two, three and four, by the tests
-of-two : (c : tie.Then2) → let a = c .before .before .before .before .before in At (a .pre) 1 (c .before .before .widen .result % 32)
-of-two c = two-at (c .before .before .before .before .before .pre) (c .before .before .widen .ensures) (c .before .if1 .left) (c .if2 .taken)
-
-of-three : (c : tie.Then3) → let a = c .before .before .before .before .before .before in At (a .pre) 2 (c .before .before .before .widen .result % 16)
-of-three c = three-at (c .before .before .before .before .before .before .pre) (c .before .before .before .widen .ensures) (c .before .if2 .left) (c .if3 .taken)
-
-of-four : (c : tie.Else3) → let a = c .before .before .before .before .before .before in At (a .pre) 3 (c .before .before .before .widen .result % 8)
-of-four c = four-at (c .before .before .before .before .before .before .pre) (c .before .before .before .widen .ensures) (c .if3 .left)
-
 shared-slice-read-b : tie.Need-shared-slice-read-b
 shared-slice-read-b c = inside (c .before .before .pre)
+
+row-of-requires : tie.Need-row-of-requires
+row-of-requires c κs = search needs
 
 widen-requires : tie.Need-widen-requires
 widen-requires c κs = search needs
 
+of-two-requires : tie.Need-of-two-requires
+of-two-requires c κs =
+    let r = c .before .before in
+    let h = r .before .before .before .pre in
+    (bytes-inside h (two-at h (c .before .widen .ensures) (r .row-of .ensures) (c .match .keys2)), omega arith)
+
+of-three-requires : tie.Need-of-three-requires
+of-three-requires c κs =
+    let r = c .before .before in
+    let h = r .before .before .before .pre in
+    (bytes-inside h (three-at h (c .before .widen .ensures) (r .row-of .ensures) (c .match .keys3)), omega arith)
+
+of-four-requires : tie.Need-of-four-requires
+of-four-requires c κs =
+    let r = c .before .before in
+    let h = r .before .before .before .pre in
+    let n = c .match .rest in
+    (bytes-inside h (four-at h (c .before .widen .ensures) (r .row-of .ensures) (n .0 .0 .1) (n .0 .1) (n .1)), omega arith)
+
 returns : tie.Need-returns
 returns c =
-    let w = c .before in
-    let h = w .before .before .before .pre in
-    bytes-char h (one-at h (w .widen .ensures) (c .if1 .taken)) refl
-
-two-requires : tie.Need-two-requires
-two-requires c κs = (bytes-inside (c .before .before .before .before .before .pre) (of-two c), omega arith)
+    let r = c .before .before in
+    let h = r .before .before .before .pre in
+    bytes-char h (one-at h (c .before .widen .ensures) (r .row-of .ensures) (c .match .keys1)) refl
 
 returns-2 : tie.Need-returns-2
-returns-2 c = bytes-char (c .before .before .before .before .before .before .pre) (of-two (c .before)) (c .two .ensures)
-
-three-requires : tie.Need-three-requires
-three-requires c κs = (bytes-inside (c .before .before .before .before .before .before .pre) (of-three c), omega arith)
+returns-2 c =
+    let w = c .before .before in
+    let r = w .before in
+    let h = r .before .before .before .pre in
+    bytes-char h (two-at h (w .widen .ensures) (r .row-of .ensures) (c .before .match .keys2)) (c .of-two .ensures)
 
 returns-3 : tie.Need-returns-3
-returns-3 c = bytes-char (c .before .before .before .before .before .before .before .pre) (of-three (c .before)) (c .three .ensures)
-
-four-requires : tie.Need-four-requires
-four-requires c κs = (bytes-inside (c .before .before .before .before .before .before .pre) (of-four c), omega arith)
+returns-3 c =
+    let w = c .before .before in
+    let r = w .before in
+    let h = r .before .before .before .pre in
+    bytes-char h (three-at h (w .widen .ensures) (r .row-of .ensures) (c .before .match .keys3)) (c .of-three .ensures)
 
 returns-4 : tie.Need-returns-4
-returns-4 c = bytes-char (c .before .before .before .before .before .before .before .pre) (of-four (c .before)) (c .four .ensures)
+returns-4 c =
+    let w = c .before .before in
+    let r = w .before in
+    let h = r .before .before .before .pre in
+    let n = c .before .match .rest in
+    bytes-char h (four-at h (w .widen .ensures) (r .row-of .ensures) (n .0 .0 .1) (n .0 .1) (n .1)) (c .of-four .ensures)
 
 pub char-at-spec : {M : Type 1} → statement M
 char-at-spec =
     tie.close
     (tie.spec
     shared-slice-read-b
+    row-of-requires
     widen-requires
+    of-two-requires
+    of-three-requires
+    of-four-requires
     returns
-    two-requires
     returns-2
-    three-requires
     returns-3
-    four-requires
     returns-4)

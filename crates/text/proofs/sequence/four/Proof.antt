@@ -1,5 +1,5 @@
 -- `text::sequence::four` meets its contract: the line ends within the sequence, or its trailing bytes are there and are tested.
-use mathlib.Core.Path.{_∙_}
+use mathlib.Core.Path.{refl, _∙_}
 use borrow.Author.Needs.{needs}
 use Rattle.text.proofs.SequenceLaws.{cut-at, four-at}
 use Rattle.text.proofs.sequence.four.Statement.{statement}
@@ -38,26 +38,20 @@ between-requires-2 c κs = search needs
 between-requires-3 : tie.Need-between-requires-3
 between-requires-3 c κs = search needs
 
-append-six-bits-requires : tie.Need-append-six-bits-requires
-append-six-bits-requires c κs = search needs
-
-append-six-bits-requires-2 : tie.Need-append-six-bits-requires-2
-append-six-bits-requires-2 c κs = search needs
-
-append-six-bits-requires-3 : tie.Need-append-six-bits-requires-3
-append-six-bits-requires-3 c κs = search needs
+of-four-requires : tie.Need-of-four-requires
+of-four-requires c κs = search needs
 
 char-if-requires : tie.Need-char-if-requires
 char-if-requires c κs = search needs
 
 returns-2 : tie.Need-returns-2
 returns-2 c =
-    let m = c .before .before .before in
-    let b = m .before .before .before in
+    let e = c .before .before in
+    let d = e .before in
+    let b = d .before in
     let i = b .before .before .before .before in
     let a = i .before .before .args in
-    c .char-if .ensures
-    ∙ four-at (a .s .now) _ _ (a .at) _ (b .between .ensures) (m .append-six-bits .ensures) (m .before .before .between2 .ensures) (c .before .before .append-six-bits2 .ensures) (m .before .between3 .ensures) (c .before .append-six-bits3 .ensures) (i .if1 .left)
+    c .char-if .ensures ∙ four-at (a .s .now) _ _ (a .at) _ (b .between .ensures) refl (d .between2 .ensures) refl (e .between3 .ensures) (c .before .of-four .ensures) (i .if1 .left)
 
 pub four-spec : {M : Type 1} → statement M
 four-spec =
@@ -74,8 +68,6 @@ four-spec =
     between-requires
     between-requires-2
     between-requires-3
-    append-six-bits-requires
-    append-six-bits-requires-2
-    append-six-bits-requires-3
+    of-four-requires
     char-if-requires
     returns-2)

@@ -1,5 +1,5 @@
 -- `text::sequence::three` meets its contract: the line ends within the sequence, or its trailing bytes are there and are tested.
-use mathlib.Core.Path.{_∙_}
+use mathlib.Core.Path.{refl, _∙_}
 use borrow.Author.Needs.{needs}
 use Rattle.text.proofs.SequenceLaws.{cut-at, three-at}
 use Rattle.text.proofs.sequence.three.Statement.{statement}
@@ -29,23 +29,19 @@ between-requires c κs = search needs
 between-requires-2 : tie.Need-between-requires-2
 between-requires-2 c κs = search needs
 
-append-six-bits-requires : tie.Need-append-six-bits-requires
-append-six-bits-requires c κs = search needs
-
-append-six-bits-requires-2 : tie.Need-append-six-bits-requires-2
-append-six-bits-requires-2 c κs = search needs
+of-three-requires : tie.Need-of-three-requires
+of-three-requires c κs = search needs
 
 char-if-requires : tie.Need-char-if-requires
 char-if-requires c κs = search needs
 
 returns-2 : tie.Need-returns-2
 returns-2 c =
-    let m = c .before .before in
-    let b = m .before .before in
+    let d = c .before .before in
+    let b = d .before in
     let i = b .before .before .before in
     let a = i .before .before .args in
-    c .char-if .ensures
-    ∙ three-at (a .s .now) _ _ (a .at) _ (b .between .ensures) (m .append-six-bits .ensures) (m .before .between2 .ensures) (c .before .append-six-bits2 .ensures) (i .if1 .left)
+    c .char-if .ensures ∙ three-at (a .s .now) _ _ (a .at) _ (b .between .ensures) refl (d .between2 .ensures) (c .before .of-three .ensures) (i .if1 .left)
 
 pub three-spec : {M : Type 1} → statement M
 three-spec =
@@ -59,7 +55,6 @@ three-spec =
     shared-slice-read-d
     between-requires
     between-requires-2
-    append-six-bits-requires
-    append-six-bits-requires-2
+    of-three-requires
     char-if-requires
     returns-2)

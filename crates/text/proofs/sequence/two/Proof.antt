@@ -20,8 +20,8 @@ shared-slice-read-c c = search needs
 between-requires : tie.Need-between-requires
 between-requires c κs = search needs
 
-append-six-bits-requires : tie.Need-append-six-bits-requires
-append-six-bits-requires c κs = search needs
+of-two-requires : tie.Need-of-two-requires
+of-two-requires c κs = search needs
 
 char-if-requires : tie.Need-char-if-requires
 char-if-requires c κs = search needs
@@ -31,7 +31,7 @@ returns-2 c =
     let b = c .before .before in
     let i = b .before .before in
     let a = i .before .before .args in
-    c .char-if .ensures ∙ two-at (a .s .now) _ _ (a .at) _ (b .between .ensures) (c .before .append-six-bits .ensures) (i .if1 .left)
+    c .char-if .ensures ∙ two-at (a .s .now) _ _ (a .at) _ (b .between .ensures) (c .before .of-two .ensures) (i .if1 .left)
 
 pub two-spec : {M : Type 1} → statement M
 two-spec =
@@ -42,6 +42,6 @@ two-spec =
     add-c
     shared-slice-read-c
     between-requires
-    append-six-bits-requires
+    of-two-requires
     char-if-requires
     returns-2)
