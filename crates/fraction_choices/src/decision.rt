@@ -166,12 +166,13 @@ fn marked(
     lefts: &[usize; 257],
     rights: &[usize; 257],
     percent: bool,
-    p: usize,
+    place: Place,
     n: usize,
 ) -> Choice
-    requires { ⌜ ((es : List Edge) × HoldsNeighbors (now w) l (now lefts) (now rights) es) × (p + n ≤ 256) ⌝ }
-    ensures { λ r. ⌜ ((es : List Edge) → HoldsNeighbors (now (w .entry)) l (now (lefts .entry)) (now (rights .entry)) es → (outcomeOf es p r ≡ marked percent es p n) × Valid es r) ⌝ }
+    requires { ⌜ ((es : List Edge) × HoldsNeighbors (now w) l (now lefts) (now rights) es) × (place .0 + n ≤ 256) ⌝ }
+    ensures { λ r. ⌜ ((es : List Edge) → HoldsNeighbors (now (w .entry)) l (now (lefts .entry)) (now (rights .entry)) es → (outcomeOf es (place .0) r ≡ marked percent es (place .0) n) × Valid es r) ⌝ }
 {
+    let p = place.0;
     let left = lefts[p];
     let right = rights[p + n];
     let other = otherwise(w, l, percent, right);
@@ -190,10 +191,9 @@ pub fn outcome_at(
     requires { ⌜ ((es : List Edge) × HoldsNeighbors (now w) l (now lefts) (now rights) es) × (p .0 + sizeOf (markerOf marker) ≤ 256) ⌝ }
     ensures { λ r. ⌜ ((es : List Edge) → HoldsNeighbors (now (w .entry)) l (now (lefts .entry)) (now (rights .entry)) es → (outcomeOf es (p .0) r ≡ byMarker es (p .0) (markerOf marker)) × Valid es r) ⌝ }
 {
-    let place = p.0;
     match marker {
-        Marker::Percentage(n) => marked(w, l, lefts, rights, true, place, n),
-        Marker::Connector(n) => marked(w, l, lefts, rights, false, place, n),
+        Marker::Percentage(n) => marked(w, l, lefts, rights, true, p, n),
+        Marker::Connector(n) => marked(w, l, lefts, rights, false, p, n),
         Marker::NoMarker => Choice {
             form: 0,
             left: 0,

@@ -29,13 +29,13 @@ fn choice_at(
     h: Shape,
     before: &[usize; 257],
     behind: &[usize; 257],
-    p: usize,
+    p: Place,
 ) -> Choice
-    requires { ⌜ ((n : ℕ) × Ready (now line) (now table) h n) × Offsets (now line) (now offs) × ((es : List Edge) × HoldsNeighbors (now w) l (now before) (now behind) es) × (p < length (chars (now line))) ⌝ }
-    ensures { λ r. ⌜ ((es : List Edge) → HoldsNeighbors (now (w .entry)) l (now (before .entry)) (now (behind .entry)) es → (outcomeOf es p r ≡ outcomeAt (tableOf (now (table .entry)) h) (chars (now (line .entry))) es p) × Valid es r) ⌝ }
+    requires { ⌜ ((n : ℕ) × Ready (now line) (now table) h n) × Offsets (now line) (now offs) × ((es : List Edge) × HoldsNeighbors (now w) l (now before) (now behind) es) × (p .0 < length (chars (now line))) ⌝ }
+    ensures { λ r. ⌜ ((es : List Edge) → HoldsNeighbors (now (w .entry)) l (now (before .entry)) (now (behind .entry)) es → (outcomeOf es (p .0) r ≡ outcomeAt (tableOf (now (table .entry)) h) (chars (now (line .entry))) es (p .0)) × Valid es r) ⌝ }
 {
-    let marker = markers::find::marker_at(line, offs, table, h, Place(p));
-    crate::decision::outcome_at(w, l, before, behind, marker, Place(p))
+    let marker = markers::find::marker_at(line, offs, table, h, p);
+    crate::decision::outcome_at(w, l, before, behind, marker, p)
 }
 
 // The same of all n places.
@@ -58,7 +58,7 @@ fn choose_all(
 {
     let mut p = 0;
     while p < n {
-        let c = choice_at(w, l, line, offs, table, h, before, behind, p);
+        let c = choice_at(w, l, line, offs, table, h, before, behind, Place(p));
         forms[p] = c.form;
         lefts[p] = c.left;
         rights[p] = c.right;

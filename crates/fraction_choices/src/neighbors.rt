@@ -1,10 +1,8 @@
 // The right or the left neighbours of all places of the lattice (01, "The rest of the call"), in one walk.
 ghost use mathlib.Core.Path.{_≡_};
-ghost use mathlib.Core.Bool.{cond};
 ghost use mathlib.Core.List.{List};
-ghost use Prim.Native.Nat.{_+_, _≤_, _<_};
-ghost use lib.ListN.{length, getD, set, replicate};
-ghost use lib.Dec.{ltb};
+ghost use Prim.Native.Nat.{_+_, _≤_};
+ghost use lib.ListN.{length, replicate};
 ghost use Rattle.edge.specs.Edge.{Edge};
 ghost use Rattle.edge.specs.Layout.{edgeAt};
 ghost use Rattle.fraction_choices.specs.Around.{HoldsLine, sideOf, placeOf, Neighbors};
@@ -13,37 +11,25 @@ use paths::Query;
 use text::Place;
 
 // What is asked for at a place: its right or its left neighbour.
-fn side(right: bool, p: usize) -> Query
-    ensures { λ r. ⌜ r ≡ sideOf right p ⌝ }
+fn side(right: bool, place: Place) -> Query
+    ensures { λ r. ⌜ r ≡ sideOf right (place .0) ⌝ }
 {
     if right {
-        Query::Right(Place(p))
+        Query::Right(place)
     } else {
-        Query::Left(Place(p))
+        Query::Left(place)
     }
 }
 
 // The place whose right or left neighbour the edge at an offset may be.
-fn place_at(w: &[u8], at: usize, right: bool) -> usize
+fn place_at(w: &[u8], at: usize, right: bool) -> Place
     requires { ⌜ at + 10 ≤ length (now w) ⌝ }
-    ensures { λ r. ⌜ r ≡ placeOf right (edgeAt (now (w .entry)) at) ⌝ }
+    ensures { λ r. ⌜ r .0 ≡ placeOf right (edgeAt (now (w .entry)) at) ⌝ }
 {
     if right {
-        fields::u16_at(w, at + 2) as usize
+        Place(fields::u16_at(w, at + 2) as usize)
     } else {
-        fields::u16_at(w, at + 4) as usize
-    }
-}
-
-// Keeps the edge with index i as the neighbour of a place, where it scores higher than the one kept there.
-fn keep(tops: &mut [usize; 257], table: &mut [usize; 257], place: usize, score: usize, i: usize)
-    requires { ⌜ (place < 257) × (i < 1024) ⌝ }
-    ensures scores { λ _. ⌜ now (tops .exit) ≡ cond (ltb (getD (now (tops .entry)) place 0) score) (set (now (tops .entry)) place score) (now (tops .entry)) ⌝ }
-    ensures indices { λ _. ⌜ now (table .exit) ≡ cond (ltb (getD (now (tops .entry)) place 0) score) (set (now (table .entry)) place (i + 1)) (now (table .entry)) ⌝ }
-{
-    if tops[place] < score {
-        tops[place] = score;
-        table[place] = i + 1;
+        Place(fields::u16_at(w, at + 4) as usize)
     }
 }
 
@@ -63,7 +49,7 @@ fn scored_neighbors(
     while i < l.count {
         let place = place_at(w, at, right);
         let score = paths::score::score_at(w, at, side(right, place), false);
-        keep(tops, table, place, score, i);
+        paths::best::keep(tops, table, place, score, i + 1);
         at = edge::next::next_at(w, at);
         i += 1;
     }

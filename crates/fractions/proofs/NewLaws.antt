@@ -25,7 +25,7 @@ use Rattle.edge.specs.Edge.{Text, Edge, Numeric, NumericFits}
 use Rattle.edge.specs.Check.{each, soundFraction, soundNumbers, soundNumeric, sound}
 use Rattle.paths.specs.declared.Query.the-variants.{Right, Left}
 use Rattle.paths.specs.Best.{Best, asked, score, best, numbered, leftNeighbor, rightNeighbor}
-use Rattle.paths.proofs.BestLaws.{Each, Holds, best-holds, best-positive, score-asks, right-start}
+use Rattle.paths.proofs.BestLaws.{Each, OfBest, best-holds, best-positive, score-asks, right-start}
 use Rattle.lattice.specs.Lattice.{addAll, turnOff}
 use Rattle.pass_list.specs.StoredEdge.{Every, nil, cons}
 use Rattle.numbers.specs.CallEdge.{Short, CallEdge, CallEdges}
@@ -161,7 +161,7 @@ module _ {n : ℕ} (few : n ≤ 256) where
   value-small : (e : Edge) → CallEdge n e → (v : ℕ) → wholeValue e ≡ some v → v ≤ TOP
   value-small e c v p = let k = value-is e c (v, p) in let a : v ≡ k .whole = sym (ap numberOr p) ∙ k .is in let s = k .small in omega arith
 
-  otherwise-call : (percent : Bool) (p : ℕ) (b : Best) → Holds (λ x. CallEdge n (x .1) × (p ≤ x .1 .start)) b → MadeCall n (otherwise percent p b)
+  otherwise-call : (percent : Bool) (p : ℕ) (b : Best) → OfBest (λ x. CallEdge n (x .1) × (p ≤ x .1 .start)) b → MadeCall n (otherwise percent p b)
   otherwise-call percent p none h = tt
   otherwise-call percent p (some (i, r)) (c, at) =
       cond-cases (MadeCall n) (percent && isNumeric r)
@@ -191,18 +191,18 @@ module _ {n : ℕ} (few : n ≤ 256) where
     values-call (some lv) none p q = ok
     values-call (some lv) (some rv) p q = both-call lv rv (value-small l c lv p) (value-small r d rv q)
 
-  between-call : (percent : Bool) (other : Outcome) → MadeCall n other → (p k : ℕ) (b z : Best) → Holds (λ x. CallEdge n (x .1) × (x .1 .end ≡ p)) b → Holds (λ x. CallEdge n (x .1) × (p ≤ x .1 .start)) z
+  between-call : (percent : Bool) (other : Outcome) → MadeCall n other → (p k : ℕ) (b z : Best) → OfBest (λ x. CallEdge n (x .1) × (x .1 .end ≡ p)) b → OfBest (λ x. CallEdge n (x .1) × (p ≤ x .1 .start)) z
       → MadeCall n (between percent other b z)
   between-call percent other ok p k none z h g = ok
   between-call percent other ok p k (some l) none h g = ok
   between-call percent other ok p k (some (i, l)) (some (j, r)) (c, at) (d, from) = values-call percent other ok i l j r c d (omega arith) (wholeValue l) (wholeValue r) refl refl
 
 -- ---- the neighbours of a place
-hold-both : (P Q : ℕ × Edge → Type 0) (b : Best) → Holds P b → Holds Q b → Holds (λ x. P x × Q x) b
+hold-both : (P Q : ℕ × Edge → Type 0) (b : Best) → OfBest P b → OfBest Q b → OfBest (λ x. P x × Q x) b
 hold-both P Q none p q = tt
 hold-both P Q (some x) p q = (p, q)
 
-hold-more : (P Q : ℕ × Edge → Type 0) (b : Best) → ((x : ℕ × Edge) → P x → Q x) → Holds P b → Holds Q b
+hold-more : (P Q : ℕ × Edge → Type 0) (b : Best) → ((x : ℕ × Edge) → P x → Q x) → OfBest P b → OfBest Q b
 hold-more P Q none f p = tt
 hold-more P Q (some x) f p = f x p
 
@@ -216,13 +216,13 @@ unfolding asked
 left-end p a z t = eqb-true z (p .0) t
 
 module _ {n : ℕ} (es : List Edge) (c : CallEdges n es) (p : ℕ) where
-  right-holds : (q : ℕ) → p ≤ q → Holds (λ x. CallEdge n (x .1) × (p ≤ x .1 .start)) (rightNeighbor false es q)
+  right-holds : (q : ℕ) → p ≤ q → OfBest (λ x. CallEdge n (x .1) × (p ≤ x .1 .start)) (rightNeighbor false es q)
   right-holds q h =
       let place : Place = record { 0 = q } in
       hold-both (λ x. CallEdge n (x .1)) (λ x. p ≤ x .1 .start) (rightNeighbor false es q) (best-holds (λ x. CallEdge n (x .1)) false (Right place) none (numbered 0 es) (each-numbered (CallEdge n) 0 es c) tt)
       (hold-more (λ x. 0 < score false (Right place) (x .1)) (λ x. p ≤ x .1 .start) (rightNeighbor false es q) (λ x s. let e = right-start place (x .1 .start) (x .1 .end) (score-asks false (Right place) (x .1) s) in omega arith) (best-positive false (Right place) none (numbered 0 es) tt))
 
-  left-holds : Holds (λ x. CallEdge n (x .1) × (x .1 .end ≡ p)) (leftNeighbor false es p)
+  left-holds : OfBest (λ x. CallEdge n (x .1) × (x .1 .end ≡ p)) (leftNeighbor false es p)
   left-holds =
       let place : Place = record { 0 = p } in
       hold-both (λ x. CallEdge n (x .1)) (λ x. x .1 .end ≡ p) (leftNeighbor false es p) (best-holds (λ x. CallEdge n (x .1)) false (Left place) none (numbered 0 es) (each-numbered (CallEdge n) 0 es c) tt)

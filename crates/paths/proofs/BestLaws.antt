@@ -217,24 +217,24 @@ abbrev pub Each : (ℕ × Edge → Type 0) → List (ℕ × Edge) → Type 0
 Each P [] = Unit {0}
 Each P (x ∷ xs) = P x × Each P xs
 
-abbrev pub Holds : (ℕ × Edge → Type 0) → Best → Type 0
-Holds P none = Unit {0}
-Holds P (some x) = P x
+abbrev pub OfBest : (ℕ × Edge → Type 0) → Best → Type 0
+OfBest P none = Unit {0}
+OfBest P (some x) = P x
 
-pub best-holds : (P : ℕ × Edge → Type 0) (skip : Bool) (q : Query) (held : Best) (xs : List (ℕ × Edge)) → Each P xs → Holds P held → Holds P (bestFrom skip q held xs)
+pub best-holds : (P : ℕ × Edge → Type 0) (skip : Bool) (q : Query) (held : Best) (xs : List (ℕ × Edge)) → Each P xs → OfBest P held → OfBest P (bestFrom skip q held xs)
 unfolding bestFrom
 best-holds P skip q held [] e h = h
 best-holds P skip q held (x ∷ xs) e h =
     best-holds P skip q (better skip q held x) xs (e .1)
-    (cond-cases (Holds P) (ltb (scored skip q held) (score skip q (x .1))) (λ t. e .0) (λ t. h))
+    (cond-cases (OfBest P) (ltb (scored skip q held) (score skip q (x .1))) (λ t. e .0) (λ t. h))
 
 -- the best scores above 0, so it is one of those asked for
-pub best-positive : (skip : Bool) (q : Query) (held : Best) (xs : List (ℕ × Edge)) → Holds (λ x. 0 < score skip q (x .1)) held → Holds (λ x. 0 < score skip q (x .1)) (bestFrom skip q held xs)
+pub best-positive : (skip : Bool) (q : Query) (held : Best) (xs : List (ℕ × Edge)) → OfBest (λ x. 0 < score skip q (x .1)) held → OfBest (λ x. 0 < score skip q (x .1)) (bestFrom skip q held xs)
 unfolding bestFrom
 best-positive skip q held [] h = h
 best-positive skip q held (x ∷ xs) h =
     best-positive skip q (better skip q held x) xs
-    (cond-cases (Holds (λ y. 0 < score skip q (y .1))) (ltb (scored skip q held) (score skip q (x .1)))
+    (cond-cases (OfBest (λ y. 0 < score skip q (y .1))) (ltb (scored skip q held) (score skip q (x .1)))
     (λ t. omega (arith, ltb-true (scored skip q held) (score skip q (x .1)) t)) (λ t. h))
 
 pub score-asks : (skip : Bool) (q : Query) (e : Edge) → 0 < score skip q e → asked q (e .start) (e .end) ≡ true

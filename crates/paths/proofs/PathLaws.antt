@@ -13,6 +13,7 @@ use lib.Seq.{sets, sets-eq, length-sets}
 use lib.Dec.{ltb, leb}
 use borrow.Author.Tests.{lt-ltb, le-ltb, ltb-true, le-leb, lt-leb, leb-true, leb-false}
 use Rattle.text.specs.declared.Place.{Place}
+use Rattle.text.specs.declared.Offset.{Offset}
 use Rattle.text.proofs.RowLaws.{cond-cases, and-true}
 use Rattle.whole.proofs.SetsLaws.{sets-append, sets-then}
 use Rattle.fields.specs.Fields.{bytesOf}
@@ -97,6 +98,19 @@ path-short right z (suc k) p =
     (λ t. omega arith)
 
 -- ---- the steps that the tables give
+-- the path from p on, by a step over the edge from a to b, which ends at place e
+pub record Stepped (s : List ℕ) (right : ℕ → Best) (z p a b e : ℕ) : Type 0 where
+  pub path-is : path right p z ≡ (a, edgeAt s a) ∷ path right e z
+  pub next : b ≡ nextAt s a
+  pub within : b ≤ length s
+  pub rises : a ≤ b
+  pub leads-on : p < e
+
+-- the path from p on, by what `hop_from` answers there
+pub record Hopped (s : List ℕ) (right : ℕ → Best) (z p : ℕ) (hop : Hop) : Type 0 where
+  pub past : hop ≡ Pass → path right p z ≡ path right (p + 1) z
+  pub over : {a b : Offset} {e : Place} → hop ≡ Take a b e → Stepped s right z p (a .0) (b .0) (e .0)
+
 module _ (s tops ats : List ℕ) (w : Steps s tops ats) (z : ℕ) (few : z ≤ 256) where
   pub table-progress : (p : ℕ) → p < z → p < onward p (byTable s tops ats p)
   table-progress p h =
@@ -104,16 +118,8 @@ module _ (s tops ats : List ℕ) (w : Steps s tops ats) (z : ℕ) (few : z ≤ 2
       (λ t. w p (omega arith) (ltb-true 0 (getD tops p 0) t) .leads-on)
       (λ t. omega arith)
 
-  -- the path from p on, by the step from p
-  pub record Stepped (p a b e : ℕ) : Type 0 where
-    pub path-is : path (byTable s tops ats) p z ≡ (a, edgeAt s a) ∷ path (byTable s tops ats) e z
-    pub next : b ≡ nextAt s a
-    pub within : b ≤ length s
-    pub rises : a ≤ b
-    pub leads-on : p < e
-
   module _ (p : ℕ) (h : p < z) where
-    pub passes : hopOf s (byTable s tops ats p) ≡ Pass → path (byTable s tops ats) p z ≡ path (byTable s tops ats) (p + 1) z
+    passes : hopOf s (byTable s tops ats p) ≡ Pass → path (byTable s tops ats) p z ≡ path (byTable s tops ats) (p + 1) z
     unfolding hopOf
     passes e = path-pass (byTable s tops ats) z table-progress p h (is-none (byTable s tops ats p) e)
       where
@@ -121,19 +127,19 @@ module _ (s tops ats : List ℕ) (w : Steps s tops ats) (z : ℕ) (few : z ≤ 2
         is-none none e = refl
         is-none (some x) e = let q : _≡_ {A = ℕ} 0 1 = cc in absurd (omega arith)
 
-    pub takes : {a b e : ℕ} → hopOf s (byTable s tops ats p) ≡ Take a b e → Stepped p a b e
+    takes : {a b : Offset} {e : Place} → hopOf s (byTable s tops ats p) ≡ Take a b e → Stepped s (byTable s tops ats) z p (a .0) (b .0) (e .0)
     unfolding hopOf
     takes {a} {b} {e} t =
         by-test (ltb 0 (getD tops p 0)) refl t
       where
-        by-test : (u : Bool) → ltb 0 (getD tops p 0) ≡ u → hopOf s (cond u (some (getD ats p 0, edgeAt s (getD ats p 0))) none) ≡ Take a b e → Stepped p a b e
+        by-test : (u : Bool) → ltb 0 (getD tops p 0) ≡ u → hopOf s (cond u (some (getD ats p 0, edgeAt s (getD ats p 0))) none) ≡ Take a b e → Stepped s (byTable s tops ats) z p (a .0) (b .0) (e .0)
         by-test false u t = let q : _≡_ {A = ℕ} 0 1 = cc in absurd (omega arith)
         by-test true u t =
             let o = getD ats p 0 in
             let f = w p (omega arith) (ltb-true 0 (getD tops p 0) u) in
-            let x : o ≡ a = cc in
-            let y : nextAt s o ≡ b = cc in
-            let v : edgeAt s o .end ≡ e = cc in
+            let x : _≡_ {A = Offset} (record { 0 = o }) a = cc in
+            let y : _≡_ {A = Offset} (record { 0 = nextAt s o }) b = cc in
+            let v : _≡_ {A = Place} (record { 0 = edgeAt s o .end }) e = cc in
             let is : byTable s tops ats p ≡ some (o, edgeAt s o) = rw u in
             rw (← x, ← y, ← v)
             (record {
@@ -143,6 +149,10 @@ module _ (s tops ats : List ℕ) (w : Steps s tops ats) (z : ℕ) (few : z ≤ 2
               rises = omega (arith, map-within s o (nextAt s o) (omega arith));
               leads-on = f .leads-on;
             })
+
+    -- of both loops: a turn goes past a place, or over an edge
+    pub hopped : {hop : Hop} → hop ≡ hopOf s (byTable s tops ats p) → Hopped s (byTable s tops ats) z p hop
+    hopped is = record { past = λ e. passes (sym is ∙ e); over = λ t. takes (sym is ∙ t) }
 
 -- ---- a loop that sizes the path xs: n edges and len bytes are counted, the path from p on is left
 pub record Sized (s : List ℕ) (right : ℕ → Best) (xs : List (ℕ × Edge)) (room z p n len : ℕ) : Type 0 where
@@ -186,12 +196,12 @@ module _ (s : List ℕ) (right : ℕ → Best) (xs : List (ℕ × Edge)) (room z
   pub sized-pass : path right p z ≡ path right (p + 1) z → Sized s right xs room z (p + 1) n len
   sized-pass e = record { count = rw (← e) (w .count); bytes = rw (← e) (w .bytes); fits = w .fits }
 
-  module _ (a b e : ℕ) (is : path right p z ≡ (a, edgeAt s a) ∷ path right e z) (next : b ≡ nextAt s a) (within : b ≤ length s) (rises : a ≤ b) where
+  module _ {a b e : ℕ} (t : Stepped s right z p a b e) where
     left-bytes : len + ((b - a) + length (edgeParts s (path right e z))) ≡ length (pathListing s xs)
-    left-bytes = rw (← (length-parts s a b next within rises (path right e z)), ← is) (w .bytes)
+    left-bytes = rw (← (length-parts s a b (t .next) (t .within) (t .rises) (path right e z)), ← (t .path-is)) (w .bytes)
 
     left-count : n + suc (length (path right e z)) ≡ length xs
-    left-count = ap (λ (ys : List (ℕ × Edge)). n + length ys) (sym is) ∙ w .count
+    left-count = ap (λ (ys : List (ℕ × Edge)). n + length ys) (sym (t .path-is)) ∙ w .count
 
     pub sized-take : b - a ≤ room - len → Sized s right xs room z e (n + 1) (len + (b - a))
     sized-take h = record { count = omega (arith, left-count); bytes = omega (arith, left-bytes); fits = omega (arith, w .fits) }
@@ -228,24 +238,30 @@ module _ (s : List ℕ) (right : ℕ → Best) (xs : List (ℕ × Edge)) (z : �
   pub copied-pass : path right p z ≡ path right (p + 1) z → Copied s right xs z out₀ out (p + 1) at
   copied-pass e = record { done = w .done; bytes = rw (← e) (w .bytes); stored = w .stored; behind = w .behind }
 
-  module _ (a b e : ℕ) (is : path right p z ≡ (a, edgeAt s a) ∷ path right e z) (next : b ≡ nextAt s a) (within : b ≤ length s) (rises : a ≤ b) where
+  module _ {a b e : ℕ} (t : Stepped s right z p a b e) where
+    long : length (edgePart s a) ≡ b - a
+    long = length-edge s a b (t .next) (t .within) (t .rises)
+
+    cut : edgePart s a ≡ take (b - a) (drop a s)
+    cut = edge-part s a b (t .next) (t .within) (t .rises)
+
     more : (w .done ++ edgePart s a) ++ edgeParts s (path right e z) ≡ edgeParts s xs
-    more = append-assoc (w .done) (edgePart s a) (edgeParts s (path right e z)) ∙ rw (← (parts-cons s (a, edgeAt s a) (path right e z)), ← is) (w .bytes)
+    more = append-assoc (w .done) (edgePart s a) (edgeParts s (path right e z)) ∙ rw (← (parts-cons s (a, edgeAt s a) (path right e z)), ← (t .path-is)) (w .bytes)
 
     pub copied-fits : 2 + length (edgeParts s xs) ≤ length out₀ → at + (b - a) ≤ length out
     copied-fits h =
-        omega (arith, copied-length, w .behind, ap length (sym more), length-append (w .done ++ edgePart s a) (edgeParts s (path right e z)), length-append (w .done) (edgePart s a), length-edge s a b next within rises)
+        omega (arith, copied-length, w .behind, ap length (sym more), length-append (w .done ++ edgePart s a) (edgeParts s (path right e z)), length-append (w .done) (edgePart s a), long)
 
     pub copied-room : 2 + length (edgeParts s xs) ≤ length out₀ → at + length (take (b - a) (drop a s)) ≤ length out
-    copied-room h = rw (← (edge-part s a b next within rises), length-edge s a b next within rises) (copied-fits h)
+    copied-room h = rw (← cut, long) (copied-fits h)
 
     pub copied-take : {now : List ℕ} → now ≡ sets out at (take (b - a) (drop a s)) → Copied s right xs z out₀ now e (at + (b - a))
     copied-take c =
         record {
           done = w .done ++ edgePart s a;
           bytes = more;
-          stored = sets-then out₀ 2 at (w .done) (edgePart s a) (w .stored) (w .behind) (rw (edge-part s a b next within rises) c);
-          behind = rw (length-append (w .done) (edgePart s a), length-edge s a b next within rises) (omega (arith, w .behind));
+          stored = sets-then out₀ 2 at (w .done) (edgePart s a) (w .stored) (w .behind) (rw cut c);
+          behind = rw (length-append (w .done) (edgePart s a), long) (omega (arith, w .behind));
         }
 
   pub copied-ends : z ≤ p → out ≡ sets out₀ 2 (edgeParts s xs)

@@ -34,7 +34,7 @@ use Rattle.paths.specs.declared.ReadCheck.the-variants as ReadCheck
 use Rattle.paths.specs.declared.EdgeAnswer.the-variants as EdgeAnswer
 use Rattle.paths.specs.Best.{Best, best, withOffsets, Whole, found}
 use Rattle.paths.specs.Reading.{afterListing, afterLine, readCheck, Spanned, Spans, inside, answer}
-use Rattle.paths.proofs.BestLaws.{Each, Holds, best-holds}
+use Rattle.paths.proofs.BestLaws.{Each, OfBest, best-holds}
 
 -- ---- what the checks show
 first-two : (a b c d : Bool) → (((a && b) && c) && d) ≡ true → (a ≡ true) × (b ≡ true)
@@ -128,14 +128,14 @@ unfolding Spans withOffsets
 spans-each n zero s at h = tt
 spans-each n (suc k) s at h = (record { edge = refl; span = h .0 }, spans-each n k s (nextAt s at) (h .1))
 
-pub best-listed : (skip : Bool) (q : Query) (n k : ℕ) (s : List ℕ) (at : ℕ) → Spans n k s at → Holds (Listed n s) (best skip q (withOffsets k s at))
+pub best-listed : (skip : Bool) (q : Query) (n k : ℕ) (s : List ℕ) (at : ℕ) → Spans n k s at → OfBest (Listed n s) (best skip q (withOffsets k s at))
 best-listed skip q n k s at h = best-holds (Listed n s) skip q none (withOffsets k s at) (spans-each n k s at h) tt
 
 pub found-head : (skip : Bool) (q : Query) (n k : ℕ) (s : List ℕ) (at : ℕ) {o : Offset} → Spans n k s at → found (best skip q (withOffsets k s at)) ≡ At o → headEnd s (o .0) ≤ length s
 unfolding found
 found-head skip q n k s at {o} h = by-best (best skip q (withOffsets k s at)) (best-listed skip q n k s at h)
   where
-    by-best : (b : Best) → Holds (Listed n s) b → found b ≡ At o → headEnd s (o .0) ≤ length s
+    by-best : (b : Best) → OfBest (Listed n s) b → found b ≡ At o → headEnd s (o .0) ≤ length s
     by-best none l e = let z : _≡_ {A = ℕ} 0 1 = cc in absurd (omega arith)
     by-best (some x) l e = let p : record { 0 = x .0 } ≡ o = cc in rw (← p) (head-within s (x .0) (length s) (l .span .whole))
 

@@ -21,7 +21,7 @@ use Rattle.paths.specs.Best.{score, Best, best, withOffsets, kept}
 use Rattle.paths.specs.Reading.{Spanned, Spans}
 use Rattle.paths.specs.Path.{rights}
 use Rattle.paths.specs.Table.{byTable, Rights, Step, Steps, hopOf}
-use Rattle.paths.proofs.BestLaws.{Walk, walk-start, walk-better, walk-on, walk-ends, head-bytes, Holds, best-positive, score-asks, right-start, right-elsewhere}
+use Rattle.paths.proofs.BestLaws.{Walk, walk-start, walk-better, walk-on, walk-ends, head-bytes, OfBest, best-positive, score-asks, right-start, right-elsewhere}
 use Rattle.paths.proofs.ReadingLaws.{Listed, best-listed, spans-whole, spans-first, spans-next}
 
 -- ---- the walk: for each place it keeps the best of the edges seen
@@ -107,7 +107,7 @@ kept-some s top x h = rw (lt-ltb 0 top h)
 pub rights-steps : (skip : Bool) (s : List ℕ) (k : ℕ) (tops ats : List ℕ) → Spans 256 k s 2 → Rights skip s k tops ats → Steps s tops ats
 rights-steps skip s k tops ats w r p h t = step (rights skip s k p) (best-listed skip (Right (record { 0 = p })) 256 k s 2 w) (best-positive skip (Right (record { 0 = p })) none (withOffsets k s 2) tt) (sym (r p h) ∙ kept-some s (getD tops p 0) (getD ats p 0) t)
   where
-    step : (b : Best) → Holds (Listed 256 s) b → Holds (λ x. 0 < score skip (Right (record { 0 = p })) (x .1)) b → b ≡ some (getD ats p 0, edgeAt s (getD ats p 0)) → Step s p (getD ats p 0)
+    step : (b : Best) → OfBest (Listed 256 s) b → OfBest (λ x. 0 < score skip (Right (record { 0 = p })) (x .1)) b → b ≡ some (getD ats p 0, edgeAt s (getD ats p 0)) → Step s p (getD ats p 0)
     step b l f e =
         let at = getD ats p 0 in
         let l : Listed 256 s (at, edgeAt s at) = rw e at l in
@@ -121,7 +121,7 @@ module _ (s tops ats : List ℕ) (w : Steps s tops ats) (p : ℕ) (h : p < 256) 
   unfolding hopOf
   hop-pass e = rw e
 
-  pub hop-take : {b e : ℕ} → (getD tops p 0 ≡ 0 → ⊥) → b ≡ nextAt s (getD ats p 0) → e ≡ leAt s (getD ats p 0 + 4) 2 → Take (getD ats p 0) b e ≡ hopOf s (byTable s tops ats p)
+  pub hop-take : {b e : ℕ} → (getD tops p 0 ≡ 0 → ⊥) → b ≡ nextAt s (getD ats p 0) → e ≡ leAt s (getD ats p 0 + 4) 2 → Take (record { 0 = getD ats p 0 }) (record { 0 = b }) (record { 0 = e }) ≡ hopOf s (byTable s tops ats p)
   unfolding hopOf edgeAt
   hop-take n x y = rw (lt-ltb 0 (getD tops p 0) (omega arith), x, y)
 

@@ -37,7 +37,7 @@ Steps s tops ats = (p : ℕ) → p < 256 → 0 < getD tops p 0 → Step s p (get
 
 unfoldable pub hopOf : List ℕ → Best → Hop
 hopOf s none = Pass
-hopOf s (some x) = Take (x .0) (nextAt s (x .0)) (x .1 .end)
+hopOf s (some x) = Take (record { 0 = x .0 }) (record { 0 = nextAt s (x .0) }) (record { 0 = x .1 .end })
 
 unfoldable pub sizeOf : List ℕ → List (ℕ × Edge) → ℕ → Size
 sizeOf s xs room = let n = length (pathListing s xs) in cond (leb n room) (Fits (length xs) n) Over

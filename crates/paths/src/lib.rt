@@ -61,7 +61,7 @@ pub enum Shown {
 // Where the path goes on from a place: past it; or over its right neighbour, from an offset to another, to the place where it ends.
 pub enum Hop {
     Pass,
-    Take(usize, usize, usize),
+    Take(Offset, Offset, Place),
 }
 
 // How many edges a path has, and how many bytes its listing; or that it is longer than the room for it.

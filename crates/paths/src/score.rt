@@ -7,6 +7,7 @@ ghost use Rattle.edge.specs.View.{textOf};
 ghost use Rattle.paths.specs.Best.{startsWith, regularClass, class, asked, score};
 use crate::Query;
 use edge::Part;
+use text::Place;
 
 // Whether a text of s begins with a prefix.
 fn starts_with(s: &[u8], t: Part, prefix: &[u8]) -> bool
@@ -54,13 +55,13 @@ fn class_at(s: &[u8], at: usize, skip: bool) -> usize
 }
 
 // Whether an edge from start to end is one of those asked for.
-fn is_asked(q: Query, start: usize, end: usize) -> bool
-    ensures { λ r. ⌜ r ≡ asked q start end ⌝ }
+fn is_asked(q: Query, start: Place, end: Place) -> bool
+    ensures { λ r. ⌜ r ≡ asked q (start .0) (end .0) ⌝ }
 {
     match q {
-        Query::Span(a, z) => (start == a.0) & (end == z.0),
-        Query::Right(p) => start == p.0,
-        Query::Left(p) => end == p.0,
+        Query::Span(a, z) => (start.0 == a.0) & (end.0 == z.0),
+        Query::Right(p) => start.0 == p.0,
+        Query::Left(p) => end.0 == p.0,
     }
 }
 
@@ -71,7 +72,7 @@ pub fn score_at(s: &[u8], at: usize, q: Query, skip: bool) -> usize
 {
     let start = fields::u16_at(s, at + 2) as usize;
     let end = fields::u16_at(s, at + 4) as usize;
-    if !is_asked(q, start, end) {
+    if !is_asked(q, Place(start), Place(end)) {
         return 0;
     }
     let class = class_at(s, at, skip);

@@ -7,20 +7,23 @@ ghost use Rattle.paths.specs.Path.{path, edgeParts};
 ghost use Rattle.paths.specs.Table.{byTable, Steps, hopOf, sizeOf};
 use crate::Hop;
 use crate::Size;
+use text::Offset;
+use text::Place;
 
 // The step of the path from a place.
-fn hop_from(s: &[u8], tops: &[usize; 256], ats: &[usize; 256], p: usize) -> Hop
-    requires { ⌜ Steps (now s) (now tops) (now ats) × (p < 256) ⌝ }
-    ensures { λ r. ⌜ r ≡ hopOf (now (s .entry)) (byTable (now (s .entry)) (now (tops .entry)) (now (ats .entry)) p) ⌝ }
+fn hop_from(s: &[u8], tops: &[usize; 256], ats: &[usize; 256], place: Place) -> Hop
+    requires { ⌜ Steps (now s) (now tops) (now ats) × (place .0 < 256) ⌝ }
+    ensures { λ r. ⌜ r ≡ hopOf (now (s .entry)) (byTable (now (s .entry)) (now (tops .entry)) (now (ats .entry)) (place .0)) ⌝ }
 {
+    let p = place.0;
     if tops[p] == 0 {
         return Hop::Pass;
     }
     let at = ats[p];
     Hop::Take(
-        at,
-        edge::next::next_at(s, at),
-        fields::u16_at(s, at + 4) as usize,
+        Offset(at),
+        Offset(edge::next::next_at(s, at)),
+        Place(fields::u16_at(s, at + 4) as usize),
     )
 }
 
@@ -29,31 +32,33 @@ pub fn path_size(
     s: &[u8],
     tops: &[usize; 256],
     ats: &[usize; 256],
-    start: usize,
-    end: usize,
+    start: Place,
+    end: Place,
     room: usize,
 ) -> Size
-    requires { ⌜ Steps (now s) (now tops) (now ats) × (end ≤ 256) ⌝ }
-    ensures { λ r. ⌜ r ≡ sizeOf (now (s .entry)) (path (byTable (now (s .entry)) (now (tops .entry)) (now (ats .entry))) start end) room ⌝ }
+    requires { ⌜ Steps (now s) (now tops) (now ats) × (end .0 ≤ 256) ⌝ }
+    ensures { λ r. ⌜ r ≡ sizeOf (now (s .entry)) (path (byTable (now (s .entry)) (now (tops .entry)) (now (ats .entry))) (start .0) (end .0)) room ⌝ }
 {
     if room < 2 {
         return Size::Over;
     }
-    let mut p = start;
+    let last = end.0;
+    let mut p = start.0;
     let mut n = 0;
     let mut len = 2;
-    while p < end {
-        match hop_from(s, tops, ats, p) {
+    while p < last {
+        match hop_from(s, tops, ats, Place(p)) {
             Hop::Pass => {
                 p += 1;
             }
             Hop::Take(from, to, next) => {
-                if room - len < to - from {
+                let size = to.0 - from.0;
+                if room - len < size {
                     return Size::Over;
                 }
-                len += to - from;
+                len += size;
                 n += 1;
-                p = next;
+                p = next.0;
             }
         }
     }
@@ -65,24 +70,27 @@ pub fn write_path(
     s: &[u8],
     tops: &[usize; 256],
     ats: &[usize; 256],
-    start: usize,
-    end: usize,
+    start: Place,
+    end: Place,
     out: &mut [u8],
 )
-    requires { ⌜ Steps (now s) (now tops) (now ats) × (end ≤ 256) × (2 + length (edgeParts (now s) (path (byTable (now s) (now tops) (now ats)) start end)) ≤ length (now out)) ⌝ }
-    ensures { λ _. ⌜ now (out .exit) ≡ sets (now (out .entry)) 2 (edgeParts (now (s .entry)) (path (byTable (now (s .entry)) (now (tops .entry)) (now (ats .entry))) start end)) ⌝ }
+    requires { ⌜ Steps (now s) (now tops) (now ats) × (end .0 ≤ 256) × (2 + length (edgeParts (now s) (path (byTable (now s) (now tops) (now ats)) (start .0) (end .0))) ≤ length (now out)) ⌝ }
+    ensures { λ _. ⌜ now (out .exit) ≡ sets (now (out .entry)) 2 (edgeParts (now (s .entry)) (path (byTable (now (s .entry)) (now (tops .entry)) (now (ats .entry))) (start .0) (end .0))) ⌝ }
 {
-    let mut p = start;
+    let last = end.0;
+    let mut p = start.0;
     let mut at = 2;
-    while p < end {
-        match hop_from(s, tops, ats, p) {
+    while p < last {
+        match hop_from(s, tops, ats, Place(p)) {
             Hop::Pass => {
                 p += 1;
             }
             Hop::Take(from, to, next) => {
-                fields::copy::copy_in(out, at, &s[from..to]);
-                at += to - from;
-                p = next;
+                let first = from.0;
+                let behind = to.0;
+                fields::copy::copy_in(out, at, &s[first..behind]);
+                at += behind - first;
+                p = next.0;
             }
         }
     }

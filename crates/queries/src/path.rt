@@ -1,9 +1,7 @@
 // The path over a finished listing (01, "The rest of the call"), written to the output as a listing.
 ghost use mathlib.Core.Path.{_≡_};
-ghost use mathlib.Core.Bool.{cond};
-ghost use Prim.Native.Nat.{_+_, _≤_, _<_};
-ghost use lib.ListN.{length, getD, set, replicate};
-ghost use lib.Dec.{ltb};
+ghost use Prim.Native.Nat.{_≤_};
+ghost use lib.ListN.{length, replicate};
 ghost use Rattle.paths.specs.Reading.{Spans};
 ghost use Rattle.paths.specs.Path.{rights, path, pathListing, fitting, pathOut, written, after};
 ghost use Rattle.paths.specs.Table.{Rights};
@@ -12,22 +10,11 @@ use paths::Query;
 use paths::ReadCheck;
 use paths::ReadRefusal;
 use paths::Size;
+use paths::best::keep;
 use paths::check::check;
 use paths::inside::is_inside;
 use paths::score::score_at;
 use text::Place;
-
-// Keeps an edge as the right neighbour of a place, where it scores higher than the one kept there.
-fn keep(tops: &mut [usize; 256], ats: &mut [usize; 256], place: usize, score: usize, at: usize)
-    requires { ⌜ place < 256 ⌝ }
-    ensures scores { λ _. ⌜ now (tops .exit) ≡ cond (ltb (getD (now (tops .entry)) place 0) score) (set (now (tops .entry)) place score) (now (tops .entry)) ⌝ }
-    ensures offsets { λ _. ⌜ now (ats .exit) ≡ cond (ltb (getD (now (tops .entry)) place 0) score) (set (now (ats .entry)) place at) (now (ats .entry)) ⌝ }
-{
-    if tops[place] < score {
-        tops[place] = score;
-        ats[place] = at;
-    }
-}
 
 // The right neighbours of all places. One walk over the listing.
 fn right_neighbors(
@@ -43,8 +30,8 @@ fn right_neighbors(
     let mut at = 2;
     let mut left = count;
     while 0 < left {
-        let start = fields::u16_at(s, at + 2) as usize;
-        let score = score_at(s, at, Query::Right(Place(start)), skip);
+        let start = Place(fields::u16_at(s, at + 2) as usize);
+        let score = score_at(s, at, Query::Right(start), skip);
         keep(tops, ats, start, score, at);
         at = edge::next::next_at(s, at);
         left -= 1;
@@ -55,14 +42,14 @@ fn right_neighbors(
 fn path_in(
     listing: &[u8],
     count: usize,
-    start: usize,
-    end: usize,
+    start: Place,
+    end: Place,
     skip: bool,
     out: &mut [u8],
 ) -> PathAnswer
-    requires { ⌜ Spans 256 count (now listing) 2 × (end ≤ 256) ⌝ }
-    ensures answer { λ r. ⌜ r ≡ written (fitting (length (now (out .entry))) (pathListing (now (listing .entry)) (path (rights skip (now (listing .entry)) count) start end))) ⌝ }
-    ensures output { λ _. ⌜ now (out .exit) ≡ after (now (out .entry)) (fitting (length (now (out .entry))) (pathListing (now (listing .entry)) (path (rights skip (now (listing .entry)) count) start end))) ⌝ }
+    requires { ⌜ Spans 256 count (now listing) 2 × (end .0 ≤ 256) ⌝ }
+    ensures answer { λ r. ⌜ r ≡ written (fitting (length (now (out .entry))) (pathListing (now (listing .entry)) (path (rights skip (now (listing .entry)) count) (start .0) (end .0)))) ⌝ }
+    ensures output { λ _. ⌜ now (out .exit) ≡ after (now (out .entry)) (fitting (length (now (out .entry))) (pathListing (now (listing .entry)) (path (rights skip (now (listing .entry)) count) (start .0) (end .0)))) ⌝ }
 {
     let mut tops = [0usize; 256];
     let mut ats = [0usize; 256];
@@ -95,7 +82,7 @@ pub fn path(
             if !is_inside(chars, Query::Span(start, end)) {
                 return PathAnswer::Refused(ReadRefusal::BadPlace);
             }
-            path_in(listing, count, start.0, end.0, skip, out)
+            path_in(listing, count, start, end, skip, out)
         }
     }
 }

@@ -18,7 +18,7 @@ use Rattle.edge.specs.Edge.{Edge}
 use Rattle.lattice.specs.Kept.{noEdge}
 use Rattle.paths.specs.declared.Query.{Query}
 use Rattle.paths.specs.Best.{Best, best, numbered, leftNeighbor, rightNeighbor}
-use Rattle.paths.proofs.BestLaws.{Each, Holds, best-holds}
+use Rattle.paths.proofs.BestLaws.{Each, OfBest, best-holds}
 use Rattle.numbers.specs.Listed.{wholeValue}
 use Rattle.numbers.specs.Fractions.{standsAt, larger, longest, Outcome, made, nothing, isNumeric, percentEdge, fractionEdge, otherwise, both, withValues, between, marked}
 use Rattle.fraction_choices.specs.declared.decision.Choice.{Choice}
@@ -40,7 +40,7 @@ unfolding Below
 kept-below right es table t p h =
     by-number (getD table p 0) (rw (t .at p h) (best-holds (Below (length es)) false (sideOf right p) none (numbered 0 es) (numbered-below (length es) 0 es (omega arith)) tt))
   where
-    by-number : (x : ℕ) → Holds (Below (length es)) (keptOf es x) → x ≤ length es
+    by-number : (x : ℕ) → OfBest (Below (length es)) (keptOf es x) → x ≤ length es
     by-number zero b = omega arith
     by-number (suc i) b = omega arith
 

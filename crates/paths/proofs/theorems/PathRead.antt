@@ -26,7 +26,7 @@ use Rattle.edge.proofs.theorems.Theorems.{listing-read-back, listing-accepted}
 use Rattle.paths.specs.Best.{Best, best, withOffsets}
 use Rattle.paths.specs.Path.{passed, onward, pathFrom, path, edgePart, edgeParts, pathListing, rights}
 use Rattle.paths.specs.declared.Query.the-variants as Query
-use Rattle.paths.proofs.BestLaws.{Each, Holds, best-holds}
+use Rattle.paths.proofs.BestLaws.{Each, OfBest, best-holds}
 use Rattle.paths.proofs.PathLaws.{path-short}
 
 -- ---- what is read of bytes fits
@@ -140,11 +140,11 @@ module _ (s : List ℕ) (small : (i : ℕ) → getD s i 0 < 256) where
     each-append [] ys g h = h
     each-append (x ∷ xs) ys g h = (g .0, each-append xs ys (g .1) h)
 
-    passed-good : (b : Best) → Holds Good b → Each Good (passed b)
+    passed-good : (b : Best) → OfBest Good b → Each Good (passed b)
     passed-good none h = tt
     passed-good (some x) h = (h, tt)
 
-    path-good : (right : ℕ → Best) → ((p : ℕ) → Holds Good (right p)) → (z k p : ℕ) → Each Good (pathFrom right k p z)
+    path-good : (right : ℕ → Best) → ((p : ℕ) → OfBest Good (right p)) → (z k p : ℕ) → Each Good (pathFrom right k p z)
     unfolding pathFrom
     path-good right h z zero p = tt
     path-good right h z (suc k) p =

@@ -31,7 +31,7 @@ use Rattle.paths.specs.declared.ReadCheck.the-variants as ReadCheck
 use Rattle.paths.specs.Best.{class, asked, rank, score, Best, scored, better, bestFrom, best, withOffsets, found}
 use Rattle.paths.specs.Reading.{readCheck}
 use Rattle.paths.specs.Shown.{shownBy, shown, shownPart}
-use Rattle.paths.proofs.BestLaws.{Each, Holds, class-le, score-asks, score-never, score-asked}
+use Rattle.paths.proofs.BestLaws.{Each, OfBest, class-le, score-asks, score-never, score-asked}
 use Rattle.paths.proofs.ReadingLaws.{Reads, reads, Listed, best-listed}
 use Rattle.paths.proofs.ShownLaws.{shown-inside}
 
@@ -198,6 +198,6 @@ shown-is line s p {n} {k} e h =
     let r = reads line s n k e in
     ap (shownPart line s) (sym (shown-inside line s p e h refl)) ∙ by-best (r .well-formed) (best false (Right p) (withOffsets k s 2)) (best-listed false (Right p) n k s 2 (r .spans))
   where
-    by-best : wellFormed line ≡ true → (b : Best) → Holds (Listed n s) b → shownPart line s (shownBy line s (p .0) (found b)) ≡ textShown line (p .0) b
+    by-best : wellFormed line ≡ true → (b : Best) → OfBest (Listed n s) b → shownPart line s (shownBy line s (p .0) (found b)) ≡ textShown line (p .0) b
     by-best w none l = character line (p .0) w
     by-best w (some x) l = sym (ap (λ (d : Edge). d .txt) (l .edge))

@@ -38,7 +38,7 @@ between-requires c κs =
     let n = keeps-count (a .keeps) in
     let z = s .pre .1 in
     let h = kept-below true _ _ (a .right) _ z in
-    let k = kept-below false _ _ (a .left) (s .args .p) (omega arith) in
+    let k = kept-below false _ _ (a .left) (s .args .place .0) (omega arith) in
     ((_, a .keeps), omega arith, omega arith)
 
 returns : tie.Need-returns
@@ -47,8 +47,8 @@ returns c = λ es a.
     let s = o .before .before .before .before in
     let other = o .otherwise .ensures es (a .keeps) in
     let r = c .between .ensures es (a .keeps) in (
-      marked-made (s .args .percent) es _ _ (s .args .p) (s .args .n) (s .pre .1) (a .left) (a .right) refl refl other r,
-      marked-valid (s .args .percent) es _ _ (s .args .p) (s .args .n) (s .pre .1) (a .left) (a .right) refl refl other r,
+      marked-made (s .args .percent) es _ _ (s .args .place .0) (s .args .n) (s .pre .1) (a .left) (a .right) refl refl other r,
+      marked-valid (s .args .percent) es _ _ (s .args .place .0) (s .args .n) (s .pre .1) (a .left) (a .right) refl refl other r,
     )
 
 pub marked-spec : {M : Type 1} → statement M

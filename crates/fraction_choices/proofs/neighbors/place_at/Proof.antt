@@ -10,8 +10,8 @@ add-u16-at c = search needs
 u16-at-requires : tie.Need-u16-at-requires
 u16-at-requires c κs = search needs
 
-cast-result : tie.Need-cast-result
-cast-result c = search needs
+cast-t8 : tie.Need-cast-t8
+cast-t8 c = search needs
 
 add-u16-at-2 : tie.Need-add-u16-at-2
 add-u16-at-2 c = search needs
@@ -19,8 +19,8 @@ add-u16-at-2 c = search needs
 u16-at-requires-2 : tie.Need-u16-at-requires-2
 u16-at-requires-2 c κs = search needs
 
-cast-result-2 : tie.Need-cast-result-2
-cast-result-2 c = search needs
+cast-t11 : tie.Need-cast-t11
+cast-t11 c = search needs
 
 returns : tie.Need-returns
 unfolding edgeAt
@@ -36,9 +36,9 @@ place-at-spec =
     (tie.spec
     add-u16-at
     u16-at-requires
-    cast-result
+    cast-t8
     add-u16-at-2
     u16-at-requires-2
-    cast-result-2
+    cast-t11
     returns
     returns-2)

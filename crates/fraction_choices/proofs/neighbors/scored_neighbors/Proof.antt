@@ -35,15 +35,16 @@ side-requires c κs = search needs
 score-at-requires : tie.Need-score-at-requires Inv-loop μ-loop
 score-at-requires c κs = let t = c .before .before in keeps-head (t .before .before .before .before .pre .0 .1) (t .if1 .taken) (so-far t .stands)
 
+add-keep : tie.Need-add-keep Inv-loop μ-loop
+add-keep c = let t = c .before .before .before .before .before in let m = t .if1 .taken in let f = keeps-few (t .before .before .before .before .pre .0 .1) in omega arith
+
 keep-requires : tie.Need-keep-requires Inv-loop μ-loop
 keep-requires c κs =
     let p = c .before .before .before .before in
     let t = p .before in
     let k = t .before .before .before .before .pre .0 .1 in
     let a = keeps-place k (t .if1 .taken) (so-far t .stands) (t .before .before .before .before .args .right) (p .place-at .ensures) in
-    let m = t .if1 .taken in
-    let f = keeps-few k in
-    (omega arith, omega arith)
+    (omega (arith, so-far t .scores), omega (arith, so-far t .indices))
 
 next-at-requires : tie.Need-next-at-requires Inv-loop μ-loop
 next-at-requires c κs =
@@ -84,6 +85,7 @@ scored-neighbors-spec =
     place-at-requires
     side-requires
     score-at-requires
+    add-keep
     keep-requires
     next-at-requires
     add-i

@@ -16,15 +16,15 @@ enum-known-q-3 c = search needs
 
 returns : tie.Need-returns
 unfolding asked
-returns c = rw (c .before .before .before .q .given .1)
+returns c = rw (c .before .before .before .before .before .q .given .1)
 
 returns-2 : tie.Need-returns-2
 unfolding asked
-returns-2 c = rw (c .before .before .q2 .given .1)
+returns-2 c = rw (c .before .before .before .q2 .given .1)
 
 returns-3 : tie.Need-returns-3
 unfolding asked
-returns-3 c = rw (c .before .before .q3 .given .1)
+returns-3 c = rw (c .before .before .before .q3 .given .1)
 
 pub is-asked-spec : {M : Type 1} → statement M
 is-asked-spec =

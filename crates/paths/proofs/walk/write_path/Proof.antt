@@ -1,37 +1,26 @@
 -- `paths::walk::write_path` meets its contract. The loop's invariant: what is stored and the path that is left are the whole path (`Copied`). The measure is
 -- the places up to the end. Assumes nothing.
-use mathlib.Core.Path.{_≡_, sym, _∙_}
-use Prim.Native.Nat.{_+_, _-_}
+use Prim.Native.Nat.{_-_}
 use native.Mathlib.Omega.{arith}
 use borrow.Author.Needs.{needs}
 use Rattle.paths.specs.Path.{path}
 use Rattle.paths.specs.Table.{byTable}
-use Rattle.paths.proofs.PathLaws.{Stepped, passes, takes, Copied, copied-start, copied-length, copied-pass, copied-fits, copied-room, copied-take, copied-ends}
+use Rattle.paths.proofs.PathLaws.{Hopped, hopped, Copied, copied-start, copied-length, copied-pass, copied-fits, copied-room, copied-take, copied-ends}
 use Rattle.paths.proofs.walk.write_path.Statement.{statement}
 use Rattle.paths.proofs.walk.write_path.Tie as tie
 
 abbrev Inv-loop : tie.InvT-loop
-Inv-loop s tops ats start end out₀ p₀ at₀ out p at = Copied s (byTable s tops ats) (path (byTable s tops ats) start end) end out₀ out p at
+Inv-loop s tops ats out₀ last p₀ at₀ out p at = Copied s (byTable s tops ats) (path (byTable s tops ats) p₀ last) last out₀ out p at
 
 abbrev μ-loop : tie.MeasureT-loop
-μ-loop s tops ats start end out₀ p₀ at₀ out p at = end - p
+μ-loop s tops ats out₀ last p₀ at₀ out p at = last - p
 
--- the step from the place, by what `hop_from` answers
-past : (c : tie.After-enum-told Inv-loop μ-loop) → let i = c .before .before .before in let a = i .before .before .before .before .args in let right = byTable (a .s .now) (a .tops .now) (a .ats .now) in
-    path right (i .before .loop .p) (a .end) ≡ path right (i .before .loop .p + 1) (a .end)
-past c =
-    let i = c .before .before .before in
+-- what the step from the place says of the path
+step : (c : tie.After-hop-from Inv-loop μ-loop) → let i = c .before in let a = i .before .before .before .before .args in Hopped (a .s .now) (byTable (a .s .now) (a .tops .now) (a .ats .now)) (a .end .0) (i .before .loop .p) (c .hop-from .result)
+step c =
+    let i = c .before in
     let a = i .before .before .before .before in
-    passes (a .args .s .now) (a .args .tops .now) (a .args .ats .now) (a .pre .0) (a .args .end) (a .pre .1) (i .before .loop .p) (i .loop-test .taken)
-    (sym (c .before .before .hop-from .ensures) ∙ c .enum-told .given .1)
-
-over : (c : tie.After-known-told Inv-loop μ-loop) → let i = c .before .before .before .before in let a = i .before .before .before .before in let g = c .before .from .given .0 in
-    Stepped (a .args .s .now) (a .args .tops .now) (a .args .ats .now) (a .pre .0) (a .args .end) (a .pre .1) (i .before .loop .p) (g .0) (g .1 .0) (g .1 .1 .0)
-over c =
-    let i = c .before .before .before .before in
-    let a = i .before .before .before .before in
-    takes (a .args .s .now) (a .args .tops .now) (a .args .ats .now) (a .pre .0) (a .args .end) (a .pre .1) (i .before .loop .p) (i .loop-test .taken)
-    (sym (c .before .before .before .hop-from .ensures) ∙ c .before .from .given .1)
+    hopped (a .args .s .now) (a .args .tops .now) (a .args .ats .now) (a .pre .0) (a .args .end .0) (a .pre .1) (i .before .loop .p) (i .loop-test .taken) (c .hop-from .ensures)
 
 loop-holds : tie.Need-loop-holds Inv-loop μ-loop
 loop-holds c = copied-start _ _ _ _ _
@@ -49,34 +38,46 @@ loop-less : tie.Need-loop-less Inv-loop μ-loop
 loop-less c = omega arith
 
 loop-again : tie.Need-loop-again Inv-loop μ-loop
-loop-again c = copied-pass _ _ _ _ _ _ _ _ (c .before .before .before .before .loop .inv) (past c)
+loop-again c = let h = c .before .before in copied-pass _ _ _ _ _ _ _ _ (h .before .before .loop .inv) (step h .past (c .enum-told .given .1))
 
 enum-known-from : tie.Need-enum-known-from Inv-loop μ-loop
 enum-known-from c = search needs
 
+abbrev hop : tie.After-known-told Inv-loop μ-loop → tie.After-hop-from Inv-loop μ-loop
+hop k = k .before .before .before
+
 sub-copy-in : tie.Need-sub-copy-in Inv-loop μ-loop
-sub-copy-in c = over (c .before) .rises
+sub-copy-in c = let k = c .before in step (hop k) .over (k .before .from .given .1) .rises
 
 part-copy-in-start : tie.Need-part-copy-in-start Inv-loop μ-loop
-part-copy-in-start c = over (c .before) .rises
+part-copy-in-start c = let k = c .before in step (hop k) .over (k .before .from .given .1) .rises
 
 part-copy-in-end : tie.Need-part-copy-in-end Inv-loop μ-loop
-part-copy-in-end c = over (c .before) .within
+part-copy-in-end c = let k = c .before in step (hop k) .over (k .before .from .given .1) .within
 
 copy-in-requires : tie.Need-copy-in-requires Inv-loop μ-loop
-copy-in-requires c κs = let k = c .before .before in let t = over k in let l = k .before .before .before .before .before in copied-room _ _ _ _ _ _ _ _ (l .loop .inv) _ _ _ (t .path-is) (t .next) (t .within) (t .rises) (l .before .before .before .pre .2)
+copy-in-requires c κs =
+    let k = c .before .before in
+    let l = hop k .before .before in
+    copied-room _ _ _ _ _ _ _ _ (l .loop .inv) (step (hop k) .over (k .before .from .given .1)) (l .before .before .before .pre .2)
 
 sub-at : tie.Need-sub-at Inv-loop μ-loop
-sub-at c = over (c .before .before .before .before .before) .rises
+sub-at c = let k = c .before .before .before .before .before in step (hop k) .over (k .before .from .given .1) .rises
 
 add-at : tie.Need-add-at Inv-loop μ-loop
-add-at c = let k = c .before .before .before .before .before in let t = over k in let l = k .before .before .before .before .before in omega (arith, copied-fits _ _ _ _ _ _ _ _ (l .loop .inv) _ _ _ (t .path-is) (t .next) (t .within) (t .rises) (l .before .before .before .pre .2), copied-length _ _ _ _ _ _ _ _ (l .loop .inv), l .before .before .before .good .1 .1 .1 .1 .1 .0 .0)
+add-at c =
+    let k = c .before .before .before .before .before in
+    let l = hop k .before .before in
+    let s = l .before .before .before in
+    omega (arith, copied-fits _ _ _ _ _ _ _ _ (l .loop .inv) (step (hop k) .over (k .before .from .given .1)) (s .pre .2), copied-length _ _ _ _ _ _ _ _ (l .loop .inv), s .good .1 .1 .1 .1 .1 .0 .0)
 
 loop-less-2 : tie.Need-loop-less-2 Inv-loop μ-loop
-loop-less-2 c = omega (arith, over (c .before .before .before .before .before) .leads-on)
+loop-less-2 c = let k = c .before .before .before .before .before in omega (arith, step (hop k) .over (k .before .from .given .1) .leads-on, hop k .before .loop-test .taken)
 
 loop-again-2 : tie.Need-loop-again-2 Inv-loop μ-loop
-loop-again-2 c = let k = c .before .before .before .before .before in let t = over k in let l = k .before .before .before .before .before in copied-take _ _ _ _ _ _ _ _ (l .loop .inv) _ _ _ (t .path-is) (t .next) (t .within) (t .rises) (c .before .before .copy-in .ensures)
+loop-again-2 c =
+    let k = c .before .before .before .before .before in
+    copied-take _ _ _ _ _ _ _ _ (hop k .before .before .loop .inv) (step (hop k) .over (k .before .from .given .1)) (c .before .before .copy-in .ensures)
 
 same-length : tie.Need-same-length Inv-loop μ-loop
 same-length c = copied-length _ _ _ _ _ _ _ _ (c .before .loop .inv)

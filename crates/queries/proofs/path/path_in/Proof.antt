@@ -22,7 +22,7 @@ ats-of n = n .right-neighbors .last .1 .1 .1 .1 .0
 
 -- the path fits
 is-sized : (k : tie.After-n) → let n = k .before .before .before .before .before in let a = n .before .before .before .before .before in
-    sizeOf (a .args .listing .now) (path (byTable (a .args .listing .now) (tops-of n) (ats-of n)) (a .args .start) (a .args .end)) (length (a .args .out .now)) ≡ Fits (k .n .given .0 .0) (k .n .given .0 .1 .0)
+    sizeOf (a .args .listing .now) (path (byTable (a .args .listing .now) (tops-of n) (ats-of n)) (a .args .start .0) (a .args .end .0)) (length (a .args .out .now)) ≡ Fits (k .n .given .0 .0) (k .n .given .0 .1 .0)
 is-sized k = sym (k .before .before .path-size .ensures) ∙ k .n .given .1
 
 right-neighbors-requires : tie.Need-right-neighbors-requires
@@ -38,22 +38,22 @@ enum-known-n : tie.Need-enum-known-n
 enum-known-n c = search needs
 
 cast-put-u16 : tie.Need-cast-put-u16
-cast-put-u16 c = let k = c .before .before in let n = k .before .before .before .before .before in let a = n .before .before .before .before .before in omega (arith, fits-count (a .args .skip) (a .args .listing .now) (a .args .count) (tops-of n) (ats-of n) (n .right-neighbors .ensures) (a .args .start) (a .args .end) (a .pre .1) (a .args .out .now) (is-sized k))
+cast-put-u16 c = let k = c .before .before in let n = k .before .before .before .before .before in let a = n .before .before .before .before .before in omega (arith, fits-count (a .args .skip) (a .args .listing .now) (a .args .count) (tops-of n) (ats-of n) (n .right-neighbors .ensures) (a .args .start .0) (a .args .end .0) (a .pre .1) (a .args .out .now) (is-sized k))
 
 put-u16-requires : tie.Need-put-u16-requires
-put-u16-requires c κs = let k = c .before .before in let n = k .before .before .before .before .before in let a = n .before .before .before .before .before in omega (arith, fits-head (a .args .skip) (a .args .listing .now) (a .args .count) (tops-of n) (ats-of n) (n .right-neighbors .ensures) (a .args .start) (a .args .end) (a .pre .1) (a .args .out .now) (is-sized k))
+put-u16-requires c κs = let k = c .before .before in let n = k .before .before .before .before .before in let a = n .before .before .before .before .before in omega (arith, fits-head (a .args .skip) (a .args .listing .now) (a .args .count) (tops-of n) (ats-of n) (n .right-neighbors .ensures) (a .args .start .0) (a .args .end .0) (a .pre .1) (a .args .out .now) (is-sized k))
 
 write-path-requires : tie.Need-write-path-requires
-write-path-requires c κs = let u = c .before .before .before .before .before in let k = u .before .before .before in let n = k .before .before .before .before .before in let a = n .before .before .before .before .before in (rights-steps (a .args .skip) (a .args .listing .now) (a .args .count) (tops-of n) (ats-of n) (a .pre .0) (n .right-neighbors .ensures), a .pre .1, fits-edges (a .args .skip) (a .args .listing .now) (a .args .count) (tops-of n) (ats-of n) (n .right-neighbors .ensures) (a .args .start) (a .args .end) (a .pre .1) (a .args .out .now) (is-sized k) (u .put-u16 .ensures))
+write-path-requires c κs = let u = c .before .before .before .before .before in let k = u .before .before .before in let n = k .before .before .before .before .before in let a = n .before .before .before .before .before in (rights-steps (a .args .skip) (a .args .listing .now) (a .args .count) (tops-of n) (ats-of n) (a .pre .0) (n .right-neighbors .ensures), a .pre .1, fits-edges (a .args .skip) (a .args .listing .now) (a .args .count) (tops-of n) (ats-of n) (n .right-neighbors .ensures) (a .args .start .0) (a .args .end .0) (a .pre .1) (a .args .out .now) (is-sized k) (u .put-u16 .ensures))
 
 returns : tie.Need-returns
-returns c = let q = c .before .before in let n = q .before .before .before in let a = n .before .before .before .before .before in path-over (a .args .skip) (a .args .listing .now) (a .args .count) (tops-of n) (ats-of n) (n .right-neighbors .ensures) (a .args .start) (a .args .end) (a .pre .1) (a .args .out .now) (sym (q .path-size .ensures) ∙ c .enum-told .given .1)
+returns c = let q = c .before .before in let n = q .before .before .before in let a = n .before .before .before .before .before in path-over (a .args .skip) (a .args .listing .now) (a .args .count) (tops-of n) (ats-of n) (n .right-neighbors .ensures) (a .args .start .0) (a .args .end .0) (a .pre .1) (a .args .out .now) (sym (q .path-size .ensures) ∙ c .enum-told .given .1)
 
 same-length : tie.Need-same-length
 same-length c = search needs
 
 returns-2 : tie.Need-returns-2
-returns-2 c = let w = c .before .before in let u = w .before .before .before .before .before .before in let k = u .before .before .before in let n = k .before .before .before .before .before in let a = n .before .before .before .before .before in path-written (a .args .skip) (a .args .listing .now) (a .args .count) (tops-of n) (ats-of n) (n .right-neighbors .ensures) (a .args .start) (a .args .end) (a .pre .1) (a .args .out .now) (is-sized k) (u .put-u16 .ensures) (w .write-path .ensures)
+returns-2 c = let w = c .before .before in let u = w .before .before .before .before .before .before in let k = u .before .before .before in let n = k .before .before .before .before .before in let a = n .before .before .before .before .before in path-written (a .args .skip) (a .args .listing .now) (a .args .count) (tops-of n) (ats-of n) (n .right-neighbors .ensures) (a .args .start .0) (a .args .end .0) (a .pre .1) (a .args .out .now) (is-sized k) (u .put-u16 .ensures) (w .write-path .ensures)
 
 pub path-in-spec : {M : Type 1} → statement M
 path-in-spec =

@@ -22,14 +22,18 @@ add-u16-at c = omega (arith, table-head _ _ _ _ _ _ _ (c .before .loop .inv) (c 
 u16-at-requires : tie.Need-u16-at-requires Inv-loop μ-loop
 u16-at-requires c κs = omega (arith, table-head _ _ _ _ _ _ _ (c .before .loop .inv) (c .loop-test .taken))
 
-cast-start : tie.Need-cast-start Inv-loop μ-loop
-cast-start c = search needs
+cast-t13 : tie.Need-cast-t13 Inv-loop μ-loop
+cast-t13 c = search needs
 
 score-at-requires : tie.Need-score-at-requires Inv-loop μ-loop
 score-at-requires c κs = let i = c .before in head-within _ _ _ (table-first _ _ _ _ _ _ _ (i .before .loop .inv) (i .loop-test .taken) .whole)
 
 keep-requires : tie.Need-keep-requires Inv-loop μ-loop
-keep-requires c κs = let u = c .before .before .before in table-place _ _ _ _ _ _ _ (u .before .before .loop .inv) (u .before .loop-test .taken) (u .u16-at .ensures)
+keep-requires c κs =
+    let u = c .before .before .before in
+    let w = u .before .before .loop .inv in
+    let p = table-place _ _ _ _ _ _ _ w (u .before .loop-test .taken) (u .u16-at .ensures) in
+    (omega (arith, w .scores), omega (arith, w .offsets))
 
 next-at-requires : tie.Need-next-at-requires Inv-loop μ-loop
 next-at-requires c κs = let i = c .before .before .before .before .before in omega (arith, table-head _ _ _ _ _ _ _ (i .before .loop .inv) (i .loop-test .taken))
@@ -56,7 +60,7 @@ right-neighbors-spec =
     loop-holds
     add-u16-at
     u16-at-requires
-    cast-start
+    cast-t13
     score-at-requires
     keep-requires
     next-at-requires
