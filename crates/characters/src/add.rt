@@ -42,6 +42,6 @@ pub fn add_char(
         let rom = pass_edge::rom_at(table, at);
         return pass_edge::listed::add_texts(w, l, line, offs, table, x, f, ty, rom);
     }
-    let own = pass_edge::line_part(line, offs, x.start.0, x.end.0);
+    let own = pass_edge::line_part(line, offs, x.start, x.end);
     pass_edge::listed::add_texts(w, l, line, offs, table, x, f, ty, own)
 }

@@ -33,9 +33,9 @@ fn is_cjk(table: &[u8], p: Part) -> bool
     text::same_bytes(&table[at..end], b"CJK")
 }
 
-fn char_num(table: &[u8], p: NumProp, record_at: usize, place: usize, c: u32) -> PassData
-    requires { ⌜ Inside (now table) p × Small (charStored (now table) p «record_at» place c) ⌝ }
-    ensures { λ r. ⌜ r ≡ numData (charStored (now (table .entry)) p «record_at» place c) ⌝ }
+fn char_num(table: &[u8], p: NumProp, record_at: Offset, place: Place, c: u32) -> PassData
+    requires { ⌜ Inside (now table) p × Small (charStored (now table) p («record_at» .0) (place .0) c) ⌝ }
+    ensures { λ r. ⌜ r ≡ numData (charStored (now (table .entry)) p («record_at» .0) (place .0) c) ⌝ }
 {
     let n = p.numbers;
     let num_type = p.num_type;
@@ -63,15 +63,15 @@ fn char_num(table: &[u8], p: NumProp, record_at: usize, place: usize, c: u32) ->
 }
 
 // The edge of the code point c at a place of the line; its record p stands at record_at in the table.
-pub fn char_edge(table: &[u8], p: NumProp, record_at: usize, place: usize, c: u32) -> PassEdge
-    requires { ⌜ Inside (now table) p × Small (charStored (now table) p «record_at» place c) × (place + 1 < 65536) ⌝ }
-    ensures { λ r. ⌜ EdgeIs r (charStored (now (table .entry)) p «record_at» place c) ⌝ }
+pub fn char_edge(table: &[u8], p: NumProp, record_at: Offset, place: Place, c: u32) -> PassEdge
+    requires { ⌜ Inside (now table) p × Small (charStored (now table) p («record_at» .0) (place .0) c) × (place .0 + 1 < 65536) ⌝ }
+    ensures { λ r. ⌜ EdgeIs r (charStored (now (table .entry)) p («record_at» .0) (place .0) c) ⌝ }
 {
     PassEdge {
-        start: Place(place),
-        end: Place(place + 1),
+        start: place,
+        end: Place(place.0 + 1),
         kind: 0,
-        record_at: Offset(record_at),
+        record_at: record_at,
         num: char_num(table, p, record_at, place, c),
     }
 }

@@ -29,6 +29,7 @@ use table::index::find_char;
 use table::layout::NumProp;
 use table::shape::Shape;
 use text::Offset;
+use text::Place;
 
 // The lattice, and how many stored edges the pass list has.
 pub struct CharsAnswer {
@@ -45,12 +46,12 @@ fn put_and_add(
     offs: &[usize; 257],
     table: &[u8],
     p: NumProp,
-    record_at: usize,
-    place: usize,
+    record_at: Offset,
+    place: Place,
     c: u32,
 ) -> Lattice
-    requires { ⌜ Room (now w) l (now line) (now offs) × (n < 256) × (place < 256) × Inside (now table) p × Grounded (chars (now line)) (now table) (charStored (now table) p «record_at» place c) ⌝ }
-    ensures { λ r. ⌜ (behind (now (w .exit)) (n + 1) ≡ behind (now (w .entry)) n ++ (charStored (now (table .entry)) p «record_at» place c ∷ [])) × ((es : List Edge) → Holds (now (w .entry)) l es → Holds (now (w .exit)) r (add es (listedEdge (edgeOf (chars (now (line .entry))) (now (table .entry)) (charStored (now (table .entry)) p «record_at» place c))))) ⌝ }
+    requires { ⌜ Room (now w) l (now line) (now offs) × (n < 256) × (place .0 < 256) × Inside (now table) p × Grounded (chars (now line)) (now table) (charStored (now table) p («record_at» .0) (place .0) c) ⌝ }
+    ensures { λ r. ⌜ (behind (now (w .exit)) (n + 1) ≡ behind (now (w .entry)) n ++ (charStored (now (table .entry)) p («record_at» .0) (place .0) c ∷ [])) × ((es : List Edge) → Holds (now (w .entry)) l es → Holds (now (w .exit)) r (add es (listedEdge (edgeOf (chars (now (line .entry))) (now (table .entry)) (charStored (now (table .entry)) p («record_at» .0) (place .0) c))))) ⌝ }
 {
     let e = char_edge(table, p, record_at, place, c);
     write_edge(w, 39424 + n * 56, e);
@@ -67,17 +68,17 @@ fn add_char(
     all: RecordRun,
     index: &[u32; 256],
     entries: usize,
-    place: usize,
+    place: Place,
     c: u32,
 ) -> CharsAnswer
-    requires { ⌜ Room (now w) (done .lattice) (now line) (now offs) × Records (now table) all × Indexed (now table) (recordsIn (now table) all) (now index) (all .left) entries × (done .count ≤ place) × (place < length (chars (now line))) × (getD (chars (now line)) place 0 ≡ c) ⌝ }
-    ensures { λ r. ⌜ ((s : List ℕ) (l : Lattice) → Adding (now (line .entry)) (now (table .entry)) (recordsIn (now (table .entry)) all) place s l (now (w .entry)) done → Adding (now (line .entry)) (now (table .entry)) (recordsIn (now (table .entry)) all) (place + 1) s l (now (w .exit)) r) ⌝ }
+    requires { ⌜ Room (now w) (done .lattice) (now line) (now offs) × Records (now table) all × Indexed (now table) (recordsIn (now table) all) (now index) (all .left) entries × (done .count ≤ place .0) × (place .0 < length (chars (now line))) × (getD (chars (now line)) (place .0) 0 ≡ c) ⌝ }
+    ensures { λ r. ⌜ ((s : List ℕ) (l : Lattice) → Adding (now (line .entry)) (now (table .entry)) (recordsIn (now (table .entry)) all) (place .0) s l (now (w .entry)) done → Adding (now (line .entry)) (now (table .entry)) (recordsIn (now (table .entry)) all) (place .0 + 1) s l (now (w .exit)) r) ⌝ }
 {
     let l = done.lattice;
     let n = done.count;
     match find_char(table, all, index, entries, c) {
         CharRecord::At(p, at) => CharsAnswer {
-            lattice: put_and_add(w, l, n, line, offs, table, p, at, place, c),
+            lattice: put_and_add(w, l, n, line, offs, table, p, Offset(at), place, c),
             count: n + 1,
         },
         CharRecord::Nothing => done,
@@ -115,7 +116,7 @@ fn add_chars(
             all,
             index,
             entries,
-            place,
+            Place(place),
             c.code,
         );
         place += 1;

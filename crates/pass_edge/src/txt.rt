@@ -8,6 +8,7 @@ ghost use Rattle.numbers.specs.Ready.{Offsets};
 ghost use Rattle.pass_edge.specs.Grounded.{LegalAt, StoredIs};
 ghost use Rattle.pass_edge.specs.Texts.{charTxt, Front};
 use pass_list::record::PassEdge;
+use text::Place;
 
 // The txt of a character whose record was checked: rom, or else the character.
 fn char_txt(
@@ -16,11 +17,11 @@ fn char_txt(
     offs: &[usize; 257],
     table: &[u8],
     at: usize,
-    start: usize,
-    end: usize,
+    start: Place,
+    end: Place,
 ) -> usize
-    requires { ⌜ Offsets (now line) (now offs) × (start ≤ end) × (end ≤ length (chars (now line))) × (length (chars (now line)) ≤ 256) × (length (charTxt (chars (now line)) (now table) at start end) ≤ length (now buf)) × LegalAt (now table) at ⌝ }
-    ensures { λ r. ⌜ Front (now (buf .entry)) (now (buf .exit)) r (charTxt (chars (now (line .entry))) (now (table .entry)) at start end) ⌝ }
+    requires { ⌜ Offsets (now line) (now offs) × (start .0 ≤ end .0) × (end .0 ≤ length (chars (now line))) × (length (chars (now line)) ≤ 256) × (length (charTxt (chars (now line)) (now table) at (start .0) (end .0)) ≤ length (now buf)) × LegalAt (now table) at ⌝ }
+    ensures { λ r. ⌜ Front (now (buf .entry)) (now (buf .exit)) r (charTxt (chars (now (line .entry))) (now (table .entry)) at (start .0) (end .0)) ⌝ }
 {
     if table[at + 4] / 1 % 2 == 1 {
         return crate::put_text(buf, crate::rom_at(table, at));
@@ -34,7 +35,7 @@ pub fn txt_of(buf: &mut [u8], line: &[u8], offs: &[usize; 257], table: &[u8], x:
     ensures { λ r. ⌜ ((i : StoredEdge) → EdgeIs x i → Front (now (buf .entry)) (now (buf .exit)) r (txtOf (chars (now (line .entry))) (now (table .entry)) i)) ⌝ }
 {
     if x.kind == 0 {
-        return char_txt(buf, line, offs, table, x.record_at.0, x.start.0, x.end.0);
+        return char_txt(buf, line, offs, table, x.record_at.0, x.start, x.end);
     }
     let value = whole::exact_u64(x.num.value);
     if x.kind == 1 {

@@ -6,8 +6,8 @@ use Rattle.pass_edge.proofs.TextLaws.{part-places, spans, Spans, cut-to
 use Rattle.pass_edge.proofs.line_part.Statement.{statement}
 use Rattle.pass_edge.proofs.line_part.Tie as tie
 
-own : (s : tie.Start) → Spans (s .args .line .now) (s .args .offs .now) (s .args .start) (s .args .end)
-own s = spans (s .args .line .now) (s .args .offs .now) (s .args .start) (s .args .end) (s .pre .0) (s .pre .1) (s .pre .2)
+own : (s : tie.Start) → Spans (s .args .line .now) (s .args .offs .now) (s .args .start .0) (s .args .end .0)
+own s = spans (s .args .line .now) (s .args .offs .now) (s .args .start .0) (s .args .end .0) (s .pre .0) (s .pre .1) (s .pre .2)
 
 mul-from : tie.Need-mul-from
 mul-from c = omega (arith, c .pre .1, c .pre .2, c .pre .3)
@@ -34,7 +34,7 @@ returns : tie.Need-returns
 returns c =
     let s = c .before .before .before in
     let offs = s .args .offs .now in
-    cut-to (s .args .line .now) (getD offs (s .args .start) 0) (getD offs (s .args .end) 0) ∙ part-places (s .args .line .now) offs (s .args .start) (s .args .end) (s .pre .0) (s .pre .1) (s .pre .2)
+    cut-to (s .args .line .now) (getD offs (s .args .start .0) 0) (getD offs (s .args .end .0) 0) ∙ part-places (s .args .line .now) offs (s .args .start .0) (s .args .end .0) (s .pre .0) (s .pre .1) (s .pre .2)
 
 pub line-part-spec : {M : Type 1} → statement M
 line-part-spec =

@@ -18,7 +18,7 @@ abbrev start : tie.After-char-edge → tie.Start
 start e = e .before .before .before .before
 
 abbrev stored-edge : tie.After-char-edge → StoredEdge
-stored-edge e = let a = start e .args in charStored (a .table .now) (a .p) (a .record-at) (a .place) (a .c)
+stored-edge e = let a = start e .args in charStored (a .table .now) (a .p) (a .record-at .0) (a .place .0) (a .c)
 
 is : (e : tie.After-char-edge) → StoredIs (start e .args .line .now) (start e .args .table .now) (e .char-edge .result) (stored-edge e)
 is e = record { is = e .char-edge .ensures; sound = start e .pre .4 }
@@ -54,7 +54,7 @@ add-char-requires c κs =
         stored-edge = (stored-edge e, is e);
         few = room .few;
       },
-      ap (λ (x : PassEdge). x .kind) (e .char-edge .ensures .is) ∙ char-kind (a .table .now) (a .p) (a .record-at) (a .place) (a .c),
+      ap (λ (x : PassEdge). x .kind) (e .char-edge .ensures .is) ∙ char-kind (a .table .now) (a .p) (a .record-at .0) (a .place .0) (a .c),
     )
 
 same-length : tie.Need-same-length

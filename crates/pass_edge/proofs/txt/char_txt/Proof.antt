@@ -19,8 +19,8 @@ within s = type-within (s .args .table .now) (s .args .at) (s .pre .5)
 abbrev start : tie.Else1 → tie.Start
 start c = c .before .before .before .before .before
 
-own : (c : tie.Else1) → let a = start c .args in charTxt (chars (a .line .now)) (a .table .now) (a .at) (a .start) (a .end) ≡ between (chars (a .line .now)) (a .start) (a .end)
-own c = let s = start c in own-part (s .args .table .now) (s .args .at) (s .pre .5) (chars (s .args .line .now)) (s .args .start) (s .args .end) (c .if1 .left)
+own : (c : tie.Else1) → let a = start c .args in charTxt (chars (a .line .now)) (a .table .now) (a .at) (a .start .0) (a .end .0) ≡ between (chars (a .line .now)) (a .start .0) (a .end .0)
+own c = let s = start c in own-part (s .args .table .now) (s .args .at) (s .pre .5) (chars (s .args .line .now)) (s .args .start .0) (s .args .end .0) (c .if1 .left)
 
 add-if1 : tie.Need-add-if1
 add-if1 c = let s = c .before .before .before in omega (arith, within s, s .good .1 .1 .1 .0)
@@ -32,7 +32,7 @@ rom-at-requires : tie.Need-rom-at-requires
 rom-at-requires c κs = search needs
 
 put-text-requires : tie.Need-put-text-requires
-put-text-requires c κs = let s = c .before .before .before .before .before .before .before in omega (arith, ap length (c .rom-at .ensures (chars (s .args .line .now)) (s .args .start) (s .args .end)), s .pre .4)
+put-text-requires c κs = let s = c .before .before .before .before .before .before .before in omega (arith, ap length (c .rom-at .ensures (chars (s .args .line .now)) (s .args .start .0) (s .args .end .0)), s .pre .4)
 
 same-length : tie.Need-same-length
 same-length c = c .before .before .put-text .kept .0
