@@ -17,15 +17,15 @@ use lattice::Lattice;
 use text::Place;
 
 // The edge of a character at a place, by its first byte, if it is a digit whose place has no mark.
-fn add_digit(w: &mut [u8], l: Lattice, b: u8, place: usize, marked: bool) -> Lattice
-    requires { ⌜ ((es : List Edge) × Holds (now w) l es) × (place < 256) ⌝ }
-    ensures { λ r. ⌜ (drop 39424 (now (w .exit)) ≡ drop 39424 (now (w .entry))) × ((es : List Edge) → Holds (now (w .entry)) l es → Holds (now (w .exit)) r (addAll es (digitEdge b place marked))) ⌝ }
+fn add_digit(w: &mut [u8], l: Lattice, b: u8, place: Place, marked: bool) -> Lattice
+    requires { ⌜ ((es : List Edge) × Holds (now w) l es) × (place .0 < 256) ⌝ }
+    ensures { λ r. ⌜ (drop 39424 (now (w .exit)) ≡ drop 39424 (now (w .entry))) × ((es : List Edge) → Holds (now (w .entry)) l es → Holds (now (w .exit)) r (addAll es (digitEdge b (place .0) marked))) ⌝ }
 {
     if marked | (b < 48) | (57 < b) {
         return l;
     }
     let txt = [b];
-    lattice_add::regular::add_regular(w, l, Place(place), Place(place + 1), b"num", &txt)
+    lattice_add::regular::add_regular(w, l, place, Place(place.0 + 1), b"num", &txt)
 }
 
 // The edges of all digits whose places have no mark. One walk over the n characters of the line: ASCII digits, and no others, begin with the byte of one.
@@ -44,7 +44,7 @@ fn add_unmarked(
     let mut place = 0;
     while place < n {
         let at = offs[place];
-        grown = add_digit(w, grown, line[at], place, marks[place]);
+        grown = add_digit(w, grown, line[at], Place(place), marks[place]);
         place += 1;
     }
     grown

@@ -22,6 +22,7 @@ ghost use Rattle.fractions.specs.Planned.{Planned};
 use fraction_choices::decision::Choice;
 use lattice::Lattice;
 use table::shape::Shape;
+use text::Place;
 
 // The edges that the choices of n places make are added.
 fn add_all(
@@ -43,7 +44,7 @@ fn add_all(
             left: lefts[p],
             right: rights[p],
         };
-        grown = crate::new_edge::add_choice(w, grown, p, c);
+        grown = crate::new_edge::add_choice(w, grown, Place(p), c);
         p += 1;
     }
     grown

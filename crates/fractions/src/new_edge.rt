@@ -44,9 +44,9 @@ fn add_fraction(w: &mut [u8], l: Lattice, left: usize, right: usize) -> Lattice
 }
 
 // The edge that the choice at a place makes is added; a lattice that is full stays as it is.
-pub fn add_choice(w: &mut [u8], l: Lattice, p: usize, c: Choice) -> Lattice
-    requires { ⌜ ((n : ℕ) × ((es : List Edge) × HoldsChoice n (now w) l es c)) × (p < 65536) ⌝ }
-    ensures { λ r. ⌜ (drop 39424 (now (w .exit)) ≡ drop 39424 (now (w .entry))) × ((n : ℕ) (es : List Edge) → HoldsChoice n (now (w .entry)) l es c → Holds (now (w .exit)) r (addOutcome es (outcomeOf es p c))) ⌝ }
+pub fn add_choice(w: &mut [u8], l: Lattice, p: Place, c: Choice) -> Lattice
+    requires { ⌜ ((n : ℕ) × ((es : List Edge) × HoldsChoice n (now w) l es c)) × (p .0 < 65536) ⌝ }
+    ensures { λ r. ⌜ (drop 39424 (now (w .exit)) ≡ drop 39424 (now (w .entry))) × ((n : ℕ) (es : List Edge) → HoldsChoice n (now (w .entry)) l es c → Holds (now (w .exit)) r (addOutcome es (outcomeOf es (p .0) c))) ⌝ }
 {
     if l.len == 0 {
         return l;
@@ -60,7 +60,7 @@ pub fn add_choice(w: &mut [u8], l: Lattice, p: usize, c: Choice) -> Lattice
         return add_fraction(w, l, left, right);
     }
     if c.form == 3 {
-        return crate::parts::add_txt_percent(w, l, Place(p), right);
+        return crate::parts::add_txt_percent(w, l, p, right);
     }
     l
 }

@@ -8,8 +8,8 @@ use Rattle.fallback.proofs.add_digit.Tie as tie
 returns : tie.Need-returns
 returns c = (refl, add-digit-none _ _ _ (c .if1 .taken))
 
-add-t15 : tie.Need-add-t15
-add-t15 c = search needs
+add-t14 : tie.Need-add-t14
+add-t14 c = search needs
 
 slice-aggregate-add-regular : tie.Need-slice-aggregate-add-regular
 slice-aggregate-add-regular c = search needs
@@ -25,7 +25,7 @@ same-length c = search needs
 
 returns-2 : tie.Need-returns-2
 returns-2 c = let r = c .before .before in
-    let e = r .before .before .before .before in
+    let e = r .before .before .before .before .before in
     (r .add-regular .ensures .0, λ es q. add-digit-one _ _ _ (e .if1 .left) es (r .add-regular .ensures .1 es q))
 
 pub add-digit-spec : {M : Type 1} → statement M
@@ -33,7 +33,7 @@ add-digit-spec =
     tie.close
     (tie.spec
     returns
-    add-t15
+    add-t14
     slice-aggregate-add-regular
     slice-aggregate-add-regular-2
     add-regular-requires

@@ -7,7 +7,7 @@ use Rattle.fractions.proofs.new_edge.add_choice.Statement.{statement}
 use Rattle.fractions.proofs.new_edge.add_choice.Tie as tie
 
 returns : tie.Need-returns
-returns c = let s = c .before .before .before in (refl, λ n es o. full-stays (o .has .holds) (c .if1 .taken) (outcomeOf es (s .args .p) (s .args .c)))
+returns c = let s = c .before .before .before in (refl, λ n es o. full-stays (o .has .holds) (c .if1 .taken) (outcomeOf es (s .args .p .0) (s .args .c)))
 
 add-percent-requires : tie.Need-add-percent-requires
 add-percent-requires c κs = let s = c .before .before .before .before .before .before in let o = s .pre .0 .1 .1 in ((s .pre .0 .0, (s .pre .0 .1 .0, o .has, o .valid .percent (c .before .if2 .taken))), c .before .before .before .if1 .left)
@@ -21,7 +21,7 @@ returns-2 c =
     let e = g .before .before in
     let s = e .before .before .before .before .before in
     let f = e .if2 .taken in
-    (behind-same (s .args .w .now) (g .add-percent .last .0) (g .add-percent .ensures .0), λ n es o. makes-percent {w = g .add-percent .last .0} {l = g .add-percent .result} es (s .args .p) (s .args .c) f (g .add-percent .ensures .1 n es (o .has) (o .valid .percent f)))
+    (behind-same (s .args .w .now) (g .add-percent .last .0) (g .add-percent .ensures .0), λ n es o. makes-percent {w = g .add-percent .last .0} {l = g .add-percent .result} es (s .args .p .0) (s .args .c) f (g .add-percent .ensures .1 n es (o .has) (o .valid .percent f)))
 
 add-fraction-requires : tie.Need-add-fraction-requires
 add-fraction-requires c κs = let s = c .before .before .before .before .before .before .before .before in let o = s .pre .0 .1 .1 in let f = c .before .if3 .taken in ((s .pre .0 .0, (s .pre .0 .1 .0, o .has, o .valid .fraction f, o .valid .not-zero f)), c .before .before .before .before .before .if1 .left)
@@ -35,7 +35,7 @@ returns-3 c =
     let e = g .before .before in
     let s = e .before .before .before .before .before .before .before in
     let f = e .if3 .taken in
-    (behind-same (s .args .w .now) (g .add-fraction .last .0) (g .add-fraction .ensures .0), λ n es o. makes-fraction {w = g .add-fraction .last .0} {l = g .add-fraction .result} es (s .args .p) (s .args .c) f (g .add-fraction .ensures .1 n es (o .has) (o .valid .fraction f)))
+    (behind-same (s .args .w .now) (g .add-fraction .last .0) (g .add-fraction .ensures .0), λ n es o. makes-fraction {w = g .add-fraction .last .0} {l = g .add-fraction .result} es (s .args .p .0) (s .args .c) f (g .add-fraction .ensures .1 n es (o .has) (o .valid .fraction f)))
 
 add-txt-percent-requires : tie.Need-add-txt-percent-requires
 add-txt-percent-requires c κs = let s = c .before .before .before .before .before .before .before .before .before .before in let o = s .pre .0 .1 .1 in let f = c .before .if4 .taken in ((s .pre .0 .0, (s .pre .0 .1 .0, o .has, o .valid .txt f)), c .before .before .before .before .before .before .before .if1 .left, s .pre .1)
@@ -49,7 +49,7 @@ returns-4 c =
     let e = g .before .before in
     let s = e .before .before .before .before .before .before .before .before .before in
     let f = e .if4 .taken in
-    (behind-same (s .args .w .now) (g .add-txt-percent .last .0) (g .add-txt-percent .ensures .0), λ n es o. makes-txt {w = g .add-txt-percent .last .0} {l = g .add-txt-percent .result} es (s .args .p) (s .args .c) f (g .add-txt-percent .ensures .1 n es (o .has) (o .valid .txt f)))
+    (behind-same (s .args .w .now) (g .add-txt-percent .last .0) (g .add-txt-percent .ensures .0), λ n es o. makes-txt {w = g .add-txt-percent .last .0} {l = g .add-txt-percent .result} es (s .args .p .0) (s .args .c) f (g .add-txt-percent .ensures .1 n es (o .has) (o .valid .txt f)))
 
 returns-5 : tie.Need-returns-5
 returns-5 c = (refl, λ n es o. makes-nothing es _ _ (c .before .before .before .before .if2 .left) (c .before .before .if3 .left) (c .if4 .left) (o .has .holds))
