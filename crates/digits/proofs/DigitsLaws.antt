@@ -1,18 +1,19 @@
 -- Laws of `inRuns` (`specs/Digits.antt`) for starts that rise by ten or more, and that the 68 starts do. In order: the rule and its test; how many
 -- starts are not above c; the runs by the last of these; a turn of the loop that counts them; `isDigit` by their number. Assumes nothing.
 use mathlib.Core.Path.{_≡_, refl, sym, ap, _∙_}
-use mathlib.Core.Bool.{Bool, true, false, cond, _&&_, _||_}
+use mathlib.Core.Bool.{Bool, true, false, cond, _&&_, _||_, or-true}
 use mathlib.Core.List.{List, [], _∷_}
 use Prim.Native.Nat.{ℕ, zero, suc, _+_, _-_, _≤_, _<_}
 use native.Mathlib.Nat.{le-of-suc-le-suc, suc-inj}
 use native.Mathlib.Omega.{arith}
 use native.Mathlib.Numerals.{add-one}
-use lib.Dec.{T, leb, leb→le}
+use lib.Dec.{T, leb, ltb, leb→le}
 use lib.Ieee.Fits.{and-l, and-r}
 use lib.ListN.{length, getD, drop, drop-of-length-le}
 use lib.Seq.{drop-cons}
-use borrow.Author.Tests.{le-leb, lt-leb, leb-true, leb-false}
-use Rattle.digits.specs.Digits.{starts, inRuns, isDigit}
+use borrow.Author.Tests.{le-leb, lt-leb, leb-true, leb-false, lt-ltb, le-ltb, ltb-true, ltb-false}
+use Rattle.digits.specs.Digits.{starts, inRuns, isDigit, notAbove, anyAbove, compared, digitTest}
+use Rattle.digits.specs.declared.DigitTest.{DigitTest}
 
 -- ---- the rule: the first start is at least lo, and each later one at least ten above the one before it
 unfoldable pub apart : ℕ → List ℕ → Bool
@@ -36,13 +37,9 @@ module _ (lo s : ℕ) (ss : List ℕ) (t : T (apart lo (s ∷ ss))) where
   unfolding apart
   apart-rest = and-r (leb lo s) (apart (s + 10) ss) t
 
--- ---- how many of the starts ss are not above c
-unfoldable pub notAbove : List ℕ → ℕ → ℕ
-notAbove [] c = 0
-notAbove (s ∷ ss) c = cond (leb s c) (suc (notAbove ss c)) (notAbove ss c)
-
+-- ---- how many of the starts ss are not above c, and whether one is
 module _ (c : ℕ) where
-  none-not-above : (lo : ℕ) (ss : List ℕ) → T (apart lo ss) → c < lo → notAbove ss c ≡ 0
+  pub none-not-above : (lo : ℕ) (ss : List ℕ) → T (apart lo ss) → c < lo → notAbove ss c ≡ 0
   unfolding notAbove
   none-not-above lo [] t h = refl
   none-not-above lo (s ∷ ss) t h =
@@ -54,6 +51,31 @@ module _ (c : ℕ) where
   none-from i lo [] t h k = absurd (omega arith)
   none-from zero lo (s ∷ ss) t h k = rw (lt-leb s c k) (none-not-above (s + 10) ss (apart-rest lo s ss t) (omega arith))
   none-from (suc i) lo (s ∷ ss) t h k = none-from i (s + 10) ss (apart-rest lo s ss t) (le-of-suc-le-suc h) k
+
+  pub some-above : (i : ℕ) (ss : List ℕ) → i < length ss → c < getD ss i 0 → anyAbove ss c ≡ true
+  unfolding anyAbove
+  some-above i [] h k = absurd (omega arith)
+  some-above zero (s ∷ ss) h k = rw (lt-ltb c s k)
+  some-above (suc i) (s ∷ ss) h k = rw (some-above i ss (le-of-suc-le-suc h) k) (or-true (ltb c s))
+
+  not-above-le : (ss : List ℕ) → notAbove ss c ≤ length ss
+  unfolding notAbove
+  not-above-le [] = omega arith
+  not-above-le (s ∷ ss) = by (leb s c) (not-above-le ss)
+    where
+      by : (t : Bool) → notAbove ss c ≤ length ss → cond t (suc (notAbove ss c)) (notAbove ss c) ≤ suc (length ss)
+      by true h = omega arith
+      by false h = omega arith
+
+  pub all-not-above : (ss : List ℕ) → length ss ≡ notAbove ss c → anyAbove ss c ≡ false
+  unfolding notAbove anyAbove
+  all-not-above [] e = refl
+  all-not-above (s ∷ ss) e = by (leb s c) refl e (λ q. all-not-above ss q)
+    where
+      by : (t : Bool) → leb s c ≡ t → suc (length ss) ≡ cond t (suc (notAbove ss c)) (notAbove ss c)
+          → (length ss ≡ notAbove ss c → anyAbove ss c ≡ false) → (ltb c s || anyAbove ss c) ≡ false
+      by true l e rest = rw (le-ltb c s (leb-true s c l)) (rest (suc-inj e))
+      by false l e rest = absurd (omega (arith, not-above-le ss))
 
   -- ---- the runs by the last start not above c
   -- c is in the run of the last of the first n starts
@@ -128,6 +150,15 @@ module _ (c : ℕ) where
     unfolding notAbove
     no-more h = omega (arith, rw (drop-of-length-le starts {i = n} (omega (arith, starts-length))) at so-far)
 
+  -- the two starts that are compared before the loop
+  pub first-passed : 0x30 ≤ c → Passed 1
+  unfolding starts
+  first-passed h = one-more 0 none-passed (omega arith) h
+
+  pub two-passed : 0x660 ≤ c → Passed 2
+  unfolding starts
+  two-passed h = one-more 1 (first-passed (omega arith)) (omega arith) h
+
   -- ---- `isDigit` by the number of starts not above c
   module _ (n : ℕ) (e : n ≡ notAbove starts c) where
     -- the table's bound, the difference that the code takes, and its test
@@ -137,3 +168,30 @@ module _ (c : ℕ) where
         let k : notAbove starts c ≡ suc (n - 1) = sym e ∙ omega arith in
         let l = last-of 0 starts starts-apart (n - 1) k in
         (omega (arith, starts-length), l .1, within-ten (getD starts (n - 1) 0) (l .1) _ refl ∙ sym (runs-by-last 0 starts starts-apart ∙ ap (byLast starts) k))
+
+    pub digit-none : n ≡ 0 → isDigit c ≡ false
+    unfolding isDigit
+    digit-none z = runs-by-last 0 starts starts-apart ∙ ap (byLast starts) (sym e ∙ z)
+
+  -- ---- the ways out of the loop: at the first start above c, before all others or behind one; at the table's end
+  module _ (n : ℕ) (so-far : Passed n) where
+    module _ (h : n < 68) (k : c < getD starts n 0) where
+      test-at : (d : Bool) (m : ℕ) → d ≡ isDigit c → m ≡ n + 1 → record { digit = d; compared = m } ≡ digitTest c
+      test-at d m e q = rw (e, q, ← first-above n so-far h k, some-above n starts (omega (arith, starts-length)) k)
+
+      pub test-first : n ≡ 0 → record { digit = false; compared = 1 } ≡ digitTest c
+      test-first z = test-at false 1 (sym (digit-none n (first-above n so-far h k) z)) (omega arith)
+
+      pub test-above : (n ≡ 0 → ⊥) → (getD starts (n - 1) 0 ≤ c) × (record { digit = leb (c - getD starts (n - 1) 0) 9; compared = n + 1 } ≡ digitTest c)
+      test-above z = let l = digit-last n (first-above n so-far h k) z in (l .1, test-at _ (n + 1) (l .2) refl)
+
+    pub test-last : n ≤ 68 → 68 ≤ n → (getD starts 67 0 ≤ c) × (record { digit = leb (c - getD starts 67 0) 9; compared = 68 } ≡ digitTest c)
+    test-last h k =
+        let z : n ≡ 68 = omega arith in
+        let all : 68 ≡ notAbove starts c = sym z ∙ no-more n so-far k in
+        let l = digit-last 68 all (λ e. omega arith) in
+        (l .1, rw (l .2, ← all, all-not-above starts (starts-length ∙ all)))
+
+-- ---- for the callers, who ask whether c is a digit
+pub tested : (c : ℕ) {r : DigitTest} → r ≡ digitTest c → r .digit ≡ isDigit c
+tested c e = ap (λ (r : DigitTest). r .digit) e

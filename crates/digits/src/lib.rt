@@ -3,7 +3,8 @@
 pub mod ends; // ends.rt: whether a text begins or ends with one
 
 ghost use mathlib.Core.Path.{_≡_};
-ghost use Rattle.digits.specs.Digits.{isDigit};
+ghost use Prim.Native.Nat.{_≤_};
+ghost use Rattle.digits.specs.Digits.{digitTest};
 
 // The first character of each run, in rising order; `tools/check_nd` holds it against UnicodeData.txt.
 const STARTS: [u32; 68] = [
@@ -77,21 +78,53 @@ const STARTS: [u32; 68] = [
     0x1FBF0,
 ];
 
-// The starts are compared with `c` in rising order, up to the first that is above it: only the run before that one can hold `c`. The first
-// run, ASCII's, is told apart, since a table that is indexed by a variable is copied to the stack.
-pub fn is_digit(c: u32) -> bool
-    ensures { λ r. ⌜ r ≡ isDigit c ⌝ }
+// What the digit test answers: whether the character is a decimal digit, and how many starts it was compared with.
+pub struct DigitTest {
+    pub digit: bool,
+    pub compared: usize,
+}
+
+// The starts are compared with `c` in rising order, up to the first that is above it: only the run before that one can hold `c`. The first two are compared
+// before the loop: a table that is indexed by a variable is copied to the stack, and a character of ASCII needs no more than these two.
+pub fn is_digit(c: u32) -> DigitTest
+    ensures { λ r. ⌜ r ≡ digitTest c ⌝ }
 {
-    if c < 0x660 {
-        return (48 <= c) & (c <= 57);
+    if c < STARTS[0] {
+        return DigitTest {
+            digit: false,
+            compared: 1,
+        };
     }
+    if c < STARTS[1] {
+        return DigitTest {
+            digit: c - STARTS[0] <= 9,
+            compared: 2,
+        };
+    }
+    compare_from_third(c)
+}
+
+// The same where the first two starts are not above `c`.
+fn compare_from_third(c: u32) -> DigitTest
+    requires { ⌜ 0x660 ≤ c ⌝ }
+    ensures { λ r. ⌜ r ≡ digitTest c ⌝ }
+{
     let starts = STARTS;
     let mut n = 2;
     while n < 68 {
         if c < starts[n] {
-            break;
+            let past = c - starts[n - 1];
+            let compared = n + 1;
+            return DigitTest {
+                digit: past <= 9,
+                compared,
+            };
         }
         n += 1;
     }
-    c - starts[n - 1] <= 9
+    let past = c - starts[67];
+    DigitTest {
+        digit: past <= 9,
+        compared: 68,
+    }
 }
