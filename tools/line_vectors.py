@@ -36,6 +36,8 @@ LINES = [
     "x" * 257,
     "é" * 257,
     "一百" * 128,
+    # 02, S-7: two parts with a character between that has no record, empty parts among them; refused 7 in either part
+    *("一百 五", "一万 五", "一百五　二十", "零 百", " 五", "五 ", "  ", "一 " + "九" * 17, "九" * 17 + " 一"),
     # blanks, a carriage return and a byte 0 are characters
     " ",
     "\t五",

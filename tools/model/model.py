@@ -311,17 +311,27 @@ def edge_bytes(e):
     return struct.pack("<HHH", bits, e["start"], e["end"]) + string(e["type"]) + string(e["txt"]) + rest
 
 
+def five_lists(records, w):
+    """D1's list and the lists after the five passes, and the joined edges in order."""
+    lists, added = [[char_edge(p, c, records[c]) for p, c in enumerate(w) if c in records]], []
+    for name in FIVE:
+        made = chains(name, lists[-1])
+        added += [c["edge"] for c in made if c["more"]]
+        lists.append([c["edge"] for c in made])
+    return lists, added
+
+
+def above_at(added):
+    """Where the call is refused 7, or None."""
+    return next((e["start"] for e in added if e["value"] > TOP), None)
+
+
 def add_numbers(line, table, given, ordered):
     w, (lists, records) = chars(line), read_table(table)
-    first = edges = [char_edge(p, c, records[c]) for p, c in enumerate(w) if c in records]
-    added = []
-    for name in FIVE:
-        made = chains(name, edges)
-        added += [c["edge"] for c in made if c["more"]]
-        edges = [c["edge"] for c in made]
-    for e in added:
-        if e["value"] > TOP:
-            return struct.pack("<BI", 7, e["start"])
+    passed, added = five_lists(records, w)
+    first, edges = passed[0], passed[-1]
+    if (above := above_at(added)) is not None:
+        return struct.pack("<BI", 7, above)
     lattice = add_all(add_all([], read_given(given)), map(listed_edge, first + added))
     lattice = add_all(fractions(lists, w, lattice), signs(lists, w, edges))
     lattice = separate(lattice)

@@ -7,6 +7,7 @@ use mathlib.Core.List.{List, [], _∷_, map}
 use mathlib.Core.Option.{Option, none, some}
 use Prim.Native.Nat.{ℕ}
 use Rattle.passes.proofs.ChainsLaws.{from-none}
+use Rattle.passes.proofs.ChainsAlike.{Both}
 use Rattle.passes.specs.Chains.{from, chains}
 use Rattle.grammar.specs.Row.{Row, one, _▷_, _<>>_, last, head}
 
@@ -20,13 +21,6 @@ OnSome P (some a) = P a
 pub on-cond : {A : Type 0} (P : A → Type 0) (b : Bool) (a : A) → (b ≡ true → P a) → OnSome P (cond b (some a) none)
 on-cond P true a f = f refl
 on-cond P false a f = tt
-
--- both have no value, or both have one, and the two are related
-abbrev pub Both : {A B : Type 0} → (A → B → Type 0) → Option A → Option B → Type 0
-Both P none none = Unit {0}
-Both P none (some b) = ⊥
-Both P (some a) none = ⊥
-Both P (some a) (some b) = P a b
 
 -- ---- along a list
 

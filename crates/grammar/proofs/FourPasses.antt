@@ -18,7 +18,8 @@ use Rattle.passes.specs.Passes.{Pass, D1, G1, G2, G3, Chain, cjk, gap, nearest,
 use Rattle.grammar.specs.Plain.{Digit, Ten, Large, Char, digit, ten, large, digitValue, tenValue, largeValue, codePoint, charValue, charBase, isLarge, 零, 一, 二, 三, 四, 五, 六, 七, 八, 九, 十, 百, 千, 万, 億, 兆}
 use Rattle.grammar.specs.Row.{Row, one, _▷_}
 use Rattle.grammar.specs.Grammar.{Atom, run, times, power, Member, small, block, lone, runValue, atomValue, atomBase, smallValue, smallBase, loneZero, nearBase}
-use Rattle.grammar.proofs.ChainParts.{Both, Tiles, sim, tiles-map}
+use Rattle.passes.proofs.ChainsAlike.{Both}
+use Rattle.grammar.proofs.ChainParts.{Tiles, sim, tiles-map}
 use Rattle.grammar.proofs.Pieces.{Token, digits, ten₁, large₁, Piece, atom, large₂, Part, atoms, large₃, begin₁, next₁, begin₂, next₂, begin₃, next₃, begin₄, next₄, joins, tokens, pieces, smalls, members}
 use Rattle.grammar.proofs.Sixteen.{each}
 use Rattle.grammar.proofs.PlainEdges.{plainEdge, plainEdges}

@@ -13,4 +13,5 @@ pub mod Settled
 pub mod Demand3
 pub mod Marked
 pub mod MarkedReadings
+pub mod MarkedParts
 pub mod PlainTable

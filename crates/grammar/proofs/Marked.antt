@@ -1,13 +1,14 @@
 -- The marked lines (01, "Marked lines") with the empty line, and the limits of refusal 7: one theorem by computation over the definitions, from the line's bytes to
 -- the edges after G4.
---     answer line   start, end and value of each edge after G4; or refusal 7 with its place
+--     answerWith t w   start, end and value of each edge after G4, of a line of the code points w read with the table t; or refusal 7 with its place
+--     answer line   the same of a line's bytes and the plain table
 --     read w        the answer for the line of the characters w
 use Prim.Native.Nat.{ℕ}
 use mathlib.Core.Path.{_≡_, refl}
 use mathlib.Core.List.{List, [], _∷_, _++_, map}
 use lib.ListN.{replicate}
 use mathlib.Core.Option.{Option, none, some}
-use Rattle.table.specs.Table.{find}
+use Rattle.table.specs.Table.{Table, find}
 use Rattle.text.specs.Text.{chars, decode, encodes}
 use Rattle.text.specs.Sequence.{seq, encode}
 use Rattle.whole.specs.Decimal.{decimal, decimalWithin}
@@ -26,9 +27,13 @@ abbrev pub answerOf : List NumEdge → Option ℕ → Answer
 answerOf es none = Edges (map (λ (e : NumEdge). (e .start, e .end, e .value)) es)
 answerOf es (some place) = Refused7 place
 
+unfoldable pub answerWith : Table → List ℕ → Answer
+unfolding through addedBy after added chainsOf joinedOf next joined over overDigits d1Rule g1Rule g2Rule g3Rule g4Rule digitEdge gap nearest begin longer retags countedValue countedBase powerOfTen powerWithin from chains firstAbove charEdges charEdge find same encode decimal decimalWithin
+answerWith t w = answerOf (fifthList t w) (aboveAt t w)
+
 pub answer : List ℕ → Answer
-unfolding through addedBy after added chainsOf joinedOf next joined over overDigits d1Rule g1Rule g2Rule g3Rule g4Rule digitEdge gap nearest begin longer retags countedValue countedBase powerOfTen powerWithin from chains firstAbove charEdges charEdge find same chars decode seq encode decimal decimalWithin plain plainRecords plainRecord
-answer line = answerOf (fifthList plain (chars line)) (aboveAt plain (chars line))
+unfolding answerWith chars decode seq plain plainRecords plainRecord
+answer line = answerWith plain (chars line)
 
 -- the answer for the characters w
 pub read : List Char → Answer

@@ -1,3 +1,5 @@
 -- What is shown of the definition of the call.
+pub mod Accepted
 pub mod Demand3
+pub mod CallParts
 pub mod Cases

@@ -2,6 +2,7 @@
 --     latticeOf t w given   the finished lattice of the line w (code points) with table t and given edges
 --     Answer                a listing's bytes, or a refusal with its place or offset
 --     addNumbers ..         the answer for a line, a table, an edge list, the lengths of work space and output
+--     noEdges               the edge list without an edge
 --     outAfter out a        what the output holds after the answer a, where it held out before
 --     Assumes nothing.
 use Prim.Native.Nat.{ℕ}
@@ -56,6 +57,10 @@ unlessAbove none a = a
 
 unfoldable pub afterChecks : Table → List ℕ → ℕ → List Edge → Answer
 afterChecks t w out given = unlessAbove (aboveAt t w) (finished out (latticeOf t w given))
+
+-- "no given edges"
+abbrev pub noEdges : List ℕ
+noEdges = 0 ∷ 0 ∷ []
 
 -- 6: the given edges
 abbrev pub afterEdgesCheck : Table → List ℕ → ℕ → List ℕ → ListingCheck → Answer

@@ -2,14 +2,14 @@
 -- In order: `firstAbove` of lists; of one pass; of passes in turn.
 use Prim.Native.Nat.{_≤_}
 use mathlib.Core.Path.{_≡_, refl, sym, ap, _∙_}
-use mathlib.Core.Bool.{Bool, true, false, cond, _&&_, true≢false}
+use mathlib.Core.Bool.{Bool, true, false, cond, true≢false}
 use mathlib.Core.List.{List, [], _∷_, _++_}
 use mathlib.Core.Option.{Option, none, some, Option·some-ne-none, Option·some-injective}
 use lib.Dec.{nltb→le}
 use Rattle.whole.specs.Whole.{TOP}
 use Rattle.passes.specs.NumEdge.{NumEdge, orZero, above, firstAbove}
 use Rattle.passes.specs.Chains.{from, chains}
-use Rattle.passes.specs.Passes.{Pass, Chain, begin, longer, touches, rule, joined, next, chainsOf, edgesOf, joinedOf, after, added, through, addedBy}
+use Rattle.passes.specs.Passes.{Pass, Chain, begin, longer, joins, joined, next, chainsOf, edgesOf, joinedOf, after, added, through, addedBy}
 use Rattle.passes.proofs.ChainsLaws.{from-none, from-some}
 
 pub first-above-cons : (e : NumEdge) (es : List NumEdge) → above e ≡ false → firstAbove es ≡ none → firstAbove (e ∷ es) ≡ none
@@ -61,7 +61,7 @@ within-cons c cs w k h = go (c .more) w h
 -- a chain that took an edge is one of two and more
 pub next-more : (p : Pass) (c t : Chain) (e : NumEdge) → next p c e ≡ some t → t .more ≡ true
 unfolding next longer
-next-more p c t e h = go (touches c e && rule p c e) h
+next-more p c t e h = go (joins p c e) h
   where
     go : (b : Bool) → cond b (some (longer c e (joined p (c .edge) e))) none ≡ some t → t .more ≡ true
     go true h = ap (λ (x : Chain). x .more) (sym (Option·some-injective _ t h))

@@ -3,3 +3,8 @@ pub mod ChainsLaws
 pub mod AboveLaws
 pub mod Cases
 pub mod LowestLaws
+pub mod ChainsAlike
+pub mod Alike
+pub mod Apart
+pub mod AboveParts
+pub mod Parts

@@ -3,3 +3,4 @@ pub mod NumEdge
 pub mod Characters
 pub mod Chains
 pub mod Passes
+pub mod Moved

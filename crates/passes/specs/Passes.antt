@@ -1,6 +1,7 @@
 -- The five passes D1 to G4 (01, "Five passes, D1 to G4"), for the edges of any table. Definitions only.
 --     Chain          a chain as far as it goes
 --     rule p c e     pass p joins the edge e to the chain c, where they touch
+--     joins p c e    pass p joins e to c: they touch, and its rule lets them
 --     joined p l e   the edge over l and the edge e, as pass p makes it
 --     chainsOf p l   the chains of the list l by pass p
 --     after p l      the list after pass p: the edge over each chain
@@ -198,8 +199,13 @@ joined G3 l r = over G3 l r (orZero (l .value) * orZero (r .value)) (r .base) tr
 joined G4 l r = over G4 l r (orZero (l .value) + orZero (countedValue l r)) (countedBase l r) false
 
 -- ---- the passes
+
+-- "joins touching neighbours .. as far as its rule goes"
+abbrev pub joins : Pass → Chain → NumEdge → Bool
+joins p c e = touches c e && rule p c e
+
 unfoldable pub next : Pass → Chain → NumEdge → Option Chain
-next p c e = cond (touches c e && rule p c e) (some (longer c e (joined p (c .edge) e))) none
+next p c e = cond (joins p c e) (some (longer c e (joined p (c .edge) e))) none
 
 unfoldable pub chainsOf : Pass → List NumEdge → List Chain
 chainsOf p l = chains begin (next p) l

@@ -27,7 +27,7 @@ use Rattle.edge.specs.declared.ListingCheck.the-variants as ListingCheck
 use Rattle.edge.specs.declared.Written.{Written}
 use Rattle.lattice.specs.Lattice.{overfull}
 use Rattle.rows.specs.ListingRows.{rowsBytes, RowsAre}
-use Rattle.numbers.specs.Call.{Answer, listing, refused, finished, latticeOf, unlessAbove, afterChecks, afterEdgesCheck, afterTableCheck, afterLineCheck, addNumbers}
+use Rattle.numbers.specs.Call.{Answer, listing, refused, finished, latticeOf, unlessAbove, afterChecks, afterEdgesCheck, afterTableCheck, afterLineCheck, addNumbers, noEdges}
 use Rattle.answers.specs.declared.Answer.{Answer as Code}
 use Rattle.answers.specs.declared.Answer.the-variants as Code
 use Rattle.answers.specs.declared.Refusal.{Refusal}
@@ -35,7 +35,7 @@ use Rattle.answers.specs.Answers.{number, place, answerOf}
 use Rattle.call.specs.Answers.{AnswerIs}
 use Rattle.rows.specs.Printed.{TextIs}
 use Rattle.grammar.specs.PlainBytes.{plainBytes}
-use Rattle.print_line.specs.LineRows.{noEdges, plainAnswer}
+use Rattle.print_line.specs.LineRows.{plainAnswer}
 
 -- ---- a listing has its count
 abbrev Counted : Answer → Type 0

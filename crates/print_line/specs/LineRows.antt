@@ -1,15 +1,11 @@
 -- What the program prints for a line (01: "A program reads one line .., with the plain table and no given edges. It prints start, end, type, txt,
 -- and 1, 0 or - .., one edge a row; or "refused", number, place"). Definitions only.
---     noEdges            the edge list given: none
 --     plainAnswer line   the call's answer with the plain table, no given edges and the program's work space and output
 --     Assumes nothing.
-use mathlib.Core.List.{List, [], _∷_}
+use mathlib.Core.List.{List}
 use Prim.Native.Nat.{ℕ}
 use Rattle.grammar.specs.PlainBytes.{plainBytes}
-use Rattle.numbers.specs.Call.{Answer, addNumbers}
-
-abbrev pub noEdges : List ℕ
-noEdges = 0 ∷ 0 ∷ []
+use Rattle.numbers.specs.Call.{Answer, addNumbers, noEdges}
 
 abbrev pub plainAnswer : List ℕ → Answer
 plainAnswer line = addNumbers line plainBytes noEdges 65536 32768

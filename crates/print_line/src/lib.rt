@@ -4,9 +4,9 @@
 pub mod read; // read.rt: a line from standard input
 
 ghost use lib.ListN.{length};
-ghost use Rattle.numbers.specs.Call.{addNumbers};
+ghost use Rattle.numbers.specs.Call.{addNumbers, noEdges};
 ghost use Rattle.rows.specs.Printed.{TextIs};
-ghost use Rattle.print_line.specs.LineRows.{noEdges, plainAnswer};
+ghost use Rattle.print_line.specs.LineRows.{plainAnswer};
 use crate::read::Got;
 use call::Answer;
 use edge::Written;

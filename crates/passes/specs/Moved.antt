@@ -1,0 +1,41 @@
+-- An edge at another place of a line, or over other characters. Definitions only.
+--     moved n e      the edge e, "with its places moved by" n (02, S-7)
+--     withText x e   the edge e but for orig_txt (02, S-11), which is x
+--     Assumes nothing.
+use Prim.Native.Nat.{ℕ, _+_}
+use Rattle.table.specs.Table.{Text}
+use Rattle.passes.specs.NumEdge.{NumEdge}
+
+abbrev pub moved : ℕ → NumEdge → NumEdge
+moved n e = record {
+  start = n + e .start;
+  end = n + e .end;
+  type = e .type;
+  txt = e .txt;
+  orig-txt = e .orig-txt;
+  value = e .value;
+  fraction = e .fraction;
+  base = e .base;
+  mult = e .mult;
+  script = e .script;
+  large-power = e .large-power;
+  active = e .active;
+  value-s = e .value-s;
+}
+
+abbrev pub withText : Text → NumEdge → NumEdge
+withText x e = record {
+  start = e .start;
+  end = e .end;
+  type = e .type;
+  txt = e .txt;
+  orig-txt = x;
+  value = e .value;
+  fraction = e .fraction;
+  base = e .base;
+  mult = e .mult;
+  script = e .script;
+  large-power = e .large-power;
+  active = e .active;
+  value-s = e .value-s;
+}
