@@ -11,10 +11,10 @@ use Rattle.table.specs.Table.{Table}
 use Rattle.edge.specs.Edge.{Edge}
 use Rattle.numbers.specs.Fractions.{outcomeAt}
 use Rattle.fraction_choices.specs.declared.decision.Choice.{Choice}
-use Rattle.fraction_choices.specs.Choice.{outcomeOf, Valid}
+use Rattle.fraction_choices.specs.Choice.{outcomeOf, Valid, formOf}
 
 abbrev pub choiceAt : List ℕ → List ℕ → List ℕ → ℕ → Choice
-choiceAt fs ls rs p = record { form = getD fs p 0; left = getD ls p 0; right = getD rs p 0 }
+choiceAt fs ls rs p = record { form = formOf (getD fs p 0); left = getD ls p 0; right = getD rs p 0 }
 
 abbrev pub Decided : Table → List ℕ → List Edge → List ℕ → List ℕ → List ℕ → ℕ → Type 0
 Decided t w es fs ls rs n = (p : ℕ) → p < n → (outcomeOf es p (choiceAt fs ls rs p) ≡ outcomeAt t w es p) × Valid es (choiceAt fs ls rs p)

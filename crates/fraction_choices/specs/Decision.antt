@@ -18,6 +18,8 @@ use Rattle.edge.specs.Edge.{Edge, Numeric, f64Bits}
 use Rattle.lattice.specs.Kept.{noEdge}
 use Rattle.numbers.specs.Listed.{wholeValue}
 use Rattle.numbers.specs.Fractions.{Marker, percentage, connector, noMarker, isNumeric}
+use Rattle.fraction_choices.specs.declared.decision.Form.{Form}
+use Rattle.fraction_choices.specs.declared.decision.Form.the-variants as Form
 use Rattle.fraction_choices.specs.declared.decision.Choice.{Choice}
 use Rattle.fraction_choices.specs.declared.decision.WholeValue.{WholeValue}
 use Rattle.fraction_choices.specs.declared.decision.WholeValue.the-variants.{Whole, Nothing}
@@ -27,11 +29,11 @@ sizeOf (percentage n) = n
 sizeOf (connector n) = n
 sizeOf noMarker = 0
 
-abbrev pub choice : ℕ → ℕ → ℕ → Choice
+abbrev pub choice : Form → ℕ → ℕ → Choice
 choice f i j = record { form = f; left = i; right = j }
 
 abbrev pub noChoice : Choice
-noChoice = choice 0 0 0
+noChoice = choice Form.Nothing 0 0
 
 abbrev pub optionOf : WholeValue → Option ℕ
 optionOf (Whole v) = some v
@@ -42,10 +44,10 @@ WholeValued e = (x : Numeric) (b : ℕ) → e .num ≡ some x → x .value ≡ s
 
 abbrev pub otherwiseOf : Bool → List Edge → ℕ → Choice
 otherwiseOf percent es zero = noChoice
-otherwiseOf percent es (suc j) = cond (percent && isNumeric (getD es j noEdge)) (choice 3 0 j) noChoice
+otherwiseOf percent es (suc j) = cond (percent && isNumeric (getD es j noEdge)) (choice Form.TxtPercent 0 j) noChoice
 
 abbrev pub bothOf : Bool → Choice → ℕ → ℕ → ℕ → Choice
-bothOf percent other i lv j = cond (eqb lv 100) (choice 1 i j) (cond (not percent && not (eqb lv 0)) (choice 2 i j) other)
+bothOf percent other i lv j = cond (eqb lv 100) (choice Form.Percent i j) (cond (not percent && not (eqb lv 0)) (choice Form.Fraction i j) other)
 
 abbrev pub withValuesOf : Bool → Choice → ℕ → Option ℕ → ℕ → Option ℕ → Choice
 withValuesOf percent other i none j v = other

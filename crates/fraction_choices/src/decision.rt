@@ -9,19 +9,58 @@ ghost use Rattle.lattice.specs.Kept.{noEdge};
 ghost use Rattle.numbers.specs.Listed.{wholeValue};
 ghost use Rattle.numbers.specs.Fractions.{isNumeric, marked, byMarker};
 ghost use Rattle.markers.specs.Marks.{markerOf};
-ghost use Rattle.fraction_choices.specs.Choice.{outcomeOf, Valid};
+ghost use Rattle.fraction_choices.specs.Choice.{outcomeOf, Valid, codeOf, formOf};
 ghost use Rattle.fraction_choices.specs.Around.{HoldsLine, HoldsNeighbors};
-ghost use Rattle.fraction_choices.specs.Decision.{sizeOf, optionOf, WholeValued, otherwiseOf, bothOf, withValuesOf, betweenOf};
+ghost use Rattle.fraction_choices.specs.Decision.{sizeOf, choice, optionOf, WholeValued, otherwiseOf, bothOf, withValuesOf, betweenOf};
 use lattice::Lattice;
 use markers::Marker;
 use text::Place;
 
-// The decision at one place. form 0: nothing; 1: "right%" from the values; 2: "right/left"; 3: the right neighbour's txt and "%", from the marker on.
-// left and right are indices of edges in the lattice, 0 where they are not used.
+// What the marker at a place leads to: nothing; "right%" from the values; "right/left"; the right neighbour's txt and "%", from the marker on.
+pub enum Form {
+    Nothing,
+    Percent,
+    Fraction,
+    TxtPercent,
+}
+
+// The decision at one place. left and right are indices of edges in the lattice, 0 where they are not used.
 pub struct Choice {
-    pub form: usize,
+    pub form: Form,
     pub left: usize,
     pub right: usize,
+}
+
+// The number by which an array keeps a form: a reference to an array of enums is not covered by the toolchain.
+pub fn code_of(f: Form) -> usize
+    ensures { λ r. ⌜ r ≡ codeOf f ⌝ }
+{
+    match f {
+        Form::Nothing => 0,
+        Form::Percent => 1,
+        Form::Fraction => 2,
+        Form::TxtPercent => 3,
+    }
+}
+
+// The form that a number says.
+fn form_of(code: usize) -> Form
+    ensures { λ r. ⌜ r ≡ formOf code ⌝ }
+{
+    match code {
+        1 => Form::Percent,
+        2 => Form::Fraction,
+        3 => Form::TxtPercent,
+        _ => Form::Nothing,
+    }
+}
+
+// The choice whose parts arrays keep.
+pub fn choice_of(code: usize, left: usize, right: usize) -> Choice
+    ensures { λ r. ⌜ r ≡ choice (formOf code) left right ⌝ }
+{
+    let form = form_of(code);
+    Choice { form, left, right }
 }
 
 // The value of an edge as a whole number, where it has one.
@@ -71,29 +110,30 @@ fn otherwise(w: &[u8], l: Lattice, percent: bool, right: usize) -> Choice
 {
     if !percent {
         return Choice {
-            form: 0,
+            form: Form::Nothing,
             left: 0,
             right: 0,
         };
     }
     if right == 0 {
         return Choice {
-            form: 0,
+            form: Form::Nothing,
             left: 0,
             right: 0,
         };
     }
-    if !is_numeric(w, l, right - 1) {
+    let index = right - 1;
+    if !is_numeric(w, l, index) {
         return Choice {
-            form: 0,
+            form: Form::Nothing,
             left: 0,
             right: 0,
         };
     }
     Choice {
-        form: 3,
+        form: Form::TxtPercent,
         left: 0,
-        right: right - 1,
+        right: index,
     }
 }
 
@@ -103,7 +143,7 @@ fn both(percent: bool, other: Choice, left: usize, value: u64, right: usize) -> 
 {
     if value == 100 {
         return Choice {
-            form: 1,
+            form: Form::Percent,
             left,
             right,
         };
@@ -115,7 +155,7 @@ fn both(percent: bool, other: Choice, left: usize, value: u64, right: usize) -> 
         return other;
     }
     Choice {
-        form: 2,
+        form: Form::Fraction,
         left,
         right,
     }
@@ -195,7 +235,7 @@ pub fn outcome_at(
         Marker::Percentage(n) => marked(w, l, lefts, rights, true, p, n),
         Marker::Connector(n) => marked(w, l, lefts, rights, false, p, n),
         Marker::NoMarker => Choice {
-            form: 0,
+            form: Form::Nothing,
             left: 0,
             right: 0,
         },

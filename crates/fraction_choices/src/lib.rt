@@ -3,7 +3,7 @@ pub mod decision; // decision.rt: what the marker at one place leads to
 pub mod neighbors; // neighbors.rt: the neighbours of all places
 
 ghost use mathlib.Core.Path.{_≡_};
-ghost use mathlib.Core.List.{List, []};
+ghost use mathlib.Core.List.{List};
 ghost use Prim.Native.Nat.{ℕ, _<_};
 ghost use lib.ListN.{length};
 ghost use Rattle.text.specs.Text.{chars};
@@ -59,7 +59,8 @@ fn choose_all(
     let mut p = 0;
     while p < n {
         let c = choice_at(w, l, line, offs, table, h, before, behind, Place(p));
-        forms[p] = c.form;
+        let form = c.form;
+        forms[p] = crate::decision::code_of(form);
         lefts[p] = c.left;
         rights[p] = c.right;
         p += 1;

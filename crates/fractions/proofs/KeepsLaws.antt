@@ -3,7 +3,7 @@
 use mathlib.Core.Path.{_≡_, refl, sym, ap, _∙_}
 use mathlib.Core.Bool.{Bool, true, false, cond}
 use mathlib.Core.List.{List, [], _∷_, _++_, append-nil, append-assoc}
-use Prim.Native.Nat.{ℕ, zero, suc, _+_}
+use Prim.Native.Nat.{ℕ, _+_}
 use native.Mathlib.Omega.{arith}
 use lib.ListN.{getD, length-append, List·getD-append}
 use Rattle.whole.specs.Decimal.{decimal}
@@ -11,10 +11,12 @@ use Rattle.edge.specs.Edge.{Text, Edge}
 use Rattle.lattice.specs.Lattice.{has, add, addAll}
 use Rattle.lattice.specs.Kept.{noEdge}
 use Rattle.numbers.specs.Fractions.{made, fractionEdge, percentEdge}
+use Rattle.fraction_choices.specs.declared.decision.Form.{Form}
+use Rattle.fraction_choices.specs.declared.decision.Form.the-variants.{Nothing, Percent, Fraction, TxtPercent}
 use Rattle.fraction_choices.specs.declared.decision.Choice.{Choice}
 use Rattle.fractions.proofs.new_edge.FractionLaws.{fraction-is}
 use Rattle.fractions.proofs.deactivate.KeepsLaws.{Same, same-refl, Keeps}
-use Rattle.fraction_choices.specs.Choice.{outcomeOf, formed, numberOr, valueOr, Valid}
+use Rattle.fraction_choices.specs.Choice.{outcomeOf, formed, numberOr, valueOr, Uses, Valid}
 
 -- ---- edges behind
 pub behind : (es ds : List Edge) → Keeps es (es ++ ds)
@@ -53,7 +55,7 @@ txt-same p j b = txt-parts p (j ∷ []) (b .end) (b .txt)
 module _ {es fs : List Edge} (k : Keeps es fs) (p : ℕ) {c : Choice} (v : Valid es c) where
   pub made-keeps : outcomeOf fs p c ≡ outcomeOf es p c
   unfolding outcomeOf
-  made-keeps = go (c .form) refl
+  made-keeps = go (c .form) (v .uses)
     where
       i : ℕ
       i = c .left
@@ -61,9 +63,8 @@ module _ {es fs : List Edge} (k : Keeps es fs) (p : ℕ) {c : Choice} (v : Valid
       j : ℕ
       j = c .right
 
-      go : (f : ℕ) → c .form ≡ f → formed f p i (getD fs i noEdge) j (getD fs j noEdge) ≡ formed f p i (getD es i noEdge) j (getD es j noEdge)
-      go zero e = refl
-      go (suc zero) e = percent-same p i j (k .same i (v .percent e .left)) (k .same j (v .percent e .right))
-      go (suc (suc zero)) e = fraction-same i j (k .same i (v .fraction e .left)) (k .same j (v .fraction e .right))
-      go (suc (suc (suc zero))) e = txt-same p j (k .same j (v .txt e .right))
-      go (suc (suc (suc (suc f)))) e = let h = v .form in absurd (omega arith)
+      go : (f : Form) → Uses f es i j → formed f p i (getD fs i noEdge) j (getD fs j noEdge) ≡ formed f p i (getD es i noEdge) j (getD es j noEdge)
+      go Nothing u = refl
+      go Percent u = percent-same p i j (k .same i (u .left)) (k .same j (u .right))
+      go Fraction u = fraction-same i j (k .same i (u .two .left)) (k .same j (u .two .right))
+      go TxtPercent u = txt-same p j (k .same j (u .right))

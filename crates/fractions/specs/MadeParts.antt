@@ -3,7 +3,7 @@
 --     scriptFrom c s        the script that the code's answer s says, its bytes at the front of the buffer c
 --     fractionFields ..     the fields of a fraction: bits 0 (numeric), 2 (fraction) and 7 (active), and 5 where there is a script
 --     fractionWith ..       the fraction with this text, these numbers and this script
---     txtPercentOf es p j   the edge that the form 3 makes: the txt of the edge j of es and "%", from place p on
+--     txtPercentOf es p j   the edge that the form TxtPercent makes: the txt of the edge j of es and "%", from place p on
 --     Has n w l es          w and l hold the edges es of a call over a line of n characters
 --     Assumes nothing.
 use mathlib.Core.Path.{_≡_}
@@ -11,7 +11,7 @@ use mathlib.Core.Bool.{true, false}
 use mathlib.Core.List.{List}
 use mathlib.Core.Option.{Option, none, some}
 use Prim.Native.Nat.{ℕ, _+_, _≤_}
-use lib.ListN.{length, take, getD}
+use lib.ListN.{length, getD}
 use Rattle.fields.specs.Part.{part}
 use Rattle.edge.specs.Edge.{Text, Edge, Numeric, mapOf}
 use Rattle.edge.specs.Layout.{fieldsEnd, numericAt}

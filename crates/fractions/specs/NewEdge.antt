@@ -1,5 +1,5 @@
 -- What the code says of the edge that a choice makes. Definitions only.
---     percentOf, fractionOf   the edges that the forms 1 and 2 make
+--     percentOf, fractionOf   the edges that the forms Percent and Fraction make
 --     addOutcome es m            es with the edge that was made, if one was
 --     Over n w l es c         w and l hold the edges es of a call over a line of n characters, and the choice c may stand over es
 --     Assumes nothing.

@@ -4,11 +4,11 @@
 --     AllValid es fs ls rs n    each of the first n choices may stand over es
 --     Assumes nothing.
 use mathlib.Core.List.{List, [], _∷_}
-use mathlib.Core.Bool.{cond}
 use Prim.Native.Nat.{ℕ, zero, suc, _<_}
-use lib.Dec.{eqb}
 use Rattle.edge.specs.Edge.{Edge}
 use Rattle.numbers.specs.Fractions.{Outcome}
+use Rattle.fraction_choices.specs.declared.decision.Form.{Form}
+use Rattle.fraction_choices.specs.declared.decision.Form.the-variants.{Nothing, Percent, Fraction, TxtPercent}
 use Rattle.fraction_choices.specs.declared.decision.Choice.{Choice}
 use Rattle.fraction_choices.specs.Choice.{outcomeOf, Valid}
 use Rattle.fraction_choices.specs.Choices.{choiceAt}
@@ -18,8 +18,11 @@ outcomesOf es fs ls rs p zero = []
 outcomesOf es fs ls rs p (suc k) = outcomeOf es p (choiceAt fs ls rs p) ∷ outcomesOf es fs ls rs (suc p) k
 
 -- none, the right edge, or both
-abbrev pub usedWith : ℕ → ℕ → ℕ → List ℕ
-usedWith form i j = cond (eqb form 0) [] (cond (eqb form 3) (j ∷ []) (i ∷ j ∷ []))
+abbrev pub usedWith : Form → ℕ → ℕ → List ℕ
+usedWith Nothing i j = []
+usedWith Percent i j = i ∷ j ∷ []
+usedWith Fraction i j = i ∷ j ∷ []
+usedWith TxtPercent i j = j ∷ []
 
 unfoldable pub usedBy : Choice → List ℕ
 usedBy c = usedWith (c .form) (c .left) (c .right)

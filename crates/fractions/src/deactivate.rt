@@ -4,13 +4,23 @@ ghost use mathlib.Core.List.{List};
 ghost use Prim.Native.Nat.{_≤_, _<_};
 ghost use lib.ListN.{drop};
 ghost use Rattle.edge.specs.Edge.{Edge};
-ghost use Rattle.lattice.specs.Lattice.{turnOff};
+ghost use Rattle.lattice.specs.Lattice.{turnOffAt, turnOff};
 ghost use Rattle.lattice.specs.Kept.{Holds};
 ghost use Rattle.numbers.specs.Fractions.{usedEdges};
 ghost use Rattle.fraction_choices.specs.Choice.{Valid};
 ghost use Rattle.fractions.specs.Outcomes.{outcomesOf, usedBy, AllValid};
 use fraction_choices::decision::Choice;
+use fraction_choices::decision::Form;
 use lattice::Lattice;
+
+// Two edges turn inactive.
+fn turn_off_both(w: &mut [u8], l: Lattice, left: usize, right: usize)
+    requires { ⌜ ((es : List Edge) × Holds (now w) l es) × (l .len ≡ 0 → ⊥) × (left < l .count) × (right < l .count) ⌝ }
+    ensures { λ _. ⌜ (drop 39424 (now (w .exit)) ≡ drop 39424 (now (w .entry))) × ((es : List Edge) → Holds (now (w .entry)) l es → Holds (now (w .exit)) l (turnOffAt (turnOffAt es left) right)) ⌝ }
+{
+    lattice::turn_off(w, l, left);
+    lattice::turn_off(w, l, right);
+}
 
 // The edges that a choice uses turn inactive.
 fn turn_off_used(w: &mut [u8], l: Lattice, c: Choice)
@@ -19,15 +29,13 @@ fn turn_off_used(w: &mut [u8], l: Lattice, c: Choice)
 {
     let left = c.left;
     let right = c.right;
-    if c.form == 0 {
-        return;
+    let form = c.form;
+    match form {
+        Form::Nothing => {}
+        Form::Percent => turn_off_both(w, l, left, right),
+        Form::Fraction => turn_off_both(w, l, left, right),
+        Form::TxtPercent => lattice::turn_off(w, l, right),
     }
-    if c.form == 3 {
-        lattice::turn_off(w, l, right);
-        return;
-    }
-    lattice::turn_off(w, l, left);
-    lattice::turn_off(w, l, right);
 }
 
 // The edges that the choices of n places use turn inactive.
@@ -44,11 +52,7 @@ pub fn turn_off_all(
 {
     let mut p = 0;
     while p < n {
-        let c = Choice {
-            form: forms[p],
-            left: lefts[p],
-            right: rights[p],
-        };
+        let c = fraction_choices::decision::choice_of(forms[p], lefts[p], rights[p]);
         turn_off_used(w, l, c);
         p += 1;
     }

@@ -19,7 +19,6 @@ ghost use Rattle.numbers.specs.CallEdge.{CallEdges};
 ghost use Rattle.numbers.specs.Fractions.{newEdges, fractions};
 ghost use Rattle.fractions.specs.Outcomes.{outcomesOf};
 ghost use Rattle.fractions.specs.Planned.{Planned};
-use fraction_choices::decision::Choice;
 use lattice::Lattice;
 use table::shape::Shape;
 use text::Place;
@@ -39,11 +38,7 @@ fn add_all(
     let mut grown = l;
     let mut p = 0;
     while p < n {
-        let c = Choice {
-            form: forms[p],
-            left: lefts[p],
-            right: rights[p],
-        };
+        let c = fraction_choices::decision::choice_of(forms[p], lefts[p], rights[p]);
         grown = crate::new_edge::add_choice(w, grown, Place(p), c);
         p += 1;
     }

@@ -10,6 +10,7 @@ ghost use Rattle.fraction_choices.specs.Choice.{outcomeOf, valueOr, Two};
 ghost use Rattle.fractions.specs.MadeParts.{HoldsCall};
 ghost use Rattle.fractions.specs.NewEdge.{percentOf, fractionOf, HoldsChoice, addOutcome};
 use fraction_choices::decision::Choice;
+use fraction_choices::decision::Form;
 use lattice::Lattice;
 use text::Place;
 
@@ -53,14 +54,11 @@ pub fn add_choice(w: &mut [u8], l: Lattice, p: Place, c: Choice) -> Lattice
     }
     let left = c.left;
     let right = c.right;
-    if c.form == 1 {
-        return add_percent(w, l, left, right);
+    let form = c.form;
+    match form {
+        Form::Nothing => l,
+        Form::Percent => add_percent(w, l, left, right),
+        Form::Fraction => add_fraction(w, l, left, right),
+        Form::TxtPercent => crate::parts::add_txt_percent(w, l, p, right),
     }
-    if c.form == 2 {
-        return add_fraction(w, l, left, right);
-    }
-    if c.form == 3 {
-        return crate::parts::add_txt_percent(w, l, p, right);
-    }
-    l
 }

@@ -23,32 +23,38 @@ loop-holds c = let p = c .before .before .before .pre in chosen-start _ _ _ _ _ 
 choice-at-requires : tie.Need-choice-at-requires Inv-loop μ-loop
 choice-at-requires c κs = let s = c .before .before .before .before .before in let p = s .pre in let k = p .0 .count in let t = c .loop-test .taken in ((s .args .n, p .0), p .1, p .2, omega arith)
 
+code-of-requires : tie.Need-code-of-requires Inv-loop μ-loop
+code-of-requires c κs = search needs
+
 mul-forms : tie.Need-mul-forms Inv-loop μ-loop
-mul-forms c = let f = c .before .before .before .before .before .before .pre .0 .few in omega (arith, c .before .loop-test .taken)
+mul-forms c = let f = c .before .before .before .before .before .before .before .pre .0 .few in omega (arith, c .before .before .loop-test .taken)
 
 element-write-forms : tie.Need-element-write-forms Inv-loop μ-loop
-element-write-forms c = let f = c .before .before .before .before .before .before .pre .0 .few in omega (arith, c .before .loop-test .taken)
+element-write-forms c = let f = c .before .before .before .before .before .before .before .pre .0 .few in omega (arith, c .before .before .loop-test .taken)
 
 mul-lefts : tie.Need-mul-lefts Inv-loop μ-loop
-mul-lefts c = let f = c .before .before .before .before .before .before .pre .0 .few in omega (arith, c .before .loop-test .taken)
+mul-lefts c = let f = c .before .before .before .before .before .before .before .pre .0 .few in omega (arith, c .before .before .loop-test .taken)
 
 element-write-lefts : tie.Need-element-write-lefts Inv-loop μ-loop
-element-write-lefts c = let f = c .before .before .before .before .before .before .pre .0 .few in omega (arith, c .before .loop-test .taken)
+element-write-lefts c = let f = c .before .before .before .before .before .before .before .pre .0 .few in omega (arith, c .before .before .loop-test .taken)
 
 mul-rights : tie.Need-mul-rights Inv-loop μ-loop
-mul-rights c = let f = c .before .before .before .before .before .before .pre .0 .few in omega (arith, c .before .loop-test .taken)
+mul-rights c = let f = c .before .before .before .before .before .before .before .pre .0 .few in omega (arith, c .before .before .loop-test .taken)
 
 element-write-rights : tie.Need-element-write-rights Inv-loop μ-loop
-element-write-rights c = let f = c .before .before .before .before .before .before .pre .0 .few in omega (arith, c .before .loop-test .taken)
+element-write-rights c = let f = c .before .before .before .before .before .before .before .pre .0 .few in omega (arith, c .before .before .loop-test .taken)
 
 add-p : tie.Need-add-p Inv-loop μ-loop
-add-p c = let f = c .before .before .before .before .before .before .pre .0 .few in omega (arith, c .before .loop-test .taken)
+add-p c = let f = c .before .before .before .before .before .before .before .pre .0 .few in omega (arith, c .before .before .loop-test .taken)
 
 loop-less : tie.Need-loop-less Inv-loop μ-loop
-loop-less c = omega (arith, c .before .loop-test .taken)
+loop-less c = omega (arith, c .before .before .loop-test .taken)
 
 loop-again : tie.Need-loop-again Inv-loop μ-loop
-loop-again c = chosen-more (c .before .before .loop .inv) (c .before .loop-test .taken) (c .before .before .before .before .before .before .pre .0 .few) (c .choice-at .result) (c .choice-at .ensures)
+loop-again c =
+    let d = c .before in
+    rw (c .code-of .ensures)
+    (chosen-more (d .before .before .loop .inv) (d .before .loop-test .taken) (d .before .before .before .before .before .before .pre .0 .few) (d .choice-at .result) (d .choice-at .ensures))
 
 returns : tie.Need-returns Inv-loop μ-loop
 returns c = chosen-ends (c .before .loop .inv) (c .loop-test .left)
@@ -61,6 +67,7 @@ choose-all-spec =
     μ-loop
     loop-holds
     choice-at-requires
+    code-of-requires
     mul-forms
     element-write-forms
     mul-lefts

@@ -8,7 +8,7 @@ use Prim.Native.Nat.{ℕ, zero, suc, _+_, _-_, _≤_, _<_}
 use native.Mathlib.Omega.{arith}
 use lib.ListN.{length, getD, take, drop, length-take, length-drop}
 use lib.Dec.{eqb, leb}
-use borrow.Author.Tests.{eq-eqb, ne-eqb, eqb-false, not-true, not-false}
+use borrow.Author.Tests.{eqb-false, not-true, not-false}
 use Rattle.text.specs.Text.{chars}
 use Rattle.text.proofs.BytesLaws.{same-true}
 use Rattle.text.proofs.RowLaws.{cond-cases, and-true}
@@ -21,8 +21,9 @@ use Rattle.paths.specs.Best.{Best, best, numbered, leftNeighbor, rightNeighbor}
 use Rattle.paths.proofs.BestLaws.{Each, OfBest, best-holds}
 use Rattle.numbers.specs.Listed.{wholeValue}
 use Rattle.numbers.specs.Fractions.{standsAt, larger, longest, Outcome, made, nothing, isNumeric, percentEdge, fractionEdge, otherwise, both, withValues, between, marked}
+use Rattle.fraction_choices.specs.declared.decision.Form.the-variants.{Percent, Fraction, TxtPercent}
 use Rattle.fraction_choices.specs.declared.decision.Choice.{Choice}
-use Rattle.fraction_choices.specs.Choice.{outcomeOf, numberOr, valueOr, HasValue, Two, One, Valid}
+use Rattle.fraction_choices.specs.Choice.{outcomeOf, Two, Valid}
 use Rattle.fraction_choices.specs.Around.{sideOf, keptOf, Neighbors}
 use Rattle.fraction_choices.specs.Decision.{choice, noChoice, otherwiseOf, bothOf, withValuesOf, betweenOf}
 
@@ -46,7 +47,7 @@ kept-below right es table t p h =
 
 -- ---- what is made
 module _ (percent : Bool) (es : List Edge) (p : ℕ) where
-  made-txt : (j : ℕ) (t : Bool) → outcomeOf es p (cond t (choice 3 0 j) noChoice) ≡ cond t (made (percentEdge p (getD es j noEdge .end) (getD es j noEdge .txt)) (j ∷ [])) nothing
+  made-txt : (j : ℕ) (t : Bool) → outcomeOf es p (cond t (choice TxtPercent 0 j) noChoice) ≡ cond t (made (percentEdge p (getD es j noEdge .end) (getD es j noEdge .txt)) (j ∷ [])) nothing
   unfolding outcomeOf
   made-txt j true = refl
   made-txt j false = refl
@@ -61,7 +62,7 @@ module _ (percent : Bool) (es : List Edge) (p : ℕ) where
     unfolding outcomeOf
     made-both i j lv rv e f = by-tests (eqb lv 100) (not percent && not (eqb lv 0))
       where
-        by-tests : (t u : Bool) → outcomeOf es p (cond t (choice 1 i j) (cond u (choice 2 i j) c))
+        by-tests : (t u : Bool) → outcomeOf es p (cond t (choice Percent i j) (cond u (choice Fraction i j) c))
             ≡ cond t (made (percentEdge (getD es i noEdge .start) (getD es j noEdge .end) (decimal rv)) (i ∷ j ∷ [])) (cond u (made (fractionEdge (getD es i noEdge) lv (getD es j noEdge) rv) (i ∷ j ∷ [])) m)
         by-tests true u = rw f
         by-tests false true = rw (e, f)
@@ -83,31 +84,22 @@ not-zero v u = let n = eqb-false v 0 (not-true (eqb v 0) u) in omega arith
 
 module _ (es : List Edge) where
   pub valid-none : Valid es noChoice
-  valid-none = record { form = omega arith; percent = λ h. absurd (omega arith); fraction = λ h. absurd (omega arith); not-zero = λ h. absurd (omega arith); txt = λ h. absurd (omega arith) }
-
-  valid-percent : (i j : ℕ) → Two es i j → Valid es (choice 1 i j)
-  valid-percent i j t = record { form = omega arith; percent = λ h. t; fraction = λ h. absurd (omega arith); not-zero = λ h. absurd (omega arith); txt = λ h. absurd (omega arith) }
-
-  valid-fraction : (i j : ℕ) → Two es i j → 0 < valueOr (getD es i noEdge) → Valid es (choice 2 i j)
-  valid-fraction i j t z = record { form = omega arith; percent = λ h. absurd (omega arith); fraction = λ h. t; not-zero = λ h. z; txt = λ h. absurd (omega arith) }
-
-  valid-txt : (j : ℕ) → One es j → Valid es (choice 3 0 j)
-  valid-txt j o = record { form = omega arith; percent = λ h. absurd (omega arith); fraction = λ h. absurd (omega arith); not-zero = λ h. absurd (omega arith); txt = λ h. o }
+  valid-none = record { uses = tt }
 
   module _ (percent : Bool) where
     valid-otherwise : (y : ℕ) → y ≤ length es → Valid es (otherwiseOf percent es y)
     valid-otherwise zero h = valid-none
     valid-otherwise (suc j) h =
         cond-cases (Valid es) (percent && isNumeric (getD es j noEdge))
-        (λ t. valid-txt j (record { right = omega arith; numeric = and-true percent (isNumeric (getD es j noEdge)) t .1 }))
+        (λ t. record { uses = record { right = omega arith; numeric = and-true percent (isNumeric (getD es j noEdge)) t .1 } })
         (λ t. valid-none)
 
     module _ (c : Choice) (other : Valid es c) where
       valid-both : (i j lv rv : ℕ) → i < length es → j < length es → wholeValue (getD es i noEdge) ≡ some lv → wholeValue (getD es j noEdge) ≡ some rv → Valid es (bothOf percent c i lv j)
       valid-both i j lv rv h k e f =
           let t : Two es i j = record { left = h; right = k; left-value = (lv, e); right-value = (rv, f) } in
-          cond-cases (Valid es) (eqb lv 100) (λ x. valid-percent i j t)
-          (λ x. cond-cases (Valid es) (not percent && not (eqb lv 0)) (λ u. valid-fraction i j t (rw e (not-zero lv (and-true (not percent) (not (eqb lv 0)) u .1)))) (λ u. other))
+          cond-cases (Valid es) (eqb lv 100) (λ x. record { uses = t })
+          (λ x. cond-cases (Valid es) (not percent && not (eqb lv 0)) (λ u. record { uses = record { two = t; not-zero = rw e (not-zero lv (and-true (not percent) (not (eqb lv 0)) u .1)) } }) (λ u. other))
 
       valid-values : (i j : ℕ) (v w : Option ℕ) → i < length es → j < length es → wholeValue (getD es i noEdge) ≡ v → wholeValue (getD es j noEdge) ≡ w → Valid es (withValuesOf percent c i v j w)
       valid-values i j none w h k e f = other
@@ -129,15 +121,15 @@ module _ (es : List Edge) (percent : Bool) where
   otherwise-none y h = rw h
 
   module _ (h : not percent ≡ false) where
-    by-kind : (y : ℕ) → (y ≡ 0 → ⊥) → {b : Bool} → b ≡ isNumeric (getD es (y - 1) noEdge) → cond b (choice 3 0 (y - 1)) noChoice ≡ otherwiseOf percent es y
+    by-kind : (y : ℕ) → (y ≡ 0 → ⊥) → {b : Bool} → b ≡ isNumeric (getD es (y - 1) noEdge) → cond b (choice TxtPercent 0 (y - 1)) noChoice ≡ otherwiseOf percent es y
     by-kind zero n e = absurd (n refl)
     by-kind (suc j) n e = let z : suc j - 1 ≡ j = omega arith in rw (e, z, not-false percent h)
 
     pub otherwise-regular : (y : ℕ) → (y ≡ 0 → ⊥) → {b : Bool} → b ≡ isNumeric (getD es (y - 1) noEdge) → not b ≡ true → noChoice ≡ otherwiseOf percent es y
-    otherwise-regular y n {b} e t = ap (λ (u : Bool). cond u (choice 3 0 (y - 1)) noChoice) (sym (not-true b t)) ∙ by-kind y n e
+    otherwise-regular y n {b} e t = ap (λ (u : Bool). cond u (choice TxtPercent 0 (y - 1)) noChoice) (sym (not-true b t)) ∙ by-kind y n e
 
-    pub otherwise-numeric : (y : ℕ) → (y ≡ 0 → ⊥) → {b : Bool} → b ≡ isNumeric (getD es (y - 1) noEdge) → not b ≡ false → choice 3 0 (y - 1) ≡ otherwiseOf percent es y
-    otherwise-numeric y n {b} e t = ap (λ (u : Bool). cond u (choice 3 0 (y - 1)) noChoice) (sym (not-false b t)) ∙ by-kind y n e
+    pub otherwise-numeric : (y : ℕ) → (y ≡ 0 → ⊥) → {b : Bool} → b ≡ isNumeric (getD es (y - 1) noEdge) → not b ≡ false → choice TxtPercent 0 (y - 1) ≡ otherwiseOf percent es y
+    otherwise-numeric y n {b} e t = ap (λ (u : Bool). cond u (choice TxtPercent 0 (y - 1)) noChoice) (sym (not-false b t)) ∙ by-kind y n e
 
   module _ (c : Choice) where
     pub between-left : (x y : ℕ) → x ≡ 0 → c ≡ betweenOf percent c es x y

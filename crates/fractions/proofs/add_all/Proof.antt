@@ -16,35 +16,50 @@ abbrev μ-loop : tie.MeasureT-loop
 loop-holds : tie.Need-loop-holds Inv-loop μ-loop
 loop-holds c = grown-start _ _ _ _ _ _
 
-mul-t11 : tie.Need-mul-t11 Inv-loop μ-loop
-mul-t11 c = search needs
+mul-choice-of : tie.Need-mul-choice-of Inv-loop μ-loop
+mul-choice-of c = search needs
 
-element-copy-out-t14 : tie.Need-element-copy-out-t14 Inv-loop μ-loop
-element-copy-out-t14 c = search needs
+element-copy-out-choice-of : tie.Need-element-copy-out-choice-of Inv-loop μ-loop
+element-copy-out-choice-of c = search needs
 
-mul-t15 : tie.Need-mul-t15 Inv-loop μ-loop
-mul-t15 c = search needs
+mul-choice-of-2 : tie.Need-mul-choice-of-2 Inv-loop μ-loop
+mul-choice-of-2 c = search needs
 
-element-copy-out-t18 : tie.Need-element-copy-out-t18 Inv-loop μ-loop
-element-copy-out-t18 c = search needs
+element-copy-out-choice-of-2 : tie.Need-element-copy-out-choice-of-2 Inv-loop μ-loop
+element-copy-out-choice-of-2 c = search needs
 
-mul-t19 : tie.Need-mul-t19 Inv-loop μ-loop
-mul-t19 c = search needs
+mul-choice-of-3 : tie.Need-mul-choice-of-3 Inv-loop μ-loop
+mul-choice-of-3 c = search needs
 
-element-copy-out-t22 : tie.Need-element-copy-out-t22 Inv-loop μ-loop
-element-copy-out-t22 c = search needs
+element-copy-out-choice-of-3 : tie.Need-element-copy-out-choice-of-3 Inv-loop μ-loop
+element-copy-out-choice-of-3 c = search needs
+
+choice-of-requires : tie.Need-choice-of-requires Inv-loop μ-loop
+choice-of-requires c κs = search needs
 
 add-choice-requires : tie.Need-add-choice-requires Inv-loop μ-loop
-add-choice-requires c κs = let i = c .before .before .before .before in let s = i .before .before .before in let p = s .pre in let t = i .loop-test .taken in ((s .args .n, grown-next (i .before .loop .inv) t (p .0 .1)), omega (arith, p .1))
+add-choice-requires c κs =
+    let k = c .before in
+    let i = k .before .before .before .before in
+    let s = i .before .before .before in
+    let t = i .loop-test .taken in
+    ((s .args .n, rw (k .choice-of .ensures) (grown-next (i .before .loop .inv) t (s .pre .0 .1))), omega (arith, s .pre .1))
 
 add-p : tie.Need-add-p Inv-loop μ-loop
-add-p c = let i = c .before .before .before .before .before .before .before .before .loop .inv .most in omega (arith, c .before .before .before .before .before .before .before .loop-test .taken, c .before .before .before .before .before .before .before .before .before .before .pre)
+add-p c =
+    let i = c .before .before .before .before .before .before .before .before in
+    let m = i .before .loop .inv .most in
+    omega (arith, i .loop-test .taken, i .before .before .before .pre)
 
 loop-less : tie.Need-loop-less Inv-loop μ-loop
-loop-less c = omega (arith, c .before .before .before .before .before .before .before .loop-test .taken)
+loop-less c = omega (arith, c .before .before .before .before .before .before .before .before .loop-test .taken)
 
 loop-again : tie.Need-loop-again Inv-loop μ-loop
-loop-again c = let g = c .before .before in let i = c .before .before .before .before .before .before .before in grown-more (i .before .loop .inv) (i .loop-test .taken) {u = g .add-choice .last .0} {m = g .add-choice .result} (g .add-choice .kept .0) (g .add-choice .ensures .0) (g .add-choice .ensures .1)
+loop-again c =
+    let g = c .before .before in
+    let k = g .before .before in
+    let i = k .before .before .before .before in
+    grown-more (i .before .loop .inv) (i .loop-test .taken) {u = g .add-choice .last .0} {m = g .add-choice .result} (g .add-choice .kept .0) (g .add-choice .ensures .0) (rw (k .choice-of .ensures) at (g .add-choice .ensures .1))
 
 same-length : tie.Need-same-length Inv-loop μ-loop
 same-length c = c .before .loop .inv .long
@@ -59,12 +74,13 @@ add-all-spec =
     Inv-loop
     μ-loop
     loop-holds
-    mul-t11
-    element-copy-out-t14
-    mul-t15
-    element-copy-out-t18
-    mul-t19
-    element-copy-out-t22
+    mul-choice-of
+    element-copy-out-choice-of
+    mul-choice-of-2
+    element-copy-out-choice-of-2
+    mul-choice-of-3
+    element-copy-out-choice-of-3
+    choice-of-requires
     add-choice-requires
     add-p
     loop-less

@@ -1,5 +1,5 @@
 -- Edges that turn inactive stay what a choice uses of them. No contract cites this file.
--- In order: one edge; a list; a choice over it. Assumes nothing.
+-- In order: one edge; a list; a choice over it; what a choice uses, by its form. Assumes nothing.
 use mathlib.Core.Path.{_≡_, refl, sym, _∙_, subst}
 use mathlib.Core.Logic.{inl, inr}
 use mathlib.Core.Bool.{true, false}
@@ -14,8 +14,10 @@ use Rattle.lattice.specs.Kept.{noEdge}
 use Rattle.numbers.proofs.stages.InactiveLaws.{inactive-start, inactive-end, inactive-txt, inactive-num, length-turn-off, AsItWas, turn-off-at}
 use Rattle.numbers.specs.Listed.{valueOf, wholeValue}
 use Rattle.numbers.specs.Fractions.{isNumeric, scriptOf}
+use Rattle.fraction_choices.specs.declared.decision.Form.{Form}
+use Rattle.fraction_choices.specs.declared.decision.Form.the-variants.{Nothing, Percent, Fraction, TxtPercent}
 use Rattle.fraction_choices.specs.declared.decision.Choice.{Choice}
-use Rattle.fraction_choices.specs.Choice.{numberOr, HasValue, Two, One, Valid}
+use Rattle.fraction_choices.specs.Choice.{numberOr, HasValue, Two, One, Ratio, Uses, Valid}
 
 -- ---- one edge
 pub record Same (e d : Edge) : Type 0 where
@@ -68,10 +70,24 @@ module _ {es fs : List Edge} (k : Keeps es fs) where
   one-keeps {j} t = let b = t .right in let l = k .longer in record { right = omega arith; numeric = k .same j (t .right) .numeric ∙ t .numeric }
 
   pub valid-keeps : {c : Choice} → Valid es c → Valid fs c
-  valid-keeps {c} v = record {
-    form = v .form;
-    percent = λ e. two-keeps (v .percent e);
-    fraction = λ e. two-keeps (v .fraction e);
-    not-zero = λ e. subst (λ (x : Option ℕ). 0 < numberOr x) (sym (k .same (c .left) (v .fraction e .left) .value)) (v .not-zero e);
-    txt = λ e. one-keeps (v .txt e);
-  }
+  valid-keeps {c} v = record { uses = go (c .form) (v .uses) }
+    where
+      go : (f : Form) → Uses f es (c .left) (c .right) → Uses f fs (c .left) (c .right)
+      go Nothing u = tt
+      go Percent u = two-keeps u
+      go Fraction u = record { two = two-keeps (u .two); not-zero = subst (λ (x : Option ℕ). 0 < numberOr x) (sym (k .same (c .left) (u .two .left) .value)) (u .not-zero) }
+      go TxtPercent u = one-keeps u
+
+-- ---- what a choice of a form uses
+module _ {es : List Edge} {c : Choice} (v : Valid es c) where
+  abbrev uses-as : (f : Form) → c .form ≡ f → Uses f es (c .left) (c .right)
+  uses-as f e = subst (λ (g : Form). Uses g es (c .left) (c .right)) e (v .uses)
+
+  pub uses-percent : c .form ≡ Percent → Two es (c .left) (c .right)
+  uses-percent e = uses-as Percent e
+
+  pub uses-fraction : c .form ≡ Fraction → Ratio es (c .left) (c .right)
+  uses-fraction e = uses-as Fraction e
+
+  pub uses-txt : c .form ≡ TxtPercent → One es (c .right)
+  uses-txt e = uses-as TxtPercent e

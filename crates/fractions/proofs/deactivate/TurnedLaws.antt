@@ -7,15 +7,16 @@ use native.Mathlib.Nat.{suc-add, add-suc, add-zero, zero-add}
 use native.Mathlib.Numerals.{add-one}
 use native.Mathlib.Omega.{arith}
 use lib.ListN.{length, getD, drop}
-use borrow.Author.Tests.{ne-eqb}
 use Rattle.edge.specs.Edge.{Edge}
 use Rattle.lattice.specs.declared.Lattice.{Lattice}
 use Rattle.lattice.specs.Lattice.{turnOffAt, turnOff}
 use Rattle.lattice.specs.Kept.{noEdge, Holds}
 use Rattle.lattice.proofs.HoldsLaws.{kept-of}
 use Rattle.numbers.specs.Fractions.{Outcome, made, nothing, usedEdges}
+use Rattle.fraction_choices.specs.declared.decision.Form.{Form}
+use Rattle.fraction_choices.specs.declared.decision.Form.the-variants.{Nothing, Percent, Fraction, TxtPercent}
 use Rattle.fraction_choices.specs.declared.decision.Choice.{Choice}
-use Rattle.fraction_choices.specs.Choice.{outcomeOf, formed, Two, Valid}
+use Rattle.fraction_choices.specs.Choice.{outcomeOf, formed, Valid}
 use Rattle.fraction_choices.specs.Choices.{choiceAt}
 use Rattle.fractions.specs.Outcomes.{outcomesOf, usedWith, usedBy, AllValid}
 use Rattle.fractions.proofs.deactivate.KeepsLaws.{keeps-turn-off, valid-keeps}
@@ -32,17 +33,15 @@ unfolding turnOff
 turn-off-append es [] b = refl
 turn-off-append es (i ∷ a) b = turn-off-append (turnOffAt es i) a b
 
-used-made : {es : List Edge} (p : ℕ) {c : Choice} → Valid es c → usedEdges (outcomeOf es p c ∷ []) ≡ usedBy c
+used-made : (es : List Edge) (p : ℕ) (c : Choice) → usedEdges (outcomeOf es p c ∷ []) ≡ usedBy c
 unfolding outcomeOf usedBy usedEdges
-used-made {es} p {c} v = go (c .form) refl
+used-made es p c = go (c .form)
   where
-    go : (f : ℕ) → c .form ≡ f → usedEdges (formed f p (c .left) (getD es (c .left) noEdge) (c .right) (getD es (c .right) noEdge) ∷ [])
-        ≡ usedWith f (c .left) (c .right)
-    go zero e = refl
-    go (suc zero) e = refl
-    go (suc (suc zero)) e = refl
-    go (suc (suc (suc zero))) e = refl
-    go (suc (suc (suc (suc f)))) e = let h = v .form in absurd (omega arith)
+    go : (f : Form) → usedEdges (formed f p (c .left) (getD es (c .left) noEdge) (c .right) (getD es (c .right) noEdge) ∷ []) ≡ usedWith f (c .left) (c .right)
+    go Nothing = refl
+    go Percent = refl
+    go Fraction = refl
+    go TxtPercent = refl
 
 -- ---- one place more
 module _ (es : List Edge) (fs ls rs : List ℕ) where
@@ -64,31 +63,25 @@ module _ (es : List Edge) (fs ls rs : List ℕ) (n p : ℕ) (v : AllValid es fs 
       sym (ap (λ (r : List Outcome). turnOff es (usedEdges r)) (mades-more es fs ls rs p)
       ∙ ap (turnOff es) (used-append (outcomesOf es fs ls rs 0 p) (outcomeOf es p (choiceAt fs ls rs p) ∷ []))
       ∙ turn-off-append es (usedEdges (outcomesOf es fs ls rs 0 p)) (usedEdges (outcomeOf es p (choiceAt fs ls rs p) ∷ []))
-      ∙ ap (turnOff (turnOff es (usedEdges (outcomesOf es fs ls rs 0 p)))) (used-made p (v p h)))
+      ∙ ap (turnOff (turnOff es (usedEdges (outcomesOf es fs ls rs 0 p)))) (used-made es p (choiceAt fs ls rs p)))
 
 -- ---- the edges that one choice uses
 module _ {w : List ℕ} {l : Lattice} (es : List Edge) (c : Choice) where
-  pub off-none : c .form ≡ 0 → Holds w l es → Holds w l (turnOff es (usedBy c))
+  pub off-none : c .form ≡ Nothing → Holds w l es → Holds w l (turnOff es (usedBy c))
   unfolding usedBy turnOff
   off-none e h = rw e h
 
-  pub off-right : c .form ≡ 3 → Holds w l (turnOffAt es (c .right)) → Holds w l (turnOff es (usedBy c))
+  pub off-right : c .form ≡ TxtPercent → Holds w l (turnOffAt es (c .right)) → Holds w l (turnOff es (usedBy c))
   unfolding usedBy turnOff
   off-right e h = rw e h
 
-  pub off-both : (c .form ≡ 0 → ⊥) → (c .form ≡ 3 → ⊥) → Holds w l (turnOffAt (turnOffAt es (c .left)) (c .right)) → Holds w l (turnOff es (usedBy c))
+  pub off-percent : c .form ≡ Percent → Holds w l (turnOffAt (turnOffAt es (c .left)) (c .right)) → Holds w l (turnOff es (usedBy c))
   unfolding usedBy turnOff
-  off-both a b h = rw (ne-eqb (c .form) 0 a, ne-eqb (c .form) 3 b) h
+  off-percent e h = rw e h
 
-pub two-of : {es : List Edge} {c : Choice} → Valid es c → (c .form ≡ 0 → ⊥) → (c .form ≡ 3 → ⊥) → Two es (c .left) (c .right)
-two-of {es} {c} v a b = go (c .form) refl
-  where
-    go : (f : ℕ) → c .form ≡ f → Two es (c .left) (c .right)
-    go zero e = absurd (a e)
-    go (suc zero) e = v .percent e
-    go (suc (suc zero)) e = v .fraction e
-    go (suc (suc (suc zero))) e = absurd (b e)
-    go (suc (suc (suc (suc f)))) e = let h = v .form in absurd (omega arith)
+  pub off-fraction : c .form ≡ Fraction → Holds w l (turnOffAt (turnOffAt es (c .left)) (c .right)) → Holds w l (turnOff es (usedBy c))
+  unfolding usedBy turnOff
+  off-fraction e h = rw e h
 
 pub in-count : {w : List ℕ} {l : Lattice} {es : List Edge} {i : ℕ} → Holds w l es → (l .len ≡ 0 → ⊥) → i < length es → i < l .count
 in-count q f h = let k = kept-of q f .count in omega arith

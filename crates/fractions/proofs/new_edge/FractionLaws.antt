@@ -5,7 +5,6 @@ use mathlib.Core.Logic.{inl}
 use mathlib.Core.List.{List, _∷_, _++_}
 use mathlib.Core.Option.{Option}
 use Prim.Native.Nat.{ℕ, _+_}
-use borrow.Author.Tests.{ne-eqb}
 use Rattle.edge.specs.Edge.{Text, Edge}
 use Rattle.passes.specs.Characters.{lowest}
 use Rattle.whole.specs.Decimal.{decimal}
@@ -14,6 +13,7 @@ use Rattle.lattice.specs.Lattice.{add}
 use Rattle.lattice.specs.Kept.{Holds, AddingIs}
 use Rattle.lattice.proofs.HoldsLaws.{add-nothing}
 use Rattle.numbers.specs.Fractions.{Outcome, made, nothing, fractionEdge, scriptOf}
+use Rattle.fraction_choices.specs.declared.decision.Form.the-variants.{Nothing, Percent, Fraction, TxtPercent}
 use Rattle.fraction_choices.specs.declared.decision.Choice.{Choice}
 use Rattle.fraction_choices.specs.Choice.{valueOr, outcomeOf}
 use Rattle.fractions.specs.MadeParts.{fractionWith, txtPercentOf}
@@ -28,21 +28,21 @@ fraction-is d e p q x y r g s = rw (p, q, r, g, s, x, y)
 
 -- ---- what a choice makes, by its form
 module _ {w : List ℕ} {l : Lattice} (es : List Edge) (p : ℕ) (c : Choice) where
-  pub makes-percent : c .form ≡ 1 → Holds w l (add es (percentOf es (c .left) (c .right))) → Holds w l (addOutcome es (outcomeOf es p c))
+  pub makes-percent : c .form ≡ Percent → Holds w l (add es (percentOf es (c .left) (c .right))) → Holds w l (addOutcome es (outcomeOf es p c))
   unfolding outcomeOf
   makes-percent e h = rw e h
 
-  pub makes-fraction : c .form ≡ 2 → Holds w l (add es (fractionOf es (c .left) (c .right))) → Holds w l (addOutcome es (outcomeOf es p c))
+  pub makes-fraction : c .form ≡ Fraction → Holds w l (add es (fractionOf es (c .left) (c .right))) → Holds w l (addOutcome es (outcomeOf es p c))
   unfolding outcomeOf
   makes-fraction e h = rw e h
 
-  pub makes-txt : c .form ≡ 3 → Holds w l (add es (txtPercentOf es p (c .right))) → Holds w l (addOutcome es (outcomeOf es p c))
+  pub makes-txt : c .form ≡ TxtPercent → Holds w l (add es (txtPercentOf es p (c .right))) → Holds w l (addOutcome es (outcomeOf es p c))
   unfolding outcomeOf
   makes-txt e h = rw e h
 
-  pub makes-nothing : (c .form ≡ 1 → ⊥) → (c .form ≡ 2 → ⊥) → (c .form ≡ 3 → ⊥) → Holds w l es → Holds w l (addOutcome es (outcomeOf es p c))
+  pub makes-nothing : c .form ≡ Nothing → Holds w l es → Holds w l (addOutcome es (outcomeOf es p c))
   unfolding outcomeOf
-  makes-nothing x y z h = rw (ne-eqb (c .form) 1 x, ne-eqb (c .form) 2 y, ne-eqb (c .form) 3 z) h
+  makes-nothing e h = rw e h
 
 -- a lattice that is full holds whatever is added
 pub full-stays : {w : List ℕ} {l : Lattice} {es : List Edge} → Holds w l es → l .len ≡ 0 → (m : Outcome) → Holds w l (addOutcome es m)

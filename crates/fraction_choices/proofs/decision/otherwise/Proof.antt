@@ -10,8 +10,8 @@ returns c = λ es k. let a = c .before .before .args in otherwise-connector es (
 returns-2 : tie.Need-returns-2
 returns-2 c = λ es k. let a = c .before .before .before .args in otherwise-none es (a .percent) (a .right) (c .if2 .taken)
 
-sub-is-numeric : tie.Need-sub-is-numeric
-sub-is-numeric c = search needs
+sub-index : tie.Need-sub-index
+sub-index c = search needs
 
 is-numeric-requires : tie.Need-is-numeric-requires
 is-numeric-requires c κs = search needs
@@ -19,13 +19,10 @@ is-numeric-requires c κs = search needs
 returns-3 : tie.Need-returns-3
 returns-3 c = λ es k. let m = c .before in let a = m .before .before .before .before .args in otherwise-regular es (a .percent) (m .before .before .if1 .left) (a .right) (m .before .if2 .left) (m .is-numeric .ensures es k) (c .if3 .taken)
 
-sub-t6 : tie.Need-sub-t6
-sub-t6 c = search needs
-
 returns-4 : tie.Need-returns-4
 returns-4 c = λ es k. let m = c .before in let a = m .before .before .before .before .args in otherwise-numeric es (a .percent) (m .before .before .if1 .left) (a .right) (m .before .if2 .left) (m .is-numeric .ensures es k) (c .if3 .left)
 
 pub otherwise-spec : {M : Type 1} → statement M
 otherwise-spec =
     tie.close
-    (tie.spec returns returns-2 sub-is-numeric is-numeric-requires returns-3 sub-t6 returns-4)
+    (tie.spec returns returns-2 sub-index is-numeric-requires returns-3 returns-4)

@@ -16,35 +16,49 @@ abbrev μ-loop : tie.MeasureT-loop
 loop-holds : tie.Need-loop-holds Inv-loop μ-loop
 loop-holds c = turned-start _ _ _ _ _ _
 
-mul-t10 : tie.Need-mul-t10 Inv-loop μ-loop
-mul-t10 c = search needs
+mul-choice-of : tie.Need-mul-choice-of Inv-loop μ-loop
+mul-choice-of c = search needs
 
-element-copy-out-t13 : tie.Need-element-copy-out-t13 Inv-loop μ-loop
-element-copy-out-t13 c = search needs
+element-copy-out-choice-of : tie.Need-element-copy-out-choice-of Inv-loop μ-loop
+element-copy-out-choice-of c = search needs
 
-mul-t14 : tie.Need-mul-t14 Inv-loop μ-loop
-mul-t14 c = search needs
+mul-choice-of-2 : tie.Need-mul-choice-of-2 Inv-loop μ-loop
+mul-choice-of-2 c = search needs
 
-element-copy-out-t17 : tie.Need-element-copy-out-t17 Inv-loop μ-loop
-element-copy-out-t17 c = search needs
+element-copy-out-choice-of-2 : tie.Need-element-copy-out-choice-of-2 Inv-loop μ-loop
+element-copy-out-choice-of-2 c = search needs
 
-mul-t18 : tie.Need-mul-t18 Inv-loop μ-loop
-mul-t18 c = search needs
+mul-choice-of-3 : tie.Need-mul-choice-of-3 Inv-loop μ-loop
+mul-choice-of-3 c = search needs
 
-element-copy-out-t21 : tie.Need-element-copy-out-t21 Inv-loop μ-loop
-element-copy-out-t21 c = search needs
+element-copy-out-choice-of-3 : tie.Need-element-copy-out-choice-of-3 Inv-loop μ-loop
+element-copy-out-choice-of-3 c = search needs
+
+choice-of-requires : tie.Need-choice-of-requires Inv-loop μ-loop
+choice-of-requires c κs = search needs
 
 turn-off-used-requires : tie.Need-turn-off-used-requires Inv-loop μ-loop
-turn-off-used-requires c κs = let i = c .before .before .before .before in let s = i .before .before .before in let p = s .pre in (turned-next (i .before .loop .inv) (i .loop-test .taken) (p .0 .1) (p .0 .2), p .1)
+turn-off-used-requires c κs =
+    let k = c .before in
+    let i = k .before .before .before .before in
+    let p = i .before .before .before .pre in
+    (rw (k .choice-of .ensures) (turned-next (i .before .loop .inv) (i .loop-test .taken) (p .0 .1) (p .0 .2)), p .1)
 
 add-p : tie.Need-add-p Inv-loop μ-loop
-add-p c = let i = c .before .before .before .before .before .before .before .before .loop .inv .most in omega (arith, c .before .before .before .before .before .before .before .loop-test .taken, c .before .before .before .before .before .before .before .before .before .before .pre)
+add-p c =
+    let i = c .before .before .before .before .before .before .before .before in
+    let m = i .before .loop .inv .most in
+    omega (arith, i .loop-test .taken, i .before .before .before .pre)
 
 loop-less : tie.Need-loop-less Inv-loop μ-loop
-loop-less c = omega (arith, c .before .before .before .before .before .before .before .loop-test .taken)
+loop-less c = omega (arith, c .before .before .before .before .before .before .before .before .loop-test .taken)
 
 loop-again : tie.Need-loop-again Inv-loop μ-loop
-loop-again c = let g = c .before .before in let i = c .before .before .before .before .before .before .before in turned-more (i .before .loop .inv) (i .loop-test .taken) {u = g .turn-off-used .last .0} (g .turn-off-used .kept .0) (g .turn-off-used .ensures .0) (g .turn-off-used .ensures .1)
+loop-again c =
+    let g = c .before .before in
+    let k = g .before .before in
+    let i = k .before .before .before .before in
+    turned-more (i .before .loop .inv) (i .loop-test .taken) {u = g .turn-off-used .last .0} (g .turn-off-used .kept .0) (g .turn-off-used .ensures .0) (rw (k .choice-of .ensures) at (g .turn-off-used .ensures .1))
 
 same-length : tie.Need-same-length Inv-loop μ-loop
 same-length c = c .before .loop .inv .long
@@ -59,12 +73,13 @@ turn-off-all-spec =
     Inv-loop
     μ-loop
     loop-holds
-    mul-t10
-    element-copy-out-t13
-    mul-t14
-    element-copy-out-t17
-    mul-t18
-    element-copy-out-t21
+    mul-choice-of
+    element-copy-out-choice-of
+    mul-choice-of-2
+    element-copy-out-choice-of-2
+    mul-choice-of-3
+    element-copy-out-choice-of-3
+    choice-of-requires
     turn-off-used-requires
     add-p
     loop-less
