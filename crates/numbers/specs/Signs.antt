@@ -1,5 +1,6 @@
 -- G6: signs directly before a number (01, "The rest of the call"). Definitions only.
---     signed w x c e ss   the edges that the signs ss give before the passes' edge e; c is the sign's ASCII byte, - or +
+--     signEdge a c e      the edge for a sign that stands at place a before the passes' edge e; c is the sign's ASCII byte, - or +
+--     signed w c e ss     the edges that the signs ss give before the edge e
 --     signs t w es        G6's edges for the list es after G4: minus then plus signs for each valued edge, in the table's order
 --     Assumes nothing.
 use Prim.Native.Nat.{ℕ, _-_}
@@ -20,12 +21,12 @@ abbrev pub endsAt : List ℕ → ℕ → Text → Bool
 endsAt w p m = leb (length (chars m)) p && standsAt w (p - length (chars m)) m
 
 -- "txt sign (- or +) and txt, type followed by a space and that sign"
-abbrev pub signEdge : ℕ → NumEdge → Text → Edge
-signEdge c e m = regular (e .start - length (chars m)) (e .end) (e .type ++ (32 ∷ c ∷ [])) (c ∷ e .txt)
+abbrev pub signEdge : ℕ → ℕ → NumEdge → Edge
+signEdge a c e = regular a (e .end) (e .type ++ (32 ∷ c ∷ [])) (c ∷ e .txt)
 
 unfoldable pub signed : List ℕ → ℕ → NumEdge → List Text → List Edge
 signed w c e [] = []
-signed w c e (m ∷ ms) = cond (endsAt w (e .start) m) (signEdge c e m ∷ signed w c e ms) (signed w c e ms)
+signed w c e (m ∷ ms) = cond (endsAt w (e .start) m) (signEdge (e .start - length (chars m)) c e ∷ signed w c e ms) (signed w c e ms)
 
 -- "each minus then plus sign"
 unfoldable pub signs : Table → List ℕ → List NumEdge → List Edge

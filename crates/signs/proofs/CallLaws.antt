@@ -67,13 +67,13 @@ module _ {n : ℕ} (e : NumEdge) (h : CallEdge n (listedEdge e)) where
   unfolding listedEdge
   lengths = let s = h .short _ refl in record { start = h .legal .fits .start; end = h .legal .fits .end; type = s .type; txt = s .txt }
 
-  sign-call : (c : ℕ) → SignByte c → (m : Text) → CallEdge n (signEdge c e m)
+  sign-call : (c : ℕ) → SignByte c → (m : Text) → CallEdge n (signEdge (e .start - length (chars m)) c e)
   unfolding sound allowed
   sign-call c b m =
       let p = parts in
       let l = lengths in
       let less : e .start - length (chars m) < e .end = omega arith in
-      let never : (x : Numeric) → signEdge c e m .num ≡ some x → ⊥ = λ x q. Option·some-ne-none x (sym q) in
+      let never : (x : Numeric) → signEdge (e .start - length (chars m)) c e .num ≡ some x → ⊥ = λ x q. Option·some-ne-none x (sym q) in
       record {
         legal = record {
           fits = record { start = omega arith; end = l .end; type = omega (arith, length-append (e .type) (32 ∷ c ∷ [])); txt = omega arith; num = λ x q. absurd (never x q) };
@@ -89,7 +89,7 @@ module _ {n : ℕ} (e : NumEdge) (h : CallEdge n (listedEdge e)) where
   signed-call w c b [] = nil
   signed-call w c b (m ∷ ms) = go (endsAt w (e .start) m) (signed-call w c b ms)
     where
-      go : (t : Bool) → CallEdges n (signed w c e ms) → CallEdges n (cond t (signEdge c e m ∷ signed w c e ms) (signed w c e ms))
+      go : (t : Bool) → CallEdges n (signed w c e ms) → CallEdges n (cond t (signEdge (e .start - length (chars m)) c e ∷ signed w c e ms) (signed w c e ms))
       go true k = cons (sign-call c b m) k
       go false k = k
 

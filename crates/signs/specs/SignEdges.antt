@@ -1,17 +1,14 @@
 -- The edges that signs give before a stored edge of the pass list (01, "The rest of the call", G6). Definitions only.
---     signEdgeAt a c e            the edge for a sign that stands at place a before the passes' edge e; c is its ASCII byte
 --     Signs line t x c ms ..      the lattice is the one before with the edges that the signs ms give before the code's edge x, and what is behind it is as it was
 --     Begins s r t                s begins with the r bytes t
 --     Assumes nothing.
 use Prim.Native.Nat.{ℕ, _≤_}
 use mathlib.Core.Path.{_≡_}
-use mathlib.Core.List.{List, [], _∷_, _++_}
+use mathlib.Core.List.{List}
 use lib.ListN.{length, take, drop}
 use Rattle.text.specs.Text.{chars}
 use Rattle.table.specs.Table.{Text}
-use Rattle.passes.specs.NumEdge.{NumEdge}
 use Rattle.edge.specs.Edge.{Edge}
-use Rattle.edge.specs.Write.{regular}
 use Rattle.lattice.specs.Lattice.{addAll}
 use Rattle.lattice.specs.declared.Lattice.{Lattice}
 use Rattle.lattice.specs.Kept.{Holds}
@@ -19,10 +16,6 @@ use Rattle.pass_list.specs.declared.record.PassEdge.{PassEdge}
 use Rattle.pass_list.specs.StoredEdge.{StoredEdge, EdgeIs}
 use Rattle.pass_list.specs.Edges.{edgeOf}
 use Rattle.numbers.specs.Signs.{signed}
-
--- as `signEdge` has it, from the sign's place on
-abbrev pub signEdgeAt : ℕ → ℕ → NumEdge → Edge
-signEdgeAt a c e = regular a (e .end) (e .type ++ (32 ∷ c ∷ [])) (c ∷ e .txt)
 
 -- s and l are the work space and the lattice before, u and r those after
 pub record Signs (line t : List ℕ) (x : PassEdge) (c : ℕ) (ms : List Text) (s : List ℕ) (l : Lattice) (u : List ℕ) (r : Lattice) : Type 0 where

@@ -19,11 +19,12 @@ ghost use Rattle.lattice.specs.Kept.{Holds};
 ghost use Rattle.pass_list.specs.StoredEdge.{StoredEdge, EdgeIs};
 ghost use Rattle.pass_list.specs.Edges.{txtOf, edgeOf};
 ghost use Rattle.numbers.specs.Ready.{Offsets};
+ghost use Rattle.numbers.specs.Signs.{signEdge};
 ghost use Rattle.pass_edge.specs.Grounded.{Rooted, StoredIs};
 ghost use Rattle.pass_edge.specs.Texts.{typeOf};
 ghost use Rattle.pass_edge.specs.Adding.{Addable};
 ghost use Rattle.markers.specs.Marks.{Formed};
-ghost use Rattle.signs.specs.SignEdges.{signEdgeAt, Signs, Begins};
+ghost use Rattle.signs.specs.SignEdges.{Signs, Begins};
 
 // The type of a sign's edge goes to the front of a buffer: the stored edge's, a space and the sign.
 fn sign_type(buf: &mut [u8], table: &[u8], x: PassEdge, sign: u8) -> usize
@@ -65,7 +66,7 @@ fn add_signed(
     start: Place,
 ) -> Lattice
     requires { ⌜ Addable (now w) l (now line) (now offs) (now table) x × (start .0 ≤ 256) ⌝ }
-    ensures { λ r. ⌜ (drop 39424 (now (w .exit)) ≡ drop 39424 (now (w .entry))) × ((es : List Edge) (i : StoredEdge) → Holds (now (w .entry)) l es → EdgeIs x i → Holds (now (w .exit)) r (add es (signEdgeAt (start .0) sign (edgeOf (chars (now (line .entry))) (now (table .entry)) i)))) ⌝ }
+    ensures { λ r. ⌜ (drop 39424 (now (w .exit)) ≡ drop 39424 (now (w .entry))) × ((es : List Edge) (i : StoredEdge) → Holds (now (w .entry)) l es → EdgeIs x i → Holds (now (w .exit)) r (add es (signEdge (start .0) sign (edgeOf (chars (now (line .entry))) (now (table .entry)) i)))) ⌝ }
 {
     let mut ty = [0u8; 62];
     let mut txt = [0u8; 257];

@@ -22,7 +22,8 @@ use Rattle.lattice.specs.Kept.{Holds}
 use Rattle.pass_edge.specs.Grounded.{StoredIs}
 use Rattle.pass_edge.specs.Texts.{typeOf, Front}
 use Rattle.pass_edge.proofs.TextLaws.{front-take, txt-short, type-short, type-of-edge}
-use Rattle.signs.specs.SignEdges.{signEdgeAt, Begins}
+use Rattle.numbers.specs.Signs.{signEdge}
+use Rattle.signs.specs.SignEdges.{Begins}
 
 -- ---- texts at the front of a buffer
 pub front-length : {s u : List ℕ} {n : ℕ} {t : Text} → Front s u n t → length u ≡ length s
@@ -67,11 +68,11 @@ module _ (w table : List ℕ) {x : PassEdge} {i : StoredEdge} (h : EdgeIs x i) w
   start-is = ap (λ (e : PassEdge). e .start .0) (h .is)
 
   module _ (a c : ℕ) {ty tx : Text} (p : ty ≡ typeOf table i ++ (32 ∷ c ∷ [])) (q : tx ≡ c ∷ txtOf w table i) where
-    edge-is : regular a (x .end .0) ty tx ≡ signEdgeAt a c (edgeOf w table i)
+    edge-is : regular a (x .end .0) ty tx ≡ signEdge a c (edgeOf w table i)
     unfolding edgeOf
     edge-is = let b : x .end .0 ≡ i .end = ap (λ (e : PassEdge). e .end .0) (h .is) in rw (b, p, q, ← type-of-edge w table i)
 
-    pub edge-added : {v : List ℕ} {l : Lattice} (es : List Edge) → Holds v l (add es (regular a (x .end .0) ty tx)) → Holds v l (add es (signEdgeAt a c (edgeOf w table i)))
+    pub edge-added : {v : List ℕ} {l : Lattice} (es : List Edge) → Holds v l (add es (regular a (x .end .0) ty tx)) → Holds v l (add es (signEdge a c (edgeOf w table i)))
     edge-added es k = rw edge-is at k
 
 -- its texts are short

@@ -25,7 +25,6 @@ use Rattle.markers.specs.Marks.{signOf}
 use Rattle.markers.specs.declared.Sign.{Sign}
 use Rattle.markers.specs.declared.Sign.the-variants as Sign
 use Rattle.markers.proofs.MarkLaws.{Legal, legal-count}
-use Rattle.signs.specs.SignEdges.{signEdgeAt}
 
 -- ---- one sign
 -- what an answer for the sign x says of the sign m
@@ -42,15 +41,15 @@ sign-fits w a m {k} e = go (endsAt w a m) refl e
 -- before the passes' edge e, which starts at place a
 module _ (w : List ℕ) (c : ℕ) (e : NumEdge) {a : ℕ} (at : a ≡ e .start) (m : Text) where
   module _ {k : ℕ} (f : signOf w a m ≡ Sign.Before k) where
-    sign-edge : signed w c e (m ∷ []) ≡ signEdgeAt (a - k) c e ∷ []
+    sign-edge : signed w c e (m ∷ []) ≡ signEdge (a - k) c e ∷ []
     unfolding signed
     sign-edge = rw (← at) (go (endsAt w a m) f)
       where
-        go : (b : Bool) → cond b (Sign.Before (length (chars m))) Sign.NoSign ≡ Sign.Before k → cond b (signEdgeAt (a - length (chars m)) c e ∷ []) [] ≡ signEdgeAt (a - k) c e ∷ []
+        go : (b : Bool) → cond b (Sign.Before (length (chars m))) Sign.NoSign ≡ Sign.Before k → cond b (signEdge (a - length (chars m)) c e ∷ []) [] ≡ signEdge (a - k) c e ∷ []
         go true f = let q : length (chars m) ≡ k = cc in rw q
         go false f = let o : _≡_ {A = ℕ} 0 1 = cc in absurd (omega arith)
 
-    pub sign-added : {v : List ℕ} {l : Lattice} (es : List Edge) → Holds v l (add es (signEdgeAt (a - k) c e)) → Holds v l (addAll es (signed w c e (m ∷ [])))
+    pub sign-added : {v : List ℕ} {l : Lattice} (es : List Edge) → Holds v l (add es (signEdge (a - k) c e)) → Holds v l (addAll es (signed w c e (m ∷ [])))
     unfolding addAll
     sign-added es h = rw sign-edge h
 
@@ -59,7 +58,7 @@ module _ (w : List ℕ) (c : ℕ) (e : NumEdge) {a : ℕ} (at : a ≡ e .start) 
     unfolding signed
     no-edge = rw (← at) (go (endsAt w a m) f)
       where
-        go : (b : Bool) → cond b (Sign.Before (length (chars m))) Sign.NoSign ≡ Sign.NoSign → cond b (signEdgeAt (a - length (chars m)) c e ∷ []) [] ≡ []
+        go : (b : Bool) → cond b (Sign.Before (length (chars m))) Sign.NoSign ≡ Sign.NoSign → cond b (signEdge (a - length (chars m)) c e ∷ []) [] ≡ []
         go true f = let o : _≡_ {A = ℕ} 0 1 = cc in absurd (omega arith)
         go false f = refl
 
@@ -71,7 +70,7 @@ module _ (w : List ℕ) (c : ℕ) (e : NumEdge) {a : ℕ} (at : a ≡ e .start) 
 module _ (w : List ℕ) (c : ℕ) (e : NumEdge) where
   signed-first : (m : Text) (ms : List Text) → signed w c e (m ∷ ms) ≡ signed w c e (m ∷ []) ++ signed w c e ms
   unfolding signed
-  signed-first m ms = go (endsAt w (e .start) m) (signEdge c e m) (signed w c e ms)
+  signed-first m ms = go (endsAt w (e .start) m) (signEdge (e .start - length (chars m)) c e) (signed w c e ms)
     where
       go : (b : Bool) (x : Edge) (r : List Edge) → cond b (x ∷ r) r ≡ cond b (x ∷ []) [] ++ r
       go true x r = refl
