@@ -32,7 +32,7 @@ use Rattle.lattice.specs.Lattice.{add, addAll}
 use Rattle.lattice.specs.Kept.{Holds, AddingIs}
 use Rattle.lattice.proofs.HoldsLaws.{add-all-append, add-nothing}
 use Rattle.numbers.specs.Fallback.{covered, numType, asciiDigit, fallback}
-use Rattle.fallback.specs.DigitMarks.{anyDigit}
+use Rattle.fallback.specs.Marks.{anyDigit}
 use Rattle.fallback.specs.Marks.{digitEdge, unmarked}
 
 -- ---- the edge of one character

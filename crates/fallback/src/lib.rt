@@ -1,6 +1,4 @@
 // The fallback (01, "The rest of the call"): an ASCII digit without a numeric edge on its place adds a regular edge there. The last stage of the call.
-pub mod marks; // marks.rt: which places a numeric edge covers
-
 ghost use mathlib.Core.Path.{_≡_};
 ghost use mathlib.Core.List.{List};
 ghost use Prim.Native.Nat.{_≤_, _<_};
@@ -12,8 +10,9 @@ ghost use Rattle.lattice.specs.Kept.{Holds};
 ghost use Rattle.numbers.specs.Ready.{Offsets};
 ghost use Rattle.numbers.specs.CallEdge.{Legals};
 ghost use Rattle.numbers.specs.Fallback.{fallback};
-ghost use Rattle.fallback.specs.Marks.{digitEdge, unmarked};
+ghost use Rattle.fallback.specs.Marks.{digitEdge, unmarked, anyDigit};
 use lattice::Lattice;
+use marks::Asked;
 use text::Place;
 
 // The edge of a character at a place, by its first byte, if it is a digit whose place has no mark.
@@ -50,6 +49,20 @@ fn add_unmarked(
     grown
 }
 
+// Whether a line has the byte of an ASCII digit: most have none. The walk has no way out before the line's end, so that it takes many bytes at a time.
+pub fn any_digit(line: &[u8]) -> bool
+    ensures { λ r. ⌜ r ≡ anyDigit (now (line .entry)) ⌝ }
+{
+    let mut found = false;
+    let mut i = 0;
+    while i < line.len() {
+        let b = line[i];
+        found = found | ((48 <= b) & (b <= 57));
+        i += 1;
+    }
+    found
+}
+
 // The fallback's edges are added, for a line of n characters. The marks are those of the lattice before the first of them.
 pub fn fallback(w: &mut [u8], l: Lattice, line: &[u8], offs: &[usize; 257], n: usize) -> Lattice
     requires { ⌜ Offsets (now line) (now offs) × (length (chars (now line)) ≡ n) × (n ≤ 256) × ((es : List Edge) × Holds (now w) l es × Legals n es) ⌝ }
@@ -58,10 +71,10 @@ pub fn fallback(w: &mut [u8], l: Lattice, line: &[u8], offs: &[usize; 257], n: u
     if l.len == 0 {
         return l;
     }
-    if !crate::marks::any_digit(line) {
+    if !any_digit(line) {
         return l;
     }
     let mut marks = [false; 257];
-    crate::marks::mark_covered(w, l, &mut marks);
+    marks::mark_places(w, l, Asked::OnePlace, &mut marks);
     add_unmarked(w, l, line, offs, n, &marks)
 }

@@ -21,8 +21,9 @@ use Rattle.numbers.specs.Marks.{anyAt}
 use Rattle.numbers.proofs.stages.SoundLaws.{sound-of}
 use Rattle.numbers.specs.Fractions.{isNumeric}
 use Rattle.numbers.specs.Separators.{endsBefore}
-use Rattle.separators.specs.EndMarks.{digitEnds}
-use Rattle.separators.proofs.marks.MarkLaws.{txt-read}
+use Rattle.marks.specs.declared.Asked.the-variants.{DigitEnds}
+use Rattle.marks.specs.Marked.{asks, placeBy}
+use Rattle.marks.proofs.ReadLaws.{txt-read}
 use Rattle.separators.specs.Marks.{apartBy}
 
 -- ---- the edge that is read
@@ -70,7 +71,7 @@ module _ (s : List ℕ) (at : ℕ) {v : EdgeView} (read : v ≡ viewAt s at) whe
         go false = refl
 
 -- ---- texts of legal edges are well-formed, and so the last bytes are the last character
-pub ends-agree : {n : ℕ} (es : List Edge) (p : ℕ) → Legals n es → digitEnds es p ≡ endsBefore es p
+pub ends-agree : {n : ℕ} (es : List Edge) (p : ℕ) → Legals n es → anyAt (asks DigitEnds) (placeBy DigitEnds) es p ≡ endsBefore es p
 unfolding anyAt endsBefore
 ends-agree [] p nil = refl
 ends-agree {n} (e ∷ es) p (cons l ls) = rw (ends-last (e .txt) (sound-of n e (l .content) .txt), ends-agree es p ls)

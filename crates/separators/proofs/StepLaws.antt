@@ -1,5 +1,5 @@
 -- One edge set apart: the separator of its copy, room for the copy, and what then holds. No contract cites this file. Assumes nothing.
--- In order: the separator; how long a short edge is; the i-th edge of the lattice; what then holds; the loop.
+-- In order: where the last edge ends; the separator; how long a short edge is; the i-th edge of the lattice; what then holds; the loop.
 use mathlib.Core.Path.{_≡_, refl, sym, ap, _∙_, subst}
 use mathlib.Core.Bool.{Bool, true, false, cond}
 use mathlib.Core.List.{List, [], _∷_}
@@ -8,6 +8,7 @@ use Prim.Native.Nat.{ℕ, suc, _+_, _-_, _≤_, _<_}
 use native.Mathlib.Numerals.{add-one}
 use native.Mathlib.Omega.{arith}
 use lib.ListN.{length, drop, getD, length-append}
+use lib.Seq.{take-all}
 use lib.Dec.{eqb}
 use Rattle.text.proofs.RowLaws.{and-true}
 use Rattle.fields.specs.Fields.{bytesOf}
@@ -20,7 +21,7 @@ use Rattle.paths.specs.Reading.{Spanned}
 use Rattle.lattice.specs.declared.Lattice.{Lattice}
 use Rattle.lattice.specs.Lattice.{add, turnOffAt, turnOff, overfull}
 use Rattle.lattice.specs.Kept.{noEdge, offset, Holds}
-use Rattle.lattice.proofs.KeptLaws.{fieldsBytes, edge-stands, offset-in}
+use Rattle.lattice.proofs.KeptLaws.{fieldsBytes, edge-stands, offset-in, kept-size}
 use Rattle.lattice.proofs.HoldsLaws.{kept-of, over-of, over-add}
 use Rattle.lattice_add.specs.Copy.{prefixed, Source}
 use Rattle.lattice_add.proofs.copy.CopyLaws.{length-by-txt, map-is}
@@ -32,6 +33,11 @@ use Rattle.numbers.specs.Fractions.{isNumeric}
 use Rattle.numbers.specs.Separators.{apart, hasFraction, copyOf, copies, separate}
 use Rattle.separators.specs.Marks.{apartBy, setApart, allApart}
 use Rattle.separators.proofs.ApartLaws.{length-add, apart-behind, apart-length}
+
+-- ---- behind the last edge the listing ends
+pub last-ends : {w : List ℕ} {l : Lattice} {es : List Edge} → Holds w l es → (l .len ≡ 0 → ⊥) → (i : ℕ) → l .count ≤ i → l .len ≡ offset es i
+unfolding offset
+last-ends {es = es} q f i h = let k = kept-of q f in let c = k .count in rw (take-all i es (omega arith)) (kept-size k)
 
 -- ---- the separator, by bit 2 of the map
 fraction-bit : (x : Option Numeric) → stands 2 (mapOf x) ≡ hasFraction x

@@ -1,5 +1,3 @@
 -- The definitions of `separators`.
 -- The crate itself: What the steps of F1 give.
 pub mod Marks
--- marks: What the marks say.
-pub mod EndMarks

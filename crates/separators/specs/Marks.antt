@@ -1,4 +1,4 @@
--- F1 by marks: one for each place where an edge ends whose txt ends with a digit (`separators::marks`). Definitions only.
+-- F1 by marks: one for each place where an edge ends whose txt ends with a digit (`marks`). Definitions only.
 --     apartBy marks e            e is numeric, its txt begins with a decimal digit, and it starts at a place that has a mark
 --     setApart marks es i        es with the copy of its i-th edge, and that edge inactive, if it is apart by the marks
 --     allApart marks es i k      the same for k edges from the i-th on, in turn

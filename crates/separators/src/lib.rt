@@ -1,7 +1,5 @@
 // F1 (01, "The rest of the call"): a numeric edge whose txt begins with a digit, right after an edge whose txt ends with one, turns inactive, and its copy
-// with a separator before its txt is added. One walk marks the places where such edges end (`separators::marks`), one walk over the edges that were there adds the copies.
-pub mod marks; // marks.rt: where edges end whose txt ends with a digit
-
+// with a separator before its txt is added. One walk marks the places where such edges end (`marks`), one walk over the edges that were there adds the copies.
 ghost use mathlib.Core.Path.{_≡_};
 ghost use mathlib.Core.Bool.{false};
 ghost use mathlib.Core.List.{List};
@@ -10,13 +8,14 @@ ghost use lib.ListN.{length, drop, getD};
 ghost use Rattle.edge.specs.Edge.{Edge};
 ghost use Rattle.edge.specs.Layout.{edgeAt};
 ghost use Rattle.lattice.specs.Lattice.{add};
-ghost use Rattle.lattice.specs.Kept.{Holds, noEdge};
+ghost use Rattle.lattice.specs.Kept.{Holds, noEdge, offset};
 ghost use Rattle.paths.specs.Reading.{Spanned};
 ghost use Rattle.lattice_add.specs.Copy.{Source};
 ghost use Rattle.numbers.specs.CallEdge.{CallEdge, CallEdges};
 ghost use Rattle.numbers.specs.Separators.{copyOf, separate};
 ghost use Rattle.separators.specs.Marks.{apartBy, setApart, allApart};
 use lattice::Lattice;
+use marks::Asked;
 
 // Whether an edge is numeric, starts at a place that has a mark, and begins with a digit: few of them have to be asked for the last.
 fn is_apart(s: &[u8], at: usize, marks: &[bool; 257]) -> bool
@@ -47,6 +46,17 @@ fn add_separated(w: &mut [u8], l: Lattice, at: usize, next: usize) -> Lattice
     lattice_add::copy::add_copy(w, l, at, next, b"\xC2\xB7")
 }
 
+// Where the i-th edge ends: where the next one begins, or the listing ends.
+fn end_of(w: &[u8], l: Lattice, i: usize) -> usize
+    requires { ⌜ ((es : List Edge) × Holds (now w) l es) × (l .len ≡ 0 → ⊥) × (i < l .count) ⌝ }
+    ensures { λ r. ⌜ ((es : List Edge) → Holds (now (w .entry)) l es → r ≡ offset es (i + 1)) ⌝ }
+{
+    if i + 1 < l.count {
+        return lattice::offset_at(w, l, i + 1);
+    }
+    l.len
+}
+
 // The i-th edge is set apart, if the marks say so. The copy is made before its original turns inactive: it is active as that was.
 fn set_apart(w: &mut [u8], l: Lattice, i: usize, marks: &[bool; 257]) -> Lattice
     requires { ⌜ ((n : ℕ) × (n ≤ 256) × ((es : List Edge) × Holds (now w) l es × (i < length es) × CallEdge n (getD es i noEdge))) ⌝ }
@@ -59,7 +69,7 @@ fn set_apart(w: &mut [u8], l: Lattice, i: usize, marks: &[bool; 257]) -> Lattice
     if !is_apart(w, at, marks) {
         return l;
     }
-    let next = crate::marks::end_of(w, l, i);
+    let next = end_of(w, l, i);
     let added = add_separated(w, l, at, next);
     if added.len == 0 {
         return added;
@@ -92,6 +102,6 @@ pub fn separate(w: &mut [u8], l: Lattice) -> Lattice
         return l;
     }
     let mut marks = [false; 257];
-    crate::marks::mark_ends(w, l, &mut marks);
+    marks::mark_places(w, l, Asked::DigitEnds, &mut marks);
     set_all_apart(w, l, &marks)
 }

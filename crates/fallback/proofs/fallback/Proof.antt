@@ -3,6 +3,7 @@ use borrow.Author.Needs.{needs}
 use borrow.Author.Tests.{not-true}
 use mathlib.Core.Path.{refl, sym, _∙_}
 use native.Mathlib.Omega.{arith}
+use Rattle.fallback.proofs.MarkLaws.{covers-agree}
 use Rattle.fallback.proofs.DigitLaws.{full-add-all, none-add, marks-add}
 use Rattle.fallback.proofs.fallback.Statement.{statement}
 use Rattle.fallback.proofs.fallback.Tie as tie
@@ -16,8 +17,8 @@ any-digit-requires c κs = search needs
 returns-2 : tie.Need-returns-2
 returns-2 c = (refl, λ es q d. none-add es _ (sym (c .before .any-digit .ensures) ∙ not-true _ (c .if2 .taken)) q)
 
-mark-covered-requires : tie.Need-mark-covered-requires
-mark-covered-requires c κs = let e = c .before .before in
+mark-places-requires : tie.Need-mark-places-requires
+mark-places-requires c κs = let e = c .before .before in
     let p = e .before .before .before .before .before .before .pre in
     (e .before .before .if1 .left, (_, p .2, (p .3 .0, p .3 .1, p .3 .2)), refl)
 
@@ -32,7 +33,7 @@ returns-3 c = let a = c .before .before in
     let m = a .before .before .before in
     let e = m .before .before .before in
     let p = e .before .before .before .before .before .before .pre in
-    (a .add-unmarked .ensures .0, λ es q d. marks-add es (m .mark-covered .last .1 .1 .0) _ (m .mark-covered .ensures _ es (p .2) q d) (omega (arith, p .1, p .2)) (a .add-unmarked .ensures .1 es q))
+    (a .add-unmarked .ensures .0, λ es q d. marks-add es (m .mark-places .last .1 .1 .1 .0) _ (λ i h. m .mark-places .ensures _ es (p .2) q d i (omega arith) ∙ covers-agree es i) (omega (arith, p .1, p .2)) (a .add-unmarked .ensures .1 es q))
 
 pub fallback-spec : {M : Type 1} → statement M
 fallback-spec =
@@ -41,7 +42,7 @@ fallback-spec =
     returns
     any-digit-requires
     returns-2
-    mark-covered-requires
+    mark-places-requires
     add-unmarked-requires
     same-length
     returns-3)

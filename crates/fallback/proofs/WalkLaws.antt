@@ -6,7 +6,7 @@ use Prim.Native.Nat.{ℕ, _+_, _≤_, _<_}
 use lib.ListN.{length, drop, getD, drop-of-length-le}
 use Rattle.text.proofs.SequenceLaws.{drop-at}
 use Rattle.numbers.specs.Fallback.{asciiDigit}
-use Rattle.fallback.specs.DigitMarks.{anyDigit}
+use Rattle.fallback.specs.Marks.{anyDigit}
 
 -- what is found so far, or is among those from i on, is what the line has
 module _ (line : List ℕ) (found : Bool) (i : ℕ) (so-far : found || anyDigit (drop i line) ≡ anyDigit line) where

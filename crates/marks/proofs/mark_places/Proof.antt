@@ -1,18 +1,19 @@
--- `separators::marks::mark_ends` meets its contract. The loop's invariant: with the edges from the i-th on, the marks are those of all edges (`Marking`). The measure is
+-- `marks::mark_places` meets its contract. The loop's invariant: with the edges from the i-th on, the marks are those of all edges (`Marking`). The measure is
 -- how many are left. Assumes nothing.
 use Prim.Native.Nat.{_-_}
 use native.Mathlib.Omega.{arith}
-use Rattle.digits.specs.TextEnds.{endsWithDigit}
 use Rattle.numbers.proofs.stages.SoundLaws.{spanned-at}
 use Rattle.numbers.proofs.stages.MarkLaws.{Marking, marking-start, marking-turn, marking-end}
-use Rattle.separators.proofs.marks.mark_ends.Statement.{statement}
-use Rattle.separators.proofs.marks.mark_ends.Tie as tie
+use Rattle.marks.specs.Marked.{asks, placeBy}
+use Rattle.marks.proofs.ReadLaws.{place-inside}
+use Rattle.marks.proofs.mark_places.Statement.{statement}
+use Rattle.marks.proofs.mark_places.Tie as tie
 
 abbrev Inv-loop : tie.InvT-loop
-Inv-loop w l marks₀ count i₀ marks i = Marking (λ e. endsWithDigit (e .txt)) (λ e. e .end) w l i marks
+Inv-loop w l asked marks₀ count i₀ marks i = Marking (asks asked) (placeBy asked) w l i marks
 
 abbrev μ-loop : tie.MeasureT-loop
-μ-loop w l marks₀ count i₀ marks i = count - i
+μ-loop w l asked marks₀ count i₀ marks i = count - i
 
 loop-holds : tie.Need-loop-holds Inv-loop μ-loop
 loop-holds c = marking-start _ _ (c .before .pre .2)
@@ -37,13 +38,13 @@ loop-again : tie.Need-loop-again Inv-loop μ-loop
 loop-again c =
     let o = c .before .before in
     let i = o .before in
-    marking-turn _ _ (i .before .before .before .pre .0) (i .before .loop .inv) (λ e h. omega arith) (i .loop-test .taken) (o .offset-at .ensures) (c .mark .ensures)
+    marking-turn _ _ (i .before .before .before .pre .0) (i .before .loop .inv) (place-inside (i .before .before .before .args .asked)) (i .loop-test .taken) (o .offset-at .ensures) (c .mark .ensures)
 
 returns : tie.Need-returns Inv-loop μ-loop
 returns c = let l = c .before in marking-end _ _ (l .before .before .pre .0) (l .loop .inv) (c .loop-test .left)
 
-pub mark-ends-spec : {M : Type 1} → statement M
-mark-ends-spec =
+pub mark-places-spec : {M : Type 1} → statement M
+mark-places-spec =
     tie.close
     (tie.spec
     Inv-loop

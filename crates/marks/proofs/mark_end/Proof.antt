@@ -1,12 +1,12 @@
--- `separators::marks::mark` meets its contract. Assumes nothing.
+-- `marks::mark_end` meets its contract. Assumes nothing.
 use Prim.Native.Nat.{_+_, _≤_}
 use native.Mathlib.Omega.{arith}
 use lib.ListN.{length}
 use Rattle.edge.proofs.CheckLaws.{head-within, txt-within}
-use Rattle.separators.proofs.marks.MarkLaws.{end-in, mark-set, mark-kept}
+use Rattle.marks.proofs.ReadLaws.{end-in, end-set, end-kept}
 use borrow.Author.Needs.{needs}
-use Rattle.separators.proofs.marks.mark.Statement.{statement}
-use Rattle.separators.proofs.marks.mark.Tie as tie
+use Rattle.marks.proofs.mark_end.Statement.{statement}
+use Rattle.marks.proofs.mark_end.Tie as tie
 
 -- the text of the edge whose head was read is within the listing
 txt-inside : (c : tie.After-edge-at) → c .edge-at .result .txt .at + c .edge-at .result .txt .len ≤ length (c .before .before .args .s .now)
@@ -34,13 +34,13 @@ element-write-marks : tie.Need-element-write-marks
 element-write-marks c = let a = c .before .before .before .before .before .before in end-in _ _ (a .edge-at .ensures) (a .before .before .pre)
 
 returns : tie.Need-returns
-returns c = let a = c .before .before .before .before .before .before in mark-set _ _ (a .edge-at .ensures) (c .before .ends-with-digit .ensures) (a .before .before .args .marks .now) (c .if1 .taken)
+returns c = let a = c .before .before .before .before .before .before in end-set _ _ (a .edge-at .ensures) (c .before .ends-with-digit .ensures) (a .before .before .args .marks .now) (c .if1 .taken)
 
 returns-2 : tie.Need-returns-2
-returns-2 c = let a = c .before .before .before .before .before .before in mark-kept _ _ (a .edge-at .ensures) (c .before .ends-with-digit .ensures) (a .before .before .args .marks .now) (c .if1 .left)
+returns-2 c = let a = c .before .before .before .before .before .before in end-kept _ _ (a .edge-at .ensures) (c .before .ends-with-digit .ensures) (a .before .before .args .marks .now) (c .if1 .left)
 
-pub mark-spec : {M : Type 1} → statement M
-mark-spec =
+pub mark-end-spec : {M : Type 1} → statement M
+mark-end-spec =
     tie.close
     (tie.spec
     edge-at-requires

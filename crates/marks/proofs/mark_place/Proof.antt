@@ -1,12 +1,12 @@
--- `fallback::marks::mark` meets its contract. Assumes nothing.
+-- `marks::mark_place` meets its contract. Assumes nothing.
 use borrow.Author.Needs.{needs}
 use Prim.Native.Nat.{_+_, _≤_}
 use native.Mathlib.Omega.{arith}
 use lib.ListN.{length}
 use Rattle.paths.proofs.BestLaws.{head-bytes}
-use Rattle.fallback.proofs.marks.MarkLaws.{place-read, mark-set, mark-kept}
-use Rattle.fallback.proofs.marks.mark.Statement.{statement}
-use Rattle.fallback.proofs.marks.mark.Tie as tie
+use Rattle.marks.proofs.ReadLaws.{place-read, place-set, place-kept}
+use Rattle.marks.proofs.mark_place.Statement.{statement}
+use Rattle.marks.proofs.mark_place.Tie as tie
 
 inside : (s : tie.Start) → s .args .at + 10 ≤ length (s .args .s .now)
 inside s = head-bytes _ _ _ (s .pre .whole)
@@ -44,14 +44,14 @@ element-write-marks c = let b = c .before in let e = b .before in let d = e .bef
 
 returns : tie.Need-returns
 returns c = let b = c .before in let e = b .before in let d = e .before in let m = d .before in
-    mark-set _ _ (m .u16-at .ensures) (d .u16-at2 .ensures) (e .u16-at3 .ensures) (b .bit .ensures) (m .before .before .args .marks .now) (c .if1 .taken)
+    place-set _ _ (m .u16-at .ensures) (d .u16-at2 .ensures) (e .u16-at3 .ensures) (b .bit .ensures) (m .before .before .args .marks .now) (c .if1 .taken)
 
 returns-2 : tie.Need-returns-2
 returns-2 c = let b = c .before in let e = b .before in let d = e .before in let m = d .before in
-    mark-kept _ _ (m .u16-at .ensures) (d .u16-at2 .ensures) (e .u16-at3 .ensures) (b .bit .ensures) (m .before .before .args .marks .now) (c .if1 .left)
+    place-kept _ _ (m .u16-at .ensures) (d .u16-at2 .ensures) (e .u16-at3 .ensures) (b .bit .ensures) (m .before .before .args .marks .now) (c .if1 .left)
 
-pub mark-spec : {M : Type 1} → statement M
-mark-spec =
+pub mark-place-spec : {M : Type 1} → statement M
+mark-place-spec =
     tie.close
     (tie.spec
     u16-at-requires

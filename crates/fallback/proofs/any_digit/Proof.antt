@@ -1,14 +1,14 @@
--- `fallback::marks::any_digit` meets its contract. The loop's invariant: what is found so far, or is among the bytes that are left, is what the line has. The measure is what
+-- `fallback::any_digit` meets its contract. The loop's invariant: what is found so far, or is among the bytes that are left, is what the line has. The measure is what
 -- is left of the line. Assumes nothing.
 use mathlib.Core.Path.{_≡_, refl}
 use mathlib.Core.Bool.{_||_}
 use Prim.Native.Nat.{_-_}
 use native.Mathlib.Omega.{arith}
 use lib.ListN.{length, drop}
-use Rattle.fallback.specs.DigitMarks.{anyDigit}
-use Rattle.fallback.proofs.marks.WalkLaws.{any-next, any-end}
-use Rattle.fallback.proofs.marks.any_digit.Statement.{statement}
-use Rattle.fallback.proofs.marks.any_digit.Tie as tie
+use Rattle.fallback.specs.Marks.{anyDigit}
+use Rattle.fallback.proofs.WalkLaws.{any-next, any-end}
+use Rattle.fallback.proofs.any_digit.Statement.{statement}
+use Rattle.fallback.proofs.any_digit.Tie as tie
 
 abbrev Inv-loop : tie.InvT-loop
 Inv-loop line found₀ i₀ found i = found || anyDigit (drop i line) ≡ anyDigit line

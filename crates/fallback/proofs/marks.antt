@@ -1,3 +1,0 @@
--- The proofs of `fallback::marks`.
-mod MarkLaws
-mod WalkLaws

@@ -1,0 +1,76 @@
+// Marks of places, set in one walk over the lattice (01, "The rest of the call"): for F1 the places where an edge ends whose txt ends with a digit, for the fallback those that a numeric edge
+// of one place covers.
+ghost use mathlib.Core.Path.{_≡_};
+ghost use mathlib.Core.Bool.{false, true, cond};
+ghost use mathlib.Core.List.{List};
+ghost use Prim.Native.Nat.{ℕ, _≤_, _<_};
+ghost use lib.ListN.{getD, set, replicate};
+ghost use Rattle.digits.specs.TextEnds.{endsWithDigit};
+ghost use Rattle.edge.specs.Edge.{Edge};
+ghost use Rattle.edge.specs.Layout.{edgeAt};
+ghost use Rattle.lattice.specs.Kept.{Holds};
+ghost use Rattle.paths.specs.Reading.{Spanned};
+ghost use Rattle.numbers.specs.CallEdge.{Legals};
+ghost use Rattle.numbers.specs.Marks.{anyAt};
+ghost use Rattle.marks.specs.Marked.{onePlace, asks, placeBy};
+use lattice::Lattice;
+
+// Which edges set a mark: those whose txt ends with a digit, at their end; numeric ones of one place, at their start.
+pub enum Asked {
+    DigitEnds,
+    OnePlace,
+}
+
+// Sets the mark of the place where an edge ends whose txt ends with a digit.
+fn mark_end(s: &[u8], at: usize, marks: &mut [bool; 257])
+    requires { ⌜ Spanned 256 (now s) at ⌝ }
+    ensures { λ _. ⌜ now (marks .exit) ≡ cond (endsWithDigit (edgeAt (now (s .entry)) at .txt)) (set (now (marks .entry)) (edgeAt (now (s .entry)) at .end) true) (now (marks .entry)) ⌝ }
+{
+    let e = edge::head::edge_at(s, at);
+    let txt = e.txt;
+    let end = e.end;
+    let from = txt.at;
+    let to = from + txt.len;
+    let place = end.0;
+    if digits::ends::ends_with_digit(&s[from..to]) {
+        marks[place] = true;
+    }
+}
+
+// Sets the mark of an edge's place where the edge is numeric and one place long.
+fn mark_place(s: &[u8], at: usize, marks: &mut [bool; 257])
+    requires { ⌜ Spanned 256 (now s) at ⌝ }
+    ensures { λ _. ⌜ now (marks .exit) ≡ cond (onePlace (edgeAt (now (s .entry)) at)) (set (now (marks .entry)) (edgeAt (now (s .entry)) at .start) true) (now (marks .entry)) ⌝ }
+{
+    let map = fields::u16_at(s, at);
+    let start = fields::u16_at(s, at + 2) as usize;
+    let end = fields::u16_at(s, at + 4) as usize;
+    if edge::bit(map, 1) & (end == start + 1) {
+        marks[start] = true;
+    }
+}
+
+// Sets the mark of an edge, if it is one that is asked for.
+fn mark(s: &[u8], at: usize, asked: Asked, marks: &mut [bool; 257])
+    requires { ⌜ Spanned 256 (now s) at ⌝ }
+    ensures { λ _. ⌜ now (marks .exit) ≡ cond (asks asked (edgeAt (now (s .entry)) at)) (set (now (marks .entry)) (placeBy asked (edgeAt (now (s .entry)) at)) true) (now (marks .entry)) ⌝ }
+{
+    match asked {
+        Asked::DigitEnds => mark_end(s, at, marks),
+        Asked::OnePlace => mark_place(s, at, marks),
+    }
+}
+
+// The marks of all edges that are asked for. One walk over the lattice.
+pub fn mark_places(w: &[u8], l: Lattice, asked: Asked, marks: &mut [bool; 257])
+    requires { ⌜ (l .len ≡ 0 → ⊥) × ((n : ℕ) × (n ≤ 256) × ((es : List Edge) × Holds (now w) l es × Legals n es)) × (now marks ≡ replicate 257 false) ⌝ }
+    ensures { λ _. ⌜ ((n : ℕ) (es : List Edge) → n ≤ 256 → Holds (now (w .entry)) l es → Legals n es → (p : ℕ) → p < 257 → getD (now (marks .exit)) p false ≡ anyAt (asks asked) (placeBy asked) es p) ⌝ }
+{
+    let count = l.count;
+    let mut i = 0;
+    while i < count {
+        let at = lattice::offset_at(w, l, i);
+        mark(w, at, asked, marks);
+        i += 1;
+    }
+}

@@ -1,2 +1,0 @@
--- The laws of `separators::marks`.
-pub mod MarkLaws
