@@ -2,6 +2,7 @@
 --     number r, place r      01's number of a refusal, and the place or offset returned with it
 --     Brief                  an answer without the listing's bytes: its length, or a refusal's number and place
 --     answerOf r             the code's answer so
+--     statusOf n p           a status of C's and the number that goes with it
 --     refusalTold r, told b  what C is told of a refusal, and of an answer: 0 or the refusal's number; the length, or the refusal's place or offset
 --     Assumes nothing.
 use Prim.Native.Nat.{ℕ}
@@ -31,8 +32,11 @@ place (BadEdges at) = at .0
 place (AboveTop p) = p .0
 place TooLong = 0
 
+abbrev pub statusOf : ℕ → ℕ → CStatus
+statusOf n p = record { status = n; at = p }
+
 abbrev pub refusalTold : Refusal → CStatus
-refusalTold r = record { status = number r; at = place r }
+refusalTold r = statusOf (number r) (place r)
 
 pub data Brief : Type 0 where
   of-length : ℕ → Brief
@@ -43,5 +47,5 @@ answerOf (Answer.Listing n) = of-length n
 answerOf (Answer.Refused r) = refused (number r) (place r)
 
 abbrev pub told : Brief → CStatus
-told (of-length n) = record { status = 0; at = n }
-told (refused n p) = record { status = n; at = p }
+told (of-length n) = statusOf 0 n
+told (refused n p) = statusOf n p

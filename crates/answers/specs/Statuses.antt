@@ -1,6 +1,6 @@
 -- What C is told of an answer of the reading calls: a status, 0 or the number of 01's refusal, and the numbers that go with it. Definitions only.
 --     NONE                   no edge
---     refusalTold r          a refusal: its number, and its place or offset
+--     readRefusalTold r      a refusal: its number, and its place or offset
 --     answerTold a           best edge and neighbours: the offset of the edge, or NONE
 --     writtenTold a          the path: the bytes of its listing
 --     shownTold a            the text shown: its offset and length, and whether it is a part of the listing (1) or of the line (0)
@@ -18,6 +18,7 @@ use Rattle.paths.specs.declared.PathAnswer.the-variants as PathAnswer
 use Rattle.paths.specs.declared.Shown.{Shown}
 use Rattle.paths.specs.declared.Shown.the-variants as Shown
 use Rattle.paths.specs.Reading.{number, place}
+use Rattle.answers.specs.Answers.{statusOf}
 
 abbrev pub NONE : ℕ
 NONE = 18446744073709551615
@@ -26,16 +27,16 @@ abbrev pub foundAt : Found → ℕ
 foundAt (At o) = o .0
 foundAt Nothing = NONE
 
-abbrev pub refusalTold : ReadRefusal → CStatus
-refusalTold r = record { status = number r; at = place r }
+abbrev pub readRefusalTold : ReadRefusal → CStatus
+readRefusalTold r = statusOf (number r) (place r)
 
 abbrev pub answerTold : EdgeAnswer → CStatus
-answerTold (EdgeAnswer.Best f) = record { status = 0; at = foundAt f }
-answerTold (EdgeAnswer.Refused r) = refusalTold r
+answerTold (EdgeAnswer.Best f) = statusOf 0 (foundAt f)
+answerTold (EdgeAnswer.Refused r) = readRefusalTold r
 
 abbrev pub writtenTold : PathAnswer → CStatus
-writtenTold (PathAnswer.Bytes n) = record { status = 0; at = n }
-writtenTold (PathAnswer.Refused r) = refusalTold r
+writtenTold (PathAnswer.Bytes n) = statusOf 0 n
+writtenTold (PathAnswer.Refused r) = readRefusalTold r
 
 abbrev pub shownTold : Shown → CText
 shownTold (Shown.Listing p) = record { status = 0; at = p .at; len = p .len; in_listing = 1 }

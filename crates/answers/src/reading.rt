@@ -1,6 +1,6 @@
 // What C is told of an answer of the reading calls: a status, 0 or the refusal's number, and the numbers that go with it.
 ghost use mathlib.Core.Path.{_≡_};
-ghost use Rattle.answers.specs.Statuses.{foundAt, refusalTold, answerTold, writtenTold, shownTold};
+ghost use Rattle.answers.specs.Statuses.{foundAt, readRefusalTold, answerTold, writtenTold, shownTold};
 use crate::CStatus;
 use paths::EdgeAnswer;
 use paths::Found;
@@ -18,7 +18,7 @@ pub struct CText {
 
 // 01's number of a refusal, and the offset that is returned with it, or 0.
 fn refusal_told(r: ReadRefusal) -> CStatus
-    ensures { λ t. ⌜ t ≡ refusalTold r ⌝ }
+    ensures { λ t. ⌜ t ≡ readRefusalTold r ⌝ }
 {
     match r {
         ReadRefusal::NotUtf8(at) => CStatus {

@@ -3,8 +3,7 @@
 ghost use Prim.Native.Nat.{_<_};
 
 fn say(word: &[u8], n: usize) {
-    io::write_all(1, word);
-    io::print_decimal(1, n as u64);
+    vectors::say(word, n as u64);
     io::write_all(1, b"\n");
 }
 

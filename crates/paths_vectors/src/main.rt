@@ -4,20 +4,15 @@ use paths::Query;
 use paths::Shown;
 use text::Place;
 
-fn say(word: &[u8], n: u64) {
-    io::write_all(1, word);
-    io::print_decimal(1, n);
-}
-
 // An answer by what C is told of it: its status, and the number that goes with it.
 fn show(word: &[u8], t: CStatus) {
     if t.status > 0 {
-        say(b"refused ", t.status as u64);
-        say(b" ", t.at);
+        vectors::say(b"refused ", t.status as u64);
+        vectors::say(b" ", t.at);
     } else if t.at == 18446744073709551615 {
         io::write_all(1, b"none");
     } else {
-        say(word, t.at);
+        vectors::say(word, t.at);
     }
 }
 

@@ -1,20 +1,12 @@
--- A line of bytes (01: "up to a newline, the end or 4,096 bytes"; the newline is no part of it). Definitions only.
---     untilNewline s   the bytes before the first newline; all where there is none
+-- A line of bytes (01: "up to a newline, the end or 4,096 bytes"; the newline is no part of it: `untilByte` of `vectors`). Definitions only.
 --     StepIn n most r  what one read leaves of a line of which n bytes are there, in a buffer of so many bytes
 --     LineIn most r    the line that was read is within the buffer
 --     Assumes nothing.
-use mathlib.Core.Bool.{cond}
-use mathlib.Core.List.{List, [], _∷_}
 use Prim.Native.Nat.{ℕ, _≤_, _<_}
-use lib.Dec.{eqb}
 use Rattle.print_line.specs.declared.read.Got.{Got}
 use Rattle.print_line.specs.declared.read.Got.the-variants as Got
 use Rattle.print_line.specs.declared.read.Step.{Step}
 use Rattle.print_line.specs.declared.read.Step.the-variants as Step
-
-unfoldable pub untilNewline : List ℕ → List ℕ
-untilNewline [] = []
-untilNewline (b ∷ s) = cond (eqb b 10) [] (b ∷ untilNewline s)
 
 abbrev pub StepIn : ℕ → ℕ → Step → Type 0
 StepIn n most (Step.Ends k) = k ≤ most

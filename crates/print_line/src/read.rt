@@ -3,7 +3,8 @@
 ghost use mathlib.Core.Path.{_≡_};
 ghost use Prim.Native.Nat.{_+_, _≤_, _<_};
 ghost use lib.ListN.{length, drop};
-ghost use Rattle.print_line.specs.Line.{untilNewline, StepIn, LineIn};
+ghost use Rattle.vectors.specs.Until.{untilByte};
+ghost use Rattle.print_line.specs.Line.{StepIn, LineIn};
 
 // What was read: a line of so many bytes at the buffer's front.
 pub enum Got {
@@ -21,16 +22,9 @@ enum Step {
 // Where the line that goes on at an offset ends.
 pub fn line_end(s: &[u8], from: usize) -> usize
     requires { ⌜ from ≤ length (now s) ⌝ }
-    ensures { λ r. ⌜ (r ≡ from + length (untilNewline (drop from (now (s .entry))))) × (r ≤ length (now (s .entry))) ⌝ }
+    ensures { λ r. ⌜ (r ≡ from + length (untilByte 10 (drop from (now (s .entry))))) × (r ≤ length (now (s .entry))) ⌝ }
 {
-    let mut at = from;
-    while at < s.len() {
-        if s[at] == b'\n' {
-            return at;
-        }
-        at += 1;
-    }
-    at
+    vectors::until(s, from, b'\n')
 }
 
 // The same within the first bytes of a buffer.

@@ -2,19 +2,14 @@
 // hexadecimal, a space, and what is wrong with it. The answer goes to standard output with the same words, one line each.
 use table::shape::TableCheck;
 
-fn say(word: &[u8], n: u64) {
-    io::write_all(1, word);
-    io::print_decimal(1, n);
-}
-
 fn report(table: &[u8]) {
     let mut offs = [0u32; 256];
     let mut entries: usize = 0;
     match table_check::check_table(table, &mut offs, &mut entries) {
-        TableCheck::Table(shape) => say(b"table of ", shape.count as u64),
+        TableCheck::Table(shape) => vectors::say(b"table of ", shape.count as u64),
         TableCheck::Refused(number, at) => {
-            say(b"refused ", number as u64);
-            say(b" ", at as u64);
+            vectors::say(b"refused ", number as u64);
+            vectors::say(b" ", at as u64);
         }
     }
 }

@@ -42,22 +42,17 @@ fn take_apart(digits: &[u8], bytes: &mut [u8]) {
 fn show(line: &[u8]) {
     match text::check::check_line(line) {
         LineCheck::Chars(n) => {
-            say(b"chars ", n);
+            vectors::say(b"chars ", n as u64);
             each(line, n);
         }
-        LineCheck::IllFormed(at) => say(b"refused 2 ", at.0),
-        LineCheck::TooLong(at) => say(b"refused 3 ", at.0),
+        LineCheck::IllFormed(at) => vectors::say(b"refused 2 ", at.0 as u64),
+        LineCheck::TooLong(at) => vectors::say(b"refused 3 ", at.0 as u64),
     }
-}
-
-fn say(word: &[u8], n: usize) {
-    io::write_all(1, word);
-    io::print_decimal(1, n as u64);
 }
 
 // The character at an offset.
 fn show_char(line: &[u8], at: Offset) {
-    say(b" ", at.0);
+    vectors::say(b" ", at.0 as u64);
     io::write_all(1, b":");
     if let Seq::Char(c, _) = text::sequence::seq_at(line, at) {
         io::print_hex(1, c as u64, 1);

@@ -1,11 +1,13 @@
-// What the programs that replay vectors share: where a word or a line ends, and bytes written in hexadecimal.
-ghost use Prim.Native.Nat.{_≤_, _<_};
-ghost use lib.ListN.{length};
+// What the programs share: where a word or a line ends, bytes written in hexadecimal, a word and a number printed.
+ghost use mathlib.Core.Path.{_≡_};
+ghost use Prim.Native.Nat.{_+_, _≤_, _<_};
+ghost use lib.ListN.{length, drop};
+ghost use Rattle.vectors.specs.Until.{untilByte};
 
 // The offset of the first `stop` from an offset on, or the end.
 pub fn until(s: &[u8], from: usize, stop: u8) -> usize
     requires { ⌜ from ≤ length (now s) ⌝ }
-    ensures { λ r. ⌜ (from ≤ r) × (r ≤ length (now (s .entry))) ⌝ }
+    ensures { λ r. ⌜ (r ≡ from + length (untilByte stop (drop from (now (s .entry))))) × (r ≤ length (now (s .entry))) ⌝ }
 {
     let mut at = from;
     while at < s.len() {
@@ -44,4 +46,10 @@ pub fn unhex(digits: &[u8], out: &mut [u8]) -> usize
         n += 1;
     }
     n
+}
+
+// A word and a number, to standard output.
+pub fn say(word: &[u8], n: u64) {
+    io::write_all(1, word);
+    io::print_decimal(1, n);
 }

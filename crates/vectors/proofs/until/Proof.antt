@@ -1,37 +1,40 @@
--- `vectors::until` meets its contract: the loop stays within the bytes.
-use Prim.Native.Nat.{_≤_, _-_}
+-- `vectors::until` meets its contract. The loop's invariant: what is looked for stands where it does seen from here. The measure is what is left. Assumes
+-- nothing.
+use mathlib.Core.Path.{_≡_, refl, sym, _∙_}
+use Prim.Native.Nat.{_-_, _≤_}
 use native.Mathlib.Omega.{arith}
 use lib.ListN.{length}
+use Rattle.vectors.proofs.UntilLaws.{endFrom, end-here, end-later, end-none}
 use borrow.Author.Needs.{needs}
 use Rattle.vectors.proofs.until.Statement.{statement}
 use Rattle.vectors.proofs.until.Tie as tie
 
 abbrev Inv-loop : tie.InvT-loop
-Inv-loop s from stop at₀ at = (from ≤ at) × (at ≤ length s)
+Inv-loop s from stop at₀ at = (endFrom stop s at ≡ endFrom stop s from) × (at ≤ length s)
 
 abbrev μ-loop : tie.MeasureT-loop
 μ-loop s from stop at₀ at = length s - at
 
 loop-holds : tie.Need-loop-holds Inv-loop μ-loop
-loop-holds c = (omega arith, omega arith)
+loop-holds c = (refl, c .pre)
 
 shared-slice-read-if1 : tie.Need-shared-slice-read-if1 Inv-loop μ-loop
 shared-slice-read-if1 c = search needs
 
 returns : tie.Need-returns Inv-loop μ-loop
-returns c = (omega arith, omega arith)
+returns c = let l = c .before .before .before .loop in (end-here _ _ _ (c .before .before .loop-test .taken) (c .if1 .taken) ∙ l .inv .0, l .inv .1)
 
 add-at : tie.Need-add-at Inv-loop μ-loop
 add-at c = search needs
 
 loop-less : tie.Need-loop-less Inv-loop μ-loop
-loop-less c = omega arith
+loop-less c = search needs
 
 loop-again : tie.Need-loop-again Inv-loop μ-loop
-loop-again c = (omega arith, omega arith)
+loop-again c = let l = c .before .before .before .loop in let t = c .before .before .loop-test .taken in (sym (end-later _ _ _ t (c .if1 .left)) ∙ l .inv .0, omega arith)
 
 returns-2 : tie.Need-returns-2 Inv-loop μ-loop
-returns-2 c = (omega arith, omega arith)
+returns-2 c = let l = c .before .loop in (end-none _ _ _ (c .loop-test .left) ∙ l .inv .0, l .inv .1)
 
 pub until-spec : {M : Type 1} → statement M
 until-spec =

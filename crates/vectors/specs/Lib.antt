@@ -1,0 +1,2 @@
+-- The definitions of `vectors`.
+pub mod Until
