@@ -1,0 +1,43 @@
+// Walks listings edge by edge with `walker::nth`, past their end, and prints what it meets: places, map and the length of the txt of each edge, or the end. `stdout` has the expected answers, worked
+// out by hand from the scope.
+use walker::steps::Here;
+
+// What stands at a step.
+fn show(here: Here) {
+    match here {
+        Here::Edge(e) => {
+            vectors::say(b"edge ", e.start.0 as u64);
+            vectors::say(b" ", e.end.0 as u64);
+            vectors::say(b" ", e.map as u64);
+            vectors::say(b" ", e.txt.len as u64);
+            io::write_all(1, b"\n");
+        }
+        Here::End => {
+            io::write_all(1, b"end\n");
+        }
+    }
+}
+
+// The first n steps.
+fn walk(s: &[u8], n: usize) {
+    let mut i = 0;
+    while i < n {
+        show(walker::nth(s, i));
+        i += 1;
+    }
+}
+
+// Two edges: a regular one over place 0, and a numeric one with every field over places 1 and 2.
+fn listing() -> [u8; 76] {
+    *b"\x02\x00\x00\x00\x00\x00\x01\x00\x01\x00t\x01\x00x\xff\x01\x01\x00\x03\x00\x01\x00t\x02\x00xy\x01\x00o\x01\x00\x00\x00\x00\x00\xf8\x7f\x01\x00\x00\x00\x00\x00\x00\x00\x02\x00\x00\x00\x00\x00\x00\x00\x00\x00\x00\x00\x00\x00\x00\x00\xff\xff\xff\xff\xff\xff\xff\xff\x01\x00c\x01\x00v"
+}
+
+fn main() {
+    let s = listing();
+    walk(&s, 4); // both edges, then the end, and the end again
+    walk(&s[..75], 2); // the last byte is missing: the second edge is no edge
+    walk(&s[..13], 1); // the txt of the first edge is missing
+    walk(b"\x01\x00\x00\x00\x00\x00\x03\x00\x00\x00\x00\x00", 2); // an edge with empty strings
+    walk(b"\x05\x00", 1); // the count is not read
+    walk(b"", 1); // no count
+}
