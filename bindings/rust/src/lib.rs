@@ -98,7 +98,7 @@ pub fn add_numbers_into(line: &[u8], table: &[u8], edges: &[u8], work: &mut [u8]
     answer(status, at)
 }
 
-/// The offset in the listing of the best edge from place `start` to place `end`. `skip`: no numeric edge.
+/// The offset in the listing of the best edge from place `start` to place `end`, the first of its class in listing order. `skip`: no numeric edge.
 pub fn best_edge(line: &[u8], listing: &[u8], start: u64, end: u64, skip: bool) -> Result<Option<usize>, Refusal> {
     let mut at = 0;
     // SAFETY: as above.

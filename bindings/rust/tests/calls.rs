@@ -72,6 +72,30 @@ fn refusals() {
     assert_eq!(Refusal { cause: Cause::AboveTop, at: 3 }.to_string(), "a number that starts at place 3 is above 9,007,199,254,740,991");
 }
 
+/// A listing of regular edges: start, end, type and txt.
+fn regular(edges: &[(u16, u16, &str, &str)]) -> Vec<u8> {
+    let mut listing = (edges.len() as u16).to_le_bytes().to_vec();
+    for (start, end, kind, txt) in edges {
+        listing.extend([0, *start, *end].map(u16::to_le_bytes).concat());
+        for text in [kind, txt] {
+            listing.extend((text.len() as u16).to_le_bytes());
+            listing.extend(text.as_bytes());
+        }
+    }
+    listing
+}
+
+#[test]
+fn first_of_its_class() {
+    let listing = regular(&[(0, 1, "a", "x"), (0, 1, "rom", "y"), (0, 1, "num", "z"), (0, 1, "a", "w")]);
+    let second = edges(&listing).nth(1).unwrap().offset;
+    assert_eq!(best_edge(b"l", &listing, 0, 1, false).unwrap(), Some(second));
+    assert_eq!(right_neighbor(b"l", &listing, 0, true).unwrap(), Some(second));
+    assert_eq!(left_neighbor(b"l", &listing, 1, false).unwrap(), Some(second));
+    assert_eq!(shown_text(b"l", &listing, 0).unwrap(), b"y");
+    assert_eq!(edges(&path(b"l", &listing, 0, 1, false).unwrap()).map(|e| e.txt).collect::<Vec<_>>(), ["y"]);
+}
+
 #[test]
 fn reading() {
     let line = "x一万五".as_bytes();

@@ -25,7 +25,7 @@ use Rattle.edge.specs.Edge.{Text, Edge, Numeric, NumericFits}
 use Rattle.edge.specs.Check.{each, soundFraction, soundNumbers, soundNumeric, sound}
 use Rattle.paths.specs.declared.Query.the-variants.{Right, Left}
 use Rattle.paths.specs.Best.{Best, asked, score, best, numbered, leftNeighbor, rightNeighbor}
-use Rattle.paths.proofs.BestLaws.{Each, OfBest, best-holds, best-positive, score-asks, right-start}
+use Rattle.paths.proofs.BestLaws.{Each, OfBest, hold-more, best-holds, best-positive, score-asks, right-start}
 use Rattle.lattice.specs.Lattice.{addAll, turnOff}
 use Rattle.pass_list.specs.StoredEdge.{Every, nil, cons}
 use Rattle.numbers.specs.CallEdge.{Short, CallEdge, CallEdges}
@@ -202,10 +202,6 @@ hold-both : (P Q : ℕ × Edge → Type 0) (b : Best) → OfBest P b → OfBest 
 hold-both P Q none p q = tt
 hold-both P Q (some x) p q = (p, q)
 
-hold-more : (P Q : ℕ × Edge → Type 0) (b : Best) → ((x : ℕ × Edge) → P x → Q x) → OfBest P b → OfBest Q b
-hold-more P Q none f p = tt
-hold-more P Q (some x) f p = f x p
-
 each-numbered : (P : Edge → Type 0) (i : ℕ) (es : List Edge) → Every P es → Each (λ x. P (x .1)) (numbered i es)
 unfolding numbered
 each-numbered P i [] nil = tt
@@ -219,14 +215,14 @@ module _ {n : ℕ} (es : List Edge) (c : CallEdges n es) (p : ℕ) where
   right-holds : (q : ℕ) → p ≤ q → OfBest (λ x. CallEdge n (x .1) × (p ≤ x .1 .start)) (rightNeighbor false es q)
   right-holds q h =
       let place : Place = record { 0 = q } in
-      hold-both (λ x. CallEdge n (x .1)) (λ x. p ≤ x .1 .start) (rightNeighbor false es q) (best-holds (λ x. CallEdge n (x .1)) false (Right place) none (numbered 0 es) (each-numbered (CallEdge n) 0 es c) tt)
-      (hold-more (λ x. 0 < score false (Right place) (x .1)) (λ x. p ≤ x .1 .start) (rightNeighbor false es q) (λ x s. let e = right-start place (x .1 .start) (x .1 .end) (score-asks false (Right place) (x .1) s) in omega arith) (best-positive false (Right place) none (numbered 0 es) tt))
+      hold-both (λ x. CallEdge n (x .1)) (λ x. p ≤ x .1 .start) (rightNeighbor false es q) (best-holds false (Right place) (λ x. CallEdge n (x .1)) (numbered 0 es) (each-numbered (CallEdge n) 0 es c))
+      (hold-more (λ x. 0 < score false (Right place) (x .1)) (λ x. p ≤ x .1 .start) (rightNeighbor false es q) (λ x s. let e = right-start place (x .1 .start) (x .1 .end) (score-asks false (Right place) (x .1) s) in omega arith) (best-positive false (Right place) (numbered 0 es)))
 
   left-holds : OfBest (λ x. CallEdge n (x .1) × (x .1 .end ≡ p)) (leftNeighbor false es p)
   left-holds =
       let place : Place = record { 0 = p } in
-      hold-both (λ x. CallEdge n (x .1)) (λ x. x .1 .end ≡ p) (leftNeighbor false es p) (best-holds (λ x. CallEdge n (x .1)) false (Left place) none (numbered 0 es) (each-numbered (CallEdge n) 0 es c) tt)
-      (hold-more (λ x. 0 < score false (Left place) (x .1)) (λ x. x .1 .end ≡ p) (leftNeighbor false es p) (λ x s. left-end place (x .1 .start) (x .1 .end) (score-asks false (Left place) (x .1) s)) (best-positive false (Left place) none (numbered 0 es) tt))
+      hold-both (λ x. CallEdge n (x .1)) (λ x. x .1 .end ≡ p) (leftNeighbor false es p) (best-holds false (Left place) (λ x. CallEdge n (x .1)) (numbered 0 es) (each-numbered (CallEdge n) 0 es c))
+      (hold-more (λ x. 0 < score false (Left place) (x .1)) (λ x. x .1 .end ≡ p) (leftNeighbor false es p) (λ x s. left-end place (x .1 .start) (x .1 .end) (score-asks false (Left place) (x .1) s)) (best-positive false (Left place) (numbered 0 es)))
 
   marked-call : n ≤ 256 → (percent : Bool) (k : ℕ) → MadeCall n (marked percent es p k)
   unfolding marked

@@ -25,7 +25,7 @@ use Rattle.edge.specs.Edge.{Text, Edge, Numeric, f64Bits, str, headBytes, edgeB
 use Rattle.edge.specs.Layout.{edgesAt, nextAt, edgeAt, stringEnd}
 use Rattle.edge.specs.Check.{checkListing, checkEdges, good}
 use Rattle.lattice.specs.Lattice.{sameKey, has, add, addAll, inactive, turnOffAt, turnOff, overfull}
-use Rattle.paths.specs.Best.{startsWith, regularClass, class, asked, score, bestFrom, numbered}
+use Rattle.paths.specs.Best.{startsWith, regularClass, class, asked, score, highest, firstOf, best, numbered}
 use Rattle.grammar.specs.Plain.{plain, plainRecords, plainRecord}
 use Rattle.numbers.specs.Listed.{listedEdge, wholeValue}
 use Rattle.numbers.specs.Fractions.{standsAt, longest, markerAt, fractionEdge, marked, outcomeAt, outcomesFrom, newEdges, usedEdges, fractions}
@@ -43,7 +43,7 @@ pub example : map row (latticeOf plain (0x767E ∷ 0x5206 ∷ 0x4E4B ∷ 0x4E94 
     ≡ (0, 1, 98 ∷ 97 ∷ 115 ∷ 101 ∷ [], 49 ∷ 48 ∷ 48 ∷ [], some false)
     ∷ (3, 4, 100 ∷ 105 ∷ 103 ∷ 105 ∷ 116 ∷ [], 53 ∷ [], some false)
     ∷ (0, 4, 112 ∷ 101 ∷ 114 ∷ 99 ∷ 101 ∷ 110 ∷ 116 ∷ 97 ∷ 103 ∷ 101 ∷ [], 53 ∷ 37 ∷ [], none) ∷ []
-unfolding latticeOf afterPasses afterSigns fractions outcomesFrom outcomeAt marked markerAt longest standsAt newEdges usedEdges fractionEdge signs signed separate copies copyOf apart endsBefore fallback covered f64Bits listedEdge wholeValue startsWith regularClass class asked score bestFrom numbered sameKey has add addAll inactive turnOffAt turnOff plain plainRecords plainRecord through addedBy after added chainsOf joinedOf next joined over overDigits d1Rule g1Rule g2Rule g3Rule g4Rule digitEdge gap nearest begin longer retags countedValue countedBase powerOfTen powerWithin charEdges charEdge lowest gcd gcdWithin from chains firstIsDigit lastIsDigit isDigit inRuns starts decimal decimalWithin ofNat seq encode chars decode encodes same find toBits ofBits ofInt toUnsigned
+unfolding latticeOf afterPasses afterSigns fractions outcomesFrom outcomeAt marked markerAt longest standsAt newEdges usedEdges fractionEdge signs signed separate copies copyOf apart endsBefore fallback covered f64Bits listedEdge wholeValue startsWith regularClass class asked score highest firstOf best numbered sameKey has add addAll inactive turnOffAt turnOff plain plainRecords plainRecord through addedBy after added chainsOf joinedOf next joined over overDigits d1Rule g1Rule g2Rule g3Rule g4Rule digitEdge gap nearest begin longer retags countedValue countedBase powerOfTen powerWithin charEdges charEdge lowest gcd gcdWithin from chains firstIsDigit lastIsDigit isDigit inRuns starts decimal decimalWithin ofNat seq encode chars decode encodes same find toBits ofBits ofInt toUnsigned
 example = refl
 
 -- the empty table

@@ -1,16 +1,17 @@
 -- Laws of classes, scores and the best edge (`specs/Best.antt`), for this crate's proofs and its callers'. No contract cites this file.
--- In order: prefixes; classes; scores; edges within their listing; a walk that keeps the best; what holds of the best. Assumes nothing.
+-- In order: prefixes; classes; scores; edges within their listing; what holds of each edge, and of the best; the walk that ends with the best; its turns over a
+-- listing. Assumes nothing.
 use mathlib.Core.Path.{_≡_, refl, sym, ap, _∙_}
 use mathlib.Core.Bool.{Bool, true, false, cond, not, _||_}
-use mathlib.Core.List.{List, [], _∷_}
+use mathlib.Core.List.{List, [], _∷_, _++_}
 use mathlib.Core.Option.{Option, none, some}
-use Prim.Native.Nat.{ℕ, zero, suc, _+_, _-_, _*_, _≤_, _<_}
-use native.Mathlib.Nat.{add-sub-cancel-left}
+use Prim.Native.Nat.{ℕ, zero, suc, _+_, _-_, _*_, _≤_, _<_, max}
+use native.Mathlib.Nat.{add-sub-cancel-left, max-le, max-eq-left, max-eq-right}
 use native.Mathlib.Omega.{arith}
 use lib.ListN.{length, take, drop}
 use lib.Seq.{take-all, take-take}
 use lib.Dec.{eqb, ltb}
-use borrow.Author.Tests.{lt-ltb, le-ltb, ltb-true, ne-eqb, eqb-true, not-true, not-false}
+use borrow.Author.Tests.{lt-ltb, le-ltb, ltb-true, ltb-false, eq-eqb, ne-eqb, eqb-true, not-true, not-false}
 use Rattle.text.specs.Bytes.{same}
 use Rattle.text.proofs.BytesLaws.{same-lengths}
 use Rattle.text.proofs.RowLaws.{cond-cases}
@@ -28,7 +29,7 @@ use Rattle.paths.specs.declared.Query.{Query}
 use Rattle.paths.specs.declared.Query.the-variants.{Right}
 use Rattle.paths.specs.declared.Found.{Found}
 use Rattle.paths.specs.declared.Found.the-variants.{At, Nothing}
-use Rattle.paths.specs.Best.{startsWith, rom, romDecomp, num, regularClass, classBy, class, asked, rank, score, Best, scored, better, bestFrom, best, withOffsets, Whole, found, kept}
+use Rattle.paths.specs.Best.{startsWith, rom, romDecomp, num, regularClass, classBy, class, asked, rank, score, Best, highest, firstOf, best, withOffsets, Whole, found, kept}
 
 -- ---- prefixes: of a text of n bytes at an offset
 module _ (s : List ℕ) (at n : ℕ) (p : Text) where
@@ -158,7 +159,131 @@ module _ (s : List ℕ) (at k : ℕ) (h : 0 < k) (w : Whole k s at) where
 pub head-bytes : (s : List ℕ) (at n : ℕ) → nextAt s at ≤ n → at + 10 ≤ n
 head-bytes s at n h = omega (arith, head-within s at n h, string-end-ge s (at + 6), string-end-ge s (txtAt s at))
 
--- ---- a walk that keeps the best: its score top, 0 for none, and its offset x
+-- ---- what holds of each edge
+abbrev pub Each : (ℕ × Edge → Type 0) → List (ℕ × Edge) → Type 0
+Each P [] = Unit {0}
+Each P (x ∷ xs) = P x × Each P xs
+
+pub each-map : (P Q : ℕ × Edge → Type 0) → ((x : ℕ × Edge) → P x → Q x) → (xs : List (ℕ × Edge)) → Each P xs → Each Q xs
+each-map P Q f [] e = tt
+each-map P Q f (x ∷ xs) e = (f x (e .0), each-map P Q f xs (e .1))
+
+pub each-append : (P : ℕ × Edge → Type 0) (xs ys : List (ℕ × Edge)) → Each P xs → Each P ys → Each P (xs ++ ys)
+each-append P [] ys e f = f
+each-append P (x ∷ xs) ys e f = (e .0, each-append P xs ys (e .1) f)
+
+-- and of the best, which is one of them
+abbrev pub OfBest : (ℕ × Edge → Type 0) → Best → Type 0
+OfBest P none = Unit {0}
+OfBest P (some x) = P x
+
+pub hold-more : (P Q : ℕ × Edge → Type 0) (b : Best) → ((x : ℕ × Edge) → P x → Q x) → OfBest P b → OfBest Q b
+hold-more P Q none f h = tt
+hold-more P Q (some x) f h = f x h
+
+module _ (skip : Bool) (q : Query) where
+  first-holds : (P : ℕ × Edge → Type 0) (v : ℕ) (xs : List (ℕ × Edge)) → Each P xs → OfBest P (firstOf skip q v xs)
+  unfolding firstOf
+  first-holds P v [] e = tt
+  first-holds P v (x ∷ xs) e = cond-cases (OfBest P) (eqb (score skip q (x .1)) v) (λ t. e .0) (λ t. first-holds P v xs (e .1))
+
+  first-scores : (v : ℕ) (xs : List (ℕ × Edge)) → OfBest (λ x. score skip q (x .1) ≡ v) (firstOf skip q v xs)
+  unfolding firstOf
+  first-scores v [] = tt
+  first-scores v (x ∷ xs) =
+      cond-cases (OfBest (λ y. score skip q (y .1) ≡ v)) (eqb (score skip q (x .1)) v) (λ t. eqb-true (score skip q (x .1)) v t) (λ t. first-scores v xs)
+
+  pub best-holds : (P : ℕ × Edge → Type 0) (xs : List (ℕ × Edge)) → Each P xs → OfBest P (best skip q xs)
+  unfolding best
+  best-holds P xs e = cond-cases (OfBest P) (ltb 0 (highest skip q xs)) (λ t. first-holds P (highest skip q xs) xs e) (λ t. tt)
+
+  -- the best scores above 0, so it is one of those asked for
+  pub best-positive : (xs : List (ℕ × Edge)) → OfBest (λ x. 0 < score skip q (x .1)) (best skip q xs)
+  unfolding best
+  best-positive xs =
+      let v = highest skip q xs in
+      cond-cases (OfBest (λ x. 0 < score skip q (x .1))) (ltb 0 v)
+      (λ t. hold-more (λ x. score skip q (x .1) ≡ v) (λ x. 0 < score skip q (x .1)) (firstOf skip q v xs) (λ x e. rw e (ltb-true 0 v t)) (first-scores v xs)) (λ t. tt)
+
+pub score-asks : (skip : Bool) (q : Query) (e : Edge) → 0 < score skip q e → asked q (e .start) (e .end) ≡ true
+unfolding score
+score-asks skip q e = by-asked (asked q (e .start) (e .end)) refl
+  where
+    by-asked : (t : Bool) → asked q (e .start) (e .end) ≡ t → 0 < cond t (rank (class skip e) (e .end - e .start)) 0 → asked q (e .start) (e .end) ≡ true
+    by-asked true t h = t
+    by-asked false t h = absurd (omega arith)
+
+pub right-start : (p : Place) (a z : ℕ) → asked (Right p) a z ≡ true → a ≡ p .0
+unfolding asked
+right-start p a z t = eqb-true a (p .0) t
+
+pub right-elsewhere : (skip : Bool) (p : ℕ) (e : Edge) → (p ≡ e .start → ⊥) → 0 ≡ score skip (Right (record { 0 = p })) e
+unfolding asked
+right-elsewhere skip p e n = score-not-asked skip (Right (record { 0 = p })) e (ne-eqb (e .start) p (λ h. n (sym h)))
+
+-- ---- a walk that keeps the best of the edges seen: an edge takes the place of the one held where it scores higher
+abbrev pub scored : Bool → Query → Best → ℕ
+scored skip q none = 0
+scored skip q (some x) = score skip q (x .1)
+
+abbrev pub better : Bool → Query → Best → ℕ × Edge → Best
+better skip q held x = cond (ltb (scored skip q held) (score skip q (x .1))) (some x) held
+
+unfoldable pub bestFrom : Bool → Query → Best → List (ℕ × Edge) → Best
+bestFrom skip q held [] = held
+bestFrom skip q held (x ∷ xs) = bestFrom skip q (better skip q held x) xs
+
+-- a turn: held scores v, the edge here s, and h is the highest score of the later ones, of which m is first by score
+module _ {A : Type 0} (v s h : ℕ) (held here : A) (later : ℕ → A) where
+  abbrev with-here : A
+  with-here = cond (ltb v (max s h)) (cond (eqb s (max s h)) here (later (max s h))) held
+
+  here-taken : v < s → cond (ltb s h) (later h) here ≡ with-here
+  here-taken l = by-test (ltb s h) refl
+    where
+      by-test : (t : Bool) → ltb s h ≡ t → cond t (later h) here ≡ with-here
+      by-test true t =
+          let k = ltb-true s h t in
+          let m : max s h ≡ h = max-eq-right (omega arith) in
+          rw (m, lt-ltb v h (omega arith), ne-eqb s h (λ e. omega arith))
+      by-test false t =
+          let k = ltb-false s h t in
+          let m : max s h ≡ s = max-eq-left (omega arith) in
+          rw (m, lt-ltb v s l, eq-eqb s s refl)
+
+  here-passed : s ≤ v → cond (ltb v h) (later h) held ≡ with-here
+  here-passed l = by-test (ltb v h) refl
+    where
+      by-test : (t : Bool) → ltb v h ≡ t → cond t (later h) held ≡ with-here
+      by-test true t =
+          let k = ltb-true v h t in
+          let m : max s h ≡ h = max-eq-right (omega arith) in
+          rw (m, lt-ltb v h k, ne-eqb s h (λ e. omega arith))
+      by-test false t = let k = ltb-false v h t in rw (le-ltb v (max s h) (max-le l k))
+
+-- it ends with the first of the highest score, where that is above what was held
+module _ (skip : Bool) (q : Query) where
+  abbrev chosen : Best → List (ℕ × Edge) → Best
+  chosen held xs = cond (ltb (scored skip q held) (highest skip q xs)) (firstOf skip q (highest skip q xs) xs) held
+
+  chosen-turn : (held : Best) (x : ℕ × Edge) (xs : List (ℕ × Edge)) → chosen (better skip q held x) xs ≡ chosen held (x ∷ xs)
+  unfolding highest firstOf
+  chosen-turn held x xs = by-test (ltb (scored skip q held) (score skip q (x .1))) refl
+    where
+      by-test : (t : Bool) → ltb (scored skip q held) (score skip q (x .1)) ≡ t → chosen (cond t (some x) held) xs ≡ chosen held (x ∷ xs)
+      by-test true t = here-taken (scored skip q held) (score skip q (x .1)) (highest skip q xs) held (some x) (λ v. firstOf skip q v xs) (ltb-true _ _ t)
+      by-test false t = here-passed (scored skip q held) (score skip q (x .1)) (highest skip q xs) held (some x) (λ v. firstOf skip q v xs) (ltb-false _ _ t)
+
+  walk-chosen : (held : Best) (xs : List (ℕ × Edge)) → bestFrom skip q held xs ≡ chosen held xs
+  unfolding bestFrom highest firstOf
+  walk-chosen held [] = rw (le-ltb (scored skip q held) 0 (omega arith))
+  walk-chosen held (x ∷ xs) = walk-chosen (better skip q held x) xs ∙ chosen-turn held x xs
+
+  pub best-walk : (xs : List (ℕ × Edge)) → bestFrom skip q none xs ≡ best skip q xs
+  unfolding best
+  best-walk xs = walk-chosen none xs
+
+-- ---- the walk over a listing: the best is kept by its score top, 0 for none, and its offset x
 -- left edges from the offset at on are still to be seen, of count from first on
 pub record Walk (skip : Bool) (q : Query) (s : List ℕ) (first count at left top x : ℕ) : Type 0 where
   pub whole : Whole left s at
@@ -166,7 +291,7 @@ pub record Walk (skip : Bool) (q : Query) (s : List ℕ) (first count at left to
   pub so-far : bestFrom skip q (kept s top x) (withOffsets left s at) ≡ best skip q (withOffsets count s first)
 
 pub walk-start : (skip : Bool) (q : Query) (s : List ℕ) (first count : ℕ) → Whole count s first → Walk skip q s first count first count 0 0
-walk-start skip q s first count w = record { whole = w; value = refl; so-far = refl }
+walk-start skip q s first count w = record { whole = w; value = refl; so-far = best-walk skip q (withOffsets count s first) }
 
 module _ (skip : Bool) (q : Query) (s : List ℕ) (first count at left top x : ℕ) (w : Walk skip q s first count at left top x) where
   module _ (some-left : 0 < left) {v : ℕ} (is : v ≡ score skip q (edgeAt s at)) where
@@ -211,44 +336,3 @@ module _ (skip : Bool) (q : Query) (s : List ℕ) (first count at left top x : �
     pub walk-found : (top ≡ 0 → ⊥) → At (record { 0 = x }) ≡ found (best skip q (withOffsets count s first))
     unfolding found
     walk-found n = rw (← walk-ends, lt-ltb 0 top (omega arith))
-
--- ---- what holds of each edge, and of what is kept, holds of the best
-abbrev pub Each : (ℕ × Edge → Type 0) → List (ℕ × Edge) → Type 0
-Each P [] = Unit {0}
-Each P (x ∷ xs) = P x × Each P xs
-
-abbrev pub OfBest : (ℕ × Edge → Type 0) → Best → Type 0
-OfBest P none = Unit {0}
-OfBest P (some x) = P x
-
-pub best-holds : (P : ℕ × Edge → Type 0) (skip : Bool) (q : Query) (held : Best) (xs : List (ℕ × Edge)) → Each P xs → OfBest P held → OfBest P (bestFrom skip q held xs)
-unfolding bestFrom
-best-holds P skip q held [] e h = h
-best-holds P skip q held (x ∷ xs) e h =
-    best-holds P skip q (better skip q held x) xs (e .1)
-    (cond-cases (OfBest P) (ltb (scored skip q held) (score skip q (x .1))) (λ t. e .0) (λ t. h))
-
--- the best scores above 0, so it is one of those asked for
-pub best-positive : (skip : Bool) (q : Query) (held : Best) (xs : List (ℕ × Edge)) → OfBest (λ x. 0 < score skip q (x .1)) held → OfBest (λ x. 0 < score skip q (x .1)) (bestFrom skip q held xs)
-unfolding bestFrom
-best-positive skip q held [] h = h
-best-positive skip q held (x ∷ xs) h =
-    best-positive skip q (better skip q held x) xs
-    (cond-cases (OfBest (λ y. 0 < score skip q (y .1))) (ltb (scored skip q held) (score skip q (x .1)))
-    (λ t. omega (arith, ltb-true (scored skip q held) (score skip q (x .1)) t)) (λ t. h))
-
-pub score-asks : (skip : Bool) (q : Query) (e : Edge) → 0 < score skip q e → asked q (e .start) (e .end) ≡ true
-unfolding score
-score-asks skip q e = by-asked (asked q (e .start) (e .end)) refl
-  where
-    by-asked : (t : Bool) → asked q (e .start) (e .end) ≡ t → 0 < cond t (rank (class skip e) (e .end - e .start)) 0 → asked q (e .start) (e .end) ≡ true
-    by-asked true t h = t
-    by-asked false t h = absurd (omega arith)
-
-pub right-start : (p : Place) (a z : ℕ) → asked (Right p) a z ≡ true → a ≡ p .0
-unfolding asked
-right-start p a z t = eqb-true a (p .0) t
-
-pub right-elsewhere : (skip : Bool) (p : ℕ) (e : Edge) → (p ≡ e .start → ⊥) → 0 ≡ score skip (Right (record { 0 = p })) e
-unfolding asked
-right-elsewhere skip p e n = score-not-asked skip (Right (record { 0 = p })) e (ne-eqb (e .start) p (λ h. n (sym h)))

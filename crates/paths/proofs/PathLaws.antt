@@ -1,5 +1,5 @@
 -- Laws of the path (`specs/Path.antt`) and of the loops that size and write it. No contract cites this file.
--- In order: a step of a path; its length; its size; its bytes; the whole output. Assumes nothing.
+-- In order: what holds of its edges; a step of a path; its length; its size; its bytes; the whole output. Assumes nothing.
 use mathlib.Core.Path.{_≡_, refl, sym, ap, _∙_}
 use mathlib.Core.Bool.{Bool, true, false, cond}
 use mathlib.Core.List.{List, [], _∷_, _++_, append-assoc, append-nil}
@@ -36,6 +36,21 @@ use Rattle.paths.specs.Best.{Best, kept}
 use Rattle.paths.specs.Path.{passed, onward, pathFrom, path, edgePart, edgeParts, pathListing, rights, PathOut, listing, refused, fitting, pathOut, written, after}
 use Rattle.paths.specs.Reading.{readCheck, inside}
 use Rattle.paths.specs.Table.{byTable, Rights, Step, Steps, hopOf, sizeOf}
+use Rattle.paths.proofs.BestLaws.{Each, each-append, OfBest}
+
+-- ---- what holds of every right neighbour holds of each edge of a path
+module _ (P : ℕ × Edge → Type 0) (right : ℕ → Best) (h : (p : ℕ) → OfBest P (right p)) (z : ℕ) where
+  passed-each : (b : Best) → OfBest P b → Each P (passed b)
+  passed-each none h = tt
+  passed-each (some x) h = (h, tt)
+
+  pub path-each : (k p : ℕ) → Each P (pathFrom right k p z)
+  unfolding pathFrom
+  path-each zero p = tt
+  path-each (suc k) p =
+      cond-cases (Each P) (ltb p z)
+      (λ t. each-append P (passed (right p)) (pathFrom right k (onward p (right p)) z) (passed-each (right p) (h p)) (path-each k (onward p (right p))))
+      (λ t. tt)
 
 -- ---- a step of a path
 module _ (right : ℕ → Best) (z : ℕ) (progress : (p : ℕ) → p < z → p < onward p (right p)) where

@@ -129,7 +129,7 @@ spans-each n zero s at h = tt
 spans-each n (suc k) s at h = (record { edge = refl; span = h .0 }, spans-each n k s (nextAt s at) (h .1))
 
 pub best-listed : (skip : Bool) (q : Query) (n k : ℕ) (s : List ℕ) (at : ℕ) → Spans n k s at → OfBest (Listed n s) (best skip q (withOffsets k s at))
-best-listed skip q n k s at h = best-holds (Listed n s) skip q none (withOffsets k s at) (spans-each n k s at h) tt
+best-listed skip q n k s at h = best-holds skip q (Listed n s) (withOffsets k s at) (spans-each n k s at h)
 
 pub found-head : (skip : Bool) (q : Query) (n k : ℕ) (s : List ℕ) (at : ℕ) {o : Offset} → Spans n k s at → found (best skip q (withOffsets k s at)) ≡ At o → headEnd s (o .0) ≤ length s
 unfolding found

@@ -105,7 +105,7 @@ kept-some : (s : List ℕ) (top x : ℕ) → 0 < top → kept s top x ≡ some (
 kept-some s top x h = rw (lt-ltb 0 top h)
 
 pub rights-steps : (skip : Bool) (s : List ℕ) (k : ℕ) (tops ats : List ℕ) → Spans 256 k s 2 → Rights skip s k tops ats → Steps s tops ats
-rights-steps skip s k tops ats w r p h t = step (rights skip s k p) (best-listed skip (Right (record { 0 = p })) 256 k s 2 w) (best-positive skip (Right (record { 0 = p })) none (withOffsets k s 2) tt) (sym (r p h) ∙ kept-some s (getD tops p 0) (getD ats p 0) t)
+rights-steps skip s k tops ats w r p h t = step (rights skip s k p) (best-listed skip (Right (record { 0 = p })) 256 k s 2 w) (best-positive skip (Right (record { 0 = p })) (withOffsets k s 2)) (sym (r p h) ∙ kept-some s (getD tops p 0) (getD ats p 0) t)
   where
     step : (b : Best) → OfBest (Listed 256 s) b → OfBest (λ x. 0 < score skip (Right (record { 0 = p })) (x .1)) b → b ≡ some (getD ats p 0, edgeAt s (getD ats p 0)) → Step s p (getD ats p 0)
     step b l f e =

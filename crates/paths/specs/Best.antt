@@ -1,16 +1,18 @@
--- The best edge of a span and the neighbours of a place (01, "The rest of the call"). Definitions only.
+-- The best edge of a span and the neighbours of a place (01, "The rest of the call"; 02, S-5). Definitions only.
 --     startsWith t p       the text t begins with p
 --     class skip e         the class of an edge, the best one the greatest; 0: it is never given
 --     asked q a z          an edge from a to z is of the span that q asks for, or starts or ends at its place
 --     score skip q e       a longer span scores higher, then a better class; 0: e is no answer
---     best skip q xs       of edges with labels, the first of the highest score; none where each scores 0
+--     highest skip q xs    the class: the highest score of the edges xs; 0 where each scores 0
+--     firstOf skip q v xs  the choice: of the edges xs the first in listing order that scores v
+--     best skip q xs       of edges with labels, the first of its class; none where each scores 0
 --     numbered i es        the edges es with their indices, from i on, as labels
 --     rightNeighbor ..     the best of a list of edges, with its index; leftNeighbor likewise
 --     withOffsets k s at   the k edges of a listing from an offset on, with their offsets as labels
 --     Whole k s at         these edges are within s
 --     found b              the answer of the code: the label, an offset, or none
--- Where 01 lets any edge of a class be given, this is the first. Assumes nothing.
-use Prim.Native.Nat.{ℕ, zero, suc, _+_, _-_, _*_, _≤_}
+-- Assumes nothing.
+use Prim.Native.Nat.{ℕ, zero, suc, _+_, _-_, _*_, _≤_, max}
 use mathlib.Core.Bool.{Bool, cond, _&&_, _||_}
 use mathlib.Core.List.{List, [], _∷_}
 use mathlib.Core.Option.{Option, none, some}
@@ -69,20 +71,18 @@ score skip q e = cond (asked q (e .start) (e .end)) (rank (class skip e) (e .end
 abbrev pub Best : Type 0
 Best = Option (ℕ × Edge)
 
-abbrev pub scored : Bool → Query → Best → ℕ
-scored skip q none = 0
-scored skip q (some x) = score skip q (x .1)
+-- the class: edges of one score have one length and one class, and the highest score is that of the longest span and there of the best class
+unfoldable pub highest : Bool → Query → List (ℕ × Edge) → ℕ
+highest skip q [] = 0
+highest skip q (x ∷ xs) = max (score skip q (x .1)) (highest skip q xs)
 
--- an edge takes the place of the one held where it scores higher
-abbrev pub better : Bool → Query → Best → ℕ × Edge → Best
-better skip q held x = cond (ltb (scored skip q held) (score skip q (x .1))) (some x) held
+-- the choice (02, S-5): "the first of its class in listing order, where 01 lets any of them be given"
+unfoldable pub firstOf : Bool → Query → ℕ → List (ℕ × Edge) → Best
+firstOf skip q v [] = none
+firstOf skip q v (x ∷ xs) = cond (eqb (score skip q (x .1)) v) (some x) (firstOf skip q v xs)
 
-unfoldable pub bestFrom : Bool → Query → Best → List (ℕ × Edge) → Best
-bestFrom skip q held [] = held
-bestFrom skip q held (x ∷ xs) = bestFrom skip q (better skip q held x) xs
-
-abbrev pub best : Bool → Query → List (ℕ × Edge) → Best
-best skip q xs = bestFrom skip q none xs
+unfoldable pub best : Bool → Query → List (ℕ × Edge) → Best
+best skip q xs = cond (ltb 0 (highest skip q xs)) (firstOf skip q (highest skip q xs) xs) none
 
 -- ---- of a list of edges
 unfoldable pub numbered : ℕ → List Edge → List (ℕ × Edge)

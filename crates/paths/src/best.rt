@@ -10,7 +10,7 @@ use crate::Query;
 use text::Offset;
 use text::Place;
 
-// The best of so many edges from an offset on. One walk over them.
+// The best of so many edges from an offset on, the first of its class (02, S-5). One walk over them.
 pub fn best_of(s: &[u8], first: usize, count: usize, q: Query, skip: bool) -> Found
     requires { ⌜ Whole count (now s) first ⌝ }
     ensures { λ r. ⌜ r ≡ found (best skip q (withOffsets count (now (s .entry)) first)) ⌝ }

@@ -45,7 +45,7 @@ pub enum PathAnswer {
     Refused(ReadRefusal),
 }
 
-// What best edge and neighbours answer.
+// What a call for one edge answers: its offset, or none, or a refusal.
 pub enum EdgeAnswer {
     Best(Found),
     Refused(ReadRefusal),

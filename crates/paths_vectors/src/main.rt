@@ -1,4 +1,4 @@
-// Reads a listing written by hand, over the line ab五. `stdout` has the answers, worked out by hand from 01.
+// Reads two listings written by hand, over the line ab五. `stdout` has the answers, worked out by hand from 01 and 02 (S-5).
 use answers::CStatus;
 use paths::Query;
 use paths::Shown;
@@ -136,10 +136,42 @@ fn all<'a>(line: &'a [u8], listing: &'a [u8]) {
     refusals(line, listing);
 }
 
-// The listing has eight edges. Over ab: "x", "rom decomp", "num" and "romdecomp", regular; D1, inactive; G1, active. Over the line: G4, inactive. Over b: "Rom", regular.
+// A path into an output just long enough, and what its listing shows.
+fn shown_along(line: &[u8], listing: &[u8]) {
+    let mut out = [0u8; 32];
+    path(line, listing, 0, 3, false, &mut out);
+    shown(line, &out, 0);
+    shown(line, &out, 2);
+}
+
+// Several edges of each class: the first of its class in listing order is given.
+fn several<'a>(line: &'a [u8], listing: &'a [u8]) {
+    best(line, listing, 0, 2, false);
+    best(line, listing, 0, 2, true);
+    best(line, listing, 0, 1, false);
+    best(line, listing, 1, 2, false);
+    best(line, listing, 2, 3, false);
+    best(line, listing, 2, 3, true);
+    right(line, listing, 0, false);
+    right(line, listing, 0, true);
+    left(line, listing, 2, false);
+    left(line, listing, 3, false);
+    shown(line, listing, 0);
+    shown(line, listing, 1);
+    shown(line, listing, 2);
+    shown_along(line, listing);
+}
+
+// The first listing has eight edges. Over ab: "x", "rom decomp", "num" and "romdecomp", regular; D1, inactive; G1, active. Over the line: G4, inactive. Over b: "Rom", regular.
+// The second has fourteen, the worse classes first. Over ab: D1, inactive; "x"; "num", then "rom"; G1, then G2, active. Over a: "x"; "rom decomp" twice. Over b: D1,
+// inactive; "y", then "x". Over 五: G1 twice, inactive.
 fn main() {
     all(
         b"ab\xe4\xba\x94",
         b"\x08\x00\x00\x00\x00\x00\x02\x00\x01\x00x\x01\x00q\x00\x00\x00\x00\x02\x00\x0a\x00rom decomp\x01\x00d\x00\x00\x00\x00\x02\x00\x03\x00num\x01\x00n\x00\x00\x00\x00\x02\x00\x09\x00romdecomp\x01\x00r\x01\x00\x00\x00\x02\x00\x02\x00D1\x01\x001\x02\x00ab\x81\x00\x00\x00\x02\x00\x02\x00G1\x01\x002\x02\x00ab\x01\x00\x00\x00\x03\x00\x02\x00G4\x02\x0030\x05\x00ab\xe4\xba\x94\x00\x00\x01\x00\x02\x00\x03\x00Rom\x01\x00o",
+    );
+    several(
+        b"ab\xe4\xba\x94",
+        b"\x0e\x00\x01\x00\x00\x00\x02\x00\x02\x00D1\x01\x00i\x00\x00\x00\x00\x00\x00\x02\x00\x01\x00x\x01\x00o\x00\x00\x00\x00\x02\x00\x03\x00num\x01\x00n\x00\x00\x00\x00\x02\x00\x03\x00rom\x01\x00r\x81\x00\x00\x00\x02\x00\x02\x00G1\x01\x001\x00\x00\x81\x00\x00\x00\x02\x00\x02\x00G2\x01\x002\x00\x00\x00\x00\x00\x00\x01\x00\x01\x00x\x01\x00o\x00\x00\x00\x00\x01\x00\x0a\x00rom decomp\x01\x00d\x00\x00\x00\x00\x01\x00\x0a\x00rom decomp\x01\x00e\x01\x00\x01\x00\x02\x00\x02\x00D1\x01\x00i\x00\x00\x00\x00\x01\x00\x02\x00\x01\x00y\x01\x00y\x00\x00\x01\x00\x02\x00\x01\x00x\x01\x00x\x01\x00\x02\x00\x03\x00\x02\x00G1\x01\x003\x00\x00\x01\x00\x02\x00\x03\x00\x02\x00G1\x01\x004\x00\x00",
     );
 }

@@ -10,7 +10,7 @@ use paths::Query;
 use paths::ReadCheck;
 use paths::ReadRefusal;
 
-// The best edge of what is asked for, a span or the right or left neighbour of a place; skip: no numeric one.
+// The best edge of what is asked for, a span or the right or left neighbour of a place, the first of its class in listing order; skip: no numeric one.
 pub fn best_edge(line: &[u8], listing: &[u8], q: Query, skip: bool) -> EdgeAnswer
     ensures { λ r. ⌜ r ≡ answer (now (line .entry)) (now (listing .entry)) q skip ⌝ }
 {

@@ -39,7 +39,7 @@ numbered-below n j (e ∷ es) h = (omega arith, numbered-below n (suc j) es (ome
 pub kept-below : (right : Bool) (es : List Edge) (table : List ℕ) → Neighbors right es table → (p : ℕ) → p ≤ 256 → getD table p 0 ≤ length es
 unfolding Below
 kept-below right es table t p h =
-    by-number (getD table p 0) (rw (t .at p h) (best-holds (Below (length es)) false (sideOf right p) none (numbered 0 es) (numbered-below (length es) 0 es (omega arith)) tt))
+    by-number (getD table p 0) (rw (t .at p h) (best-holds false (sideOf right p) (Below (length es)) (numbered 0 es) (numbered-below (length es) 0 es (omega arith))))
   where
     by-number : (x : ℕ) → OfBest (Below (length es)) (keptOf es x) → x ≤ length es
     by-number zero b = omega arith

@@ -20,8 +20,8 @@ use Rattle.lattice.specs.Kept.{noEdge, offset}
 use Rattle.lattice.proofs.HoldsLaws.{kept-of}
 use Rattle.paths.specs.declared.Query.{Query}
 use Rattle.paths.specs.declared.Query.the-variants.{Left}
-use Rattle.paths.specs.Best.{asked, score, Best, scored, better, bestFrom, best, numbered}
-use Rattle.paths.proofs.BestLaws.{head-bytes, score-not-asked, right-elsewhere}
+use Rattle.paths.specs.Best.{asked, score, Best, best, numbered}
+use Rattle.paths.proofs.BestLaws.{head-bytes, score-not-asked, right-elsewhere, scored, better, bestFrom, best-walk}
 use Rattle.paths.proofs.ReadingLaws.{sound-span}
 use Rattle.numbers.specs.CallEdge.{CallEdge}
 use Rattle.numbers.proofs.stages.ReadLaws.{EdgeThere, edge-of, call-legals, every-at}
@@ -34,7 +34,7 @@ pub record Walk (q : Query) (es : List Edge) (i top x : ℕ) : Type 0 where
   pub so-far : bestFrom false q (keptOf es x) (numbered i (drop i es)) ≡ best false q (numbered 0 es)
 
 walk-start : (q : Query) (es : List Edge) → Walk q es 0 0 0
-walk-start q es = record { value = refl; so-far = refl }
+walk-start q es = record { value = refl; so-far = best-walk false q (numbered 0 es) }
 
 module _ {q : Query} {es : List Edge} {i top x : ℕ} (k : Walk q es i top x) where
   module _ (more : i < length es) {v : ℕ} (is : v ≡ score false q (getD es i noEdge)) where

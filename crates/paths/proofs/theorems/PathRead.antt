@@ -24,10 +24,10 @@ use Rattle.edge.specs.Legal.{Legal, AllLegal, no-edge, one-more}
 use Rattle.edge.proofs.theorems.ListedLaws.{edge-run, edge-map, good-allowed}
 use Rattle.edge.proofs.theorems.Theorems.{listing-read-back, listing-accepted}
 use Rattle.paths.specs.Best.{Best, best, withOffsets}
-use Rattle.paths.specs.Path.{passed, onward, pathFrom, path, edgePart, edgeParts, pathListing, rights}
+use Rattle.paths.specs.Path.{path, edgePart, edgeParts, pathListing, rights}
 use Rattle.paths.specs.declared.Query.the-variants as Query
-use Rattle.paths.proofs.BestLaws.{Each, OfBest, best-holds}
-use Rattle.paths.proofs.PathLaws.{path-short}
+use Rattle.paths.proofs.BestLaws.{Each, best-holds}
+use Rattle.paths.proofs.PathLaws.{path-each, path-short}
 
 -- ---- what is read of bytes fits
 only-holds : {A : Type 0} (P : A → Type 0) (b : Bool) (a x : A) → only b a ≡ some x → P a → P x
@@ -136,28 +136,12 @@ module _ (s : List ℕ) (small : (i : ℕ) → getD s i 0 < 256) where
     listing-is xs g = rw (parts-are xs g, length-edges xs)
 
     -- ---- the path
-    each-append : (xs ys : List (ℕ × Edge)) → Each Good xs → Each Good ys → Each Good (xs ++ ys)
-    each-append [] ys g h = h
-    each-append (x ∷ xs) ys g h = (g .0, each-append xs ys (g .1) h)
-
-    passed-good : (b : Best) → OfBest Good b → Each Good (passed b)
-    passed-good none h = tt
-    passed-good (some x) h = (h, tt)
-
-    path-good : (right : ℕ → Best) → ((p : ℕ) → OfBest Good (right p)) → (z k p : ℕ) → Each Good (pathFrom right k p z)
-    unfolding pathFrom
-    path-good right h z zero p = tt
-    path-good right h z (suc k) p =
-        cond-cases (Each Good) (ltb p z)
-        (λ t. each-append (passed (right p)) (pathFrom right k (onward p (right p)) z) (passed-good (right p) (h p)) (path-good right h z k (onward p (right p))))
-        (λ t. tt)
-
     module _ (k : ℕ) (accepted : checkListing false n s ≡ Edges k) (skip : Bool) (a z : ℕ) (few : z - a < 2 ^ 16) where
       abbrev taken : List (ℕ × Edge)
       taken = path (rights skip s k) a z
 
       taken-good : Each Good taken
-      taken-good = path-good (rights skip s k) (λ p. best-holds Good skip (Query.Right (record { 0 = p })) none (withOffsets k s 2) (listing-good k accepted) tt) z (z - a) a
+      taken-good = path-each Good (rights skip s k) (λ p. best-holds skip (Query.Right (record { 0 = p })) Good (withOffsets k s 2) (listing-good k accepted)) z (z - a) a
 
       taken-few : length (edges taken) < 2 ^ 16
       taken-few = rw (length-edges taken) (lt-of-le-of-lt (path-short (rights skip s k) z (z - a) a) few)

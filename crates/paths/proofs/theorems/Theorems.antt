@@ -1,6 +1,7 @@
 -- What 01 says of best edges, neighbours and the text shown, as theorems over the definitions that the contracts cite.
 --     best-answers    the edge given is one of those asked for, of the longest span that has an edge to give, and of that span's best class
 --     best-first      it is the first of them in listing order
+--     first-best      and the first of them is given
 --     best-none       none is given exactly where every edge asked for is one that is never given
 --     read-edges      the edges that a call looks at are those of the listing, in its order
 --     shown-is        the part handed out for a place is the best right neighbour's txt, or the character's own bytes
@@ -9,15 +10,15 @@ use mathlib.Core.Path.{_≡_, refl, sym, ap, _∙_}
 use mathlib.Core.Bool.{Bool, true, false, cond}
 use mathlib.Core.List.{List, [], _∷_, _++_, map}
 use mathlib.Core.Option.{none, some}
-use Prim.Native.Nat.{ℕ, zero, suc, _+_, _-_, _*_, _≤_, _<_}
+use Prim.Native.Nat.{ℕ, zero, suc, _+_, _-_, _*_, _≤_, _<_, max}
 use native.Mathlib.Numerals.{add-one}
-use native.Mathlib.Nat.{add-zero}
+use native.Mathlib.Nat.{add-zero, max-le, max-eq-left, max-eq-right}
 use native.Mathlib.Decide.{decLt}
 use native.Mathlib.Omega.{arith}
 use lib.ListN.{length, take, drop, length-append, take-append-drop}
 use lib.Seq.{take-add, drop-drop}
 use lib.Dec.{eqb, ltb}
-use borrow.Author.Tests.{ltb-true, ltb-false, lt-ltb, ne-eqb, eqb-true}
+use borrow.Author.Tests.{ltb-true, ltb-false, lt-ltb, eq-eqb, ne-eqb}
 use Rattle.text.specs.declared.Place.{Place}
 use Rattle.text.specs.Text.{chars, wellFormed, encodes, offsetOf, partOf}
 use Rattle.text.proofs.TextLaws.{encodes-append, well-formed-split}
@@ -28,10 +29,10 @@ use Rattle.edge.specs.Layout.{textAt, nextAt, edgeAt, edgesAt, listed}
 use Rattle.paths.specs.declared.Query.{Query}
 use Rattle.paths.specs.declared.Query.the-variants.{Right}
 use Rattle.paths.specs.declared.ReadCheck.the-variants as ReadCheck
-use Rattle.paths.specs.Best.{class, asked, rank, score, Best, scored, better, bestFrom, best, withOffsets, found}
+use Rattle.paths.specs.Best.{class, asked, score, Best, highest, firstOf, best, withOffsets, found}
 use Rattle.paths.specs.Reading.{readCheck}
 use Rattle.paths.specs.Shown.{shownBy, shown, shownPart}
-use Rattle.paths.proofs.BestLaws.{Each, OfBest, class-le, score-asks, score-never, score-asked}
+use Rattle.paths.proofs.BestLaws.{Each, each-map, each-append, OfBest, scored, bestFrom, best-walk, class-le, score-asks, score-never, score-asked}
 use Rattle.paths.proofs.ReadingLaws.{Reads, reads, Listed, best-listed}
 use Rattle.paths.proofs.ShownLaws.{shown-inside}
 
@@ -43,14 +44,6 @@ pub record IsFirst (skip : Bool) (q : Query) (xs : List (ℕ × Edge)) (x : ℕ 
   pub positive : 0 < score skip q (x .1)
   pub before : Each (λ y. score skip q (y .1) < score skip q (x .1)) front
   pub behind : Each (λ y. score skip q (y .1) ≤ score skip q (x .1)) back
-
-each-map : (P Q : ℕ × Edge → Type 0) → ((x : ℕ × Edge) → P x → Q x) → (xs : List (ℕ × Edge)) → Each P xs → Each Q xs
-each-map P Q f [] e = tt
-each-map P Q f (x ∷ xs) e = (f x (e .0), each-map P Q f xs (e .1))
-
-each-append : (P : ℕ × Edge → Type 0) (xs ys : List (ℕ × Edge)) → Each P xs → Each P ys → Each P (xs ++ ys)
-each-append P [] ys e f = f
-each-append P (x ∷ xs) ys e f = (e .0, each-append P xs ys (e .1) f)
 
 -- what is held stays, or an edge of xs is the first of the highest score, which is above that of what is held
 data Ends (skip : Bool) (q : Query) (held : Best) (xs : List (ℕ × Edge)) : Best → Type 0 where
@@ -79,12 +72,40 @@ ends skip q held (x ∷ xs) = by-test (ltb (scored skip q held) (score skip q (x
     by-test true t rest = over (bestFrom skip q (some x) xs) (ltb-true (scored skip q held) (score skip q (x .1)) t) (rest (some x))
     by-test false t rest = under (bestFrom skip q held xs) (ltb-false (scored skip q held) (score skip q (x .1)) t) (rest held)
 
+ends-best : (skip : Bool) (q : Query) (xs : List (ℕ × Edge)) → Ends skip q none xs (best skip q xs)
+ends-best skip q xs = rw (best-walk skip q xs) at (ends skip q none xs)
+
 pub best-first : (skip : Bool) (q : Query) (xs : List (ℕ × Edge)) {x : ℕ × Edge} → best skip q xs ≡ some x → IsFirst skip q xs x
-best-first skip q xs {x} e = by-end (best skip q xs) (ends skip q none xs) e
+best-first skip q xs {x} e = by-end (best skip q xs) (ends-best skip q xs) e
   where
     by-end : (b : Best) → Ends skip q none xs b → b ≡ some x → IsFirst skip q xs x
     by-end b (stays h) e = let z : _≡_ {A = ℕ} 0 1 = cc in absurd (omega arith)
     by-end b (first y h i) e = let p : y ≡ x = cc in rw p at i
+
+-- and the first of the highest score is given
+module _ (skip : Bool) (q : Query) (v : ℕ) where
+  highest-below : (xs : List (ℕ × Edge)) → Each (λ y. score skip q (y .1) ≤ v) xs → highest skip q xs ≤ v
+  unfolding highest
+  highest-below [] e = omega arith
+  highest-below (x ∷ xs) e = max-le (e .0) (highest-below xs (e .1))
+
+  passed-over : (front rest : List (ℕ × Edge)) → Each (λ y. score skip q (y .1) < v) front → highest skip q rest ≡ v
+      → (highest skip q (front ++ rest) ≡ v) × (firstOf skip q v (front ++ rest) ≡ firstOf skip q v rest)
+  unfolding highest firstOf
+  passed-over [] rest e h = (h, refl)
+  passed-over (y ∷ front) rest e h =
+      let more = passed-over front rest (e .1) h in
+      let l = e .0 in
+      let m : max (score skip q (y .1)) v ≡ v = max-eq-right (omega arith) in
+      (rw (more .0) m, rw (ne-eqb (score skip q (y .1)) v (λ s. omega arith)) (more .1))
+
+pub first-best : (skip : Bool) (q : Query) (xs : List (ℕ × Edge)) {x : ℕ × Edge} → IsFirst skip q xs x → best skip q xs ≡ some x
+unfolding best highest firstOf
+first-best skip q xs {x} i =
+    let v = score skip q (x .1) in
+    let top : max v (highest skip q (i .back)) ≡ v = max-eq-left (highest-below skip q v (i .back) (i .behind)) in
+    let found = passed-over skip q v (i .front) (x ∷ i .back) (i .before) top in
+    rw (i .split, found .0, lt-ltb 0 v (i .positive), found .1, eq-eqb v v refl)
 
 -- ---- 01's words: asked for, given at all, the longest span, the best class
 abbrev pub span : ℕ × Edge → ℕ
@@ -138,7 +159,7 @@ module _ (skip : Bool) (q : Query) where
       by-class (no c) = omega arith
 
   pub best-none : (xs : List (ℕ × Edge)) → best skip q xs ≡ none → Each (λ y. asked q (y .1 .start) (y .1 .end) ≡ true → class skip (y .1) ≡ 0) xs
-  best-none xs e = by-end (best skip q xs) (ends skip q none xs) e
+  best-none xs e = by-end (best skip q xs) (ends-best skip q xs) e
     where
       by-end : (b : Best) → Ends skip q none xs b → b ≡ none → Each (λ y. asked q (y .1 .start) (y .1 .end) ≡ true → class skip (y .1) ≡ 0) xs
       by-end b (stays h) e = each-map _ _ (λ y. no-class (y .1)) xs h
