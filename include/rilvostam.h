@@ -30,13 +30,17 @@ enum {
     RILVOSTAM_TABLE_CONTENT = 5, /* a record or string that may not stand in a table: its offset */
     RILVOSTAM_BAD_LISTING = 6,   /* no listing, or one that does not suit the line: offset of the edge, or of what is left over */
     RILVOSTAM_ABOVE_TOP = 7,     /* a number above 9,007,199,254,740,991: the place where it starts */
-    RILVOSTAM_TOO_LONG = 8,      /* the listing has over 1,024 edges or RILVOSTAM_OUT bytes, or is longer than the output: 0 */
-    RILVOSTAM_BAD_PLACE = 9      /* a place, start or end above the line's length, or start after end: 0 */
+    RILVOSTAM_TOO_LONG = 8,      /* the listing has over 1,024 edges or RILVOSTAM_OUT bytes, or what is to be written is longer than the output: 0 */
+    RILVOSTAM_BAD_PLACE = 9,     /* a place, start or end above the line's length, or start after end: 0 */
+    RILVOSTAM_NUMBER_ABOVE_TOP = 10 /* a number above 9,007,199,254,740,991 that is to be written: 0 */
 };
 
 /* Bytes of work space that rilvostam_add_numbers needs, and bytes of output that always suffice. */
 #define RILVOSTAM_WORK 65536
 #define RILVOSTAM_OUT 32768
+
+/* Bytes of output that suffice for every numeral. */
+#define RILVOSTAM_NUMERAL 93
 
 /* No edge. */
 #define RILVOSTAM_NONE UINT64_MAX
@@ -68,6 +72,11 @@ uint32_t rilvostam_path(const uint8_t *line, size_t line_len, const uint8_t *lis
  * 0: *len bytes from *at on, of the listing where *in_listing is 1, of the line where it is 0. On a refusal *len and *in_listing are 0. */
 uint32_t rilvostam_shown_text(const uint8_t *line, size_t line_len, const uint8_t *listing, size_t listing_len,
                               uint64_t place, uint64_t *at, uint64_t *len, uint8_t *in_listing);
+
+/* The numeral of a number, at the front of out, in UTF-8 with the characters of the plain table: 10010000 is 一千零一万, and 0 is 零. A number above TOP is refused 10
+ * whatever the output's length.
+ * 0: *at is the length of the numeral. */
+uint32_t rilvostam_write_number(uint64_t number, uint8_t *out, size_t out_len, uint64_t *at);
 
 #ifdef __cplusplus
 }

@@ -24,6 +24,9 @@ pub const WORK: usize = 65_536;
 /// Bytes of output that always suffice.
 pub const OUT: usize = 32_768;
 
+/// Bytes of output that suffice for every numeral.
+pub const NUMERAL: usize = 93;
+
 /// The edge list without an edge.
 pub const NO_EDGES: &[u8] = &[0, 0];
 
@@ -56,6 +59,7 @@ mod c {
             line: *const u8, line_len: usize, listing: *const u8, listing_len: usize, place: u64,
             at: *mut u64, len: *mut u64, in_listing: *mut u8,
         ) -> u32;
+        pub fn rilvostam_write_number(number: u64, out: *mut u8, out_len: usize, at: *mut u64) -> u32;
     }
 }
 
@@ -167,4 +171,13 @@ pub fn shown_text<'a>(line: &'a [u8], listing: &'a [u8], place: u64) -> Result<&
     let from = answer(status, at)?;
     let lent = if in_listing == 1 { listing } else { line };
     Ok(&lent[from..from + len as usize])
+}
+
+/// The numeral of a number up to 9,007,199,254,740,991, at the front of `out`: 10005 is 一万零五. On a refusal `out` is as it was.
+pub fn write_number(number: u64, out: &mut [u8]) -> Result<&str, Refusal> {
+    let mut at = 0;
+    // SAFETY: as above.
+    let status = unsafe { c::rilvostam_write_number(number, out.as_mut_ptr(), out.len(), &mut at) };
+    let length = answer(status, at)?;
+    Ok(std::str::from_utf8(&out[..length]).expect("a numeral is UTF-8"))
 }

@@ -15,6 +15,7 @@ pub enum Cause {
     AboveTop,
     TooLong,
     BadPlace,
+    NumberAboveTop,
     /// A number that this version does not know.
     Other(u32),
 }
@@ -38,6 +39,7 @@ impl Refusal {
             7 => Cause::AboveTop,
             8 => Cause::TooLong,
             9 => Cause::BadPlace,
+            10 => Cause::NumberAboveTop,
             other => Cause::Other(other),
         };
         Refusal { cause, at }
@@ -55,6 +57,7 @@ impl Refusal {
             Cause::AboveTop => 7,
             Cause::TooLong => 8,
             Cause::BadPlace => 9,
+            Cause::NumberAboveTop => 10,
             Cause::Other(number) => number,
         }
     }
@@ -73,6 +76,7 @@ impl fmt::Display for Refusal {
             Cause::AboveTop => write!(f, "a number that starts at place {at} is above 9,007,199,254,740,991"),
             Cause::TooLong => write!(f, "the listing is over 1,024 edges, over 32,768 bytes, or longer than the output"),
             Cause::BadPlace => write!(f, "a place is past the line's end, or start is after end"),
+            Cause::NumberAboveTop => write!(f, "a number above 9,007,199,254,740,991 is not written"),
             Cause::Other(number) => write!(f, "refused {number} at {at}"),
         }
     }

@@ -112,3 +112,19 @@ fn reading() {
     let path = path(line, &listing, 0, 4, false).unwrap();
     assert_eq!(edges(&path).map(|e| e.txt).collect::<Vec<_>>(), ["15000"]);
 }
+
+#[test]
+fn numerals() {
+    let mut out = [7; NUMERAL];
+    for (number, numeral) in [(0, "零"), (10, "一十"), (10_005, "一万零五"), (10_010_000, "一千零一万"), (100_000_001, "一億零一")] {
+        assert_eq!(write_number(number, &mut out).unwrap(), numeral);
+    }
+    let top = (1 << 53) - 1;
+    assert_eq!(write_number(top, &mut out[..81]).unwrap(), "九千零七兆一千九百九十二億五千四百七十四万零九百九十一");
+    let mut out = [7; 80];
+    for (number, room, refusal) in [(top, 80, 8), (0, 2, 8), (top + 1, 80, 10), (u64::MAX, 0, 10)] {
+        let refused = write_number(number, &mut out[..room]).unwrap_err();
+        assert_eq!((refused.number(), refused.at), (refusal, 0));
+    }
+    assert_eq!(out, [7; 80]);
+}

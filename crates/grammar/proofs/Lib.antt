@@ -5,11 +5,13 @@ pub mod Pieces
 pub mod Readings
 pub mod Maximal
 pub mod Sixteen
+pub mod PlainText
 pub mod PlainEdges
 pub mod PlainWithin
 pub mod FourPasses
 pub mod FifthPass
 pub mod Settled
+pub mod ReadingWithin
 pub mod Demand3
 pub mod Marked
 pub mod MarkedReadings

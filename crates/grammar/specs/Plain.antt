@@ -4,6 +4,7 @@
 --     codePoint c         its code point
 --     plainRecords        the records, in rising order of code points
 --     plain               the table
+--     utf8 w              the characters w in UTF-8
 --     Assumes nothing.
 use Prim.Native.Nat.{ℕ}
 use mathlib.Core.Bool.{Bool, true, false}
@@ -12,6 +13,7 @@ use mathlib.Core.Option.{none, some}
 use Rattle.table.specs.Table.{Text, Record, Table}
 use Rattle.passes.specs.Passes.{digitType, cjk}
 use Rattle.text.specs.Sequence.{encode}
+use Rattle.text.specs.Text.{encodes}
 use Rattle.whole.specs.Decimal.{decimal}
 
 pub data Digit : Type 0 where
@@ -121,3 +123,7 @@ plain = record {
   minus-signs = (0x2D ∷ []) ∷ [];
   records = plainRecords;
 }
+
+-- the characters in UTF-8
+unfoldable pub utf8 : List Char → List ℕ
+utf8 w = encodes (map codePoint w)

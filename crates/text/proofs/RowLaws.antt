@@ -36,11 +36,11 @@ is-within lo hi x h k = simp (le-leb lo x h, le-leb x hi k)
 
 -- ---- a row for an interval of lead bytes
 -- a test at each of the n numbers from lo on, computed
-abbrev all : (ℕ → Bool) → ℕ → ℕ → Bool
+abbrev pub all : (ℕ → Bool) → ℕ → ℕ → Bool
 all P lo zero = true
 all P lo (suc n) = P lo && all P (suc lo) n
 
-all-at : (P : ℕ → Bool) (lo n : ℕ) → T (all P lo n) → (b : ℕ) → lo ≤ b → b < lo + n → T (P b)
+pub all-at : (P : ℕ → Bool) (lo n : ℕ) → T (all P lo n) → (b : ℕ) → lo ≤ b → b < lo + n → T (P b)
 all-at P lo zero t b h k = absurd (omega arith)
 all-at P lo (suc n) t b h k = elim (eq-or-lt-of-le h) [
   | inl e ↦ subst (λ (x : ℕ). T (P x)) e (and-l (P lo) (all P (suc lo) n) t)
