@@ -32,7 +32,8 @@ enum {
     RILVOSTAM_ABOVE_TOP = 7,     /* a number above 9,007,199,254,740,991: the place where it starts */
     RILVOSTAM_TOO_LONG = 8,      /* the listing has over 1,024 edges or RILVOSTAM_OUT bytes, or what is to be written is longer than the output: 0 */
     RILVOSTAM_BAD_PLACE = 9,     /* a place, start or end above the line's length, or start after end: 0 */
-    RILVOSTAM_NUMBER_ABOVE_TOP = 10 /* a number above 9,007,199,254,740,991 that is to be written: 0 */
+    RILVOSTAM_NUMBER_ABOVE_TOP = 10, /* a number above 9,007,199,254,740,991 that is to be written: 0 */
+    RILVOSTAM_SUM_ABOVE_TOP = 11 /* a sum whose numerator or denominator, in lowest terms, is above 9,007,199,254,740,991: index of the edge in the listing, from 0 */
 };
 
 /* Bytes of work space that rilvostam_add_numbers needs, and bytes of output that always suffice. */
@@ -77,6 +78,13 @@ uint32_t rilvostam_shown_text(const uint8_t *line, size_t line_len, const uint8_
  * whatever the output's length.
  * 0: *at is the length of the numeral. */
 uint32_t rilvostam_write_number(uint64_t number, uint8_t *out, size_t out_len, uint64_t *at);
+
+/* The shares of a listing: the fractions of its active edges, each added to the sum of those before, in lowest terms. Without any the sum is 0/1. It is refused 11
+ * at the first edge with which numerator or denominator is above 9,007,199,254,740,991. numerator and denominator overlap no other argument and have the
+ * alignment of a uint64_t.
+ * 0: the sum is *numerator / *denominator, and *at is 0. On a refusal *numerator and *denominator are 0. */
+uint32_t rilvostam_pool_shares(const uint8_t *line, size_t line_len, const uint8_t *listing, size_t listing_len,
+                               uint64_t *numerator, uint64_t *denominator, uint64_t *at);
 
 #ifdef __cplusplus
 }

@@ -60,6 +60,11 @@ mod c {
             at: *mut u64, len: *mut u64, in_listing: *mut u8,
         ) -> u32;
         pub fn rilvostam_write_number(number: u64, out: *mut u8, out_len: usize, at: *mut u64) -> u32;
+        #[rustfmt::skip]
+        pub fn rilvostam_pool_shares(
+            line: *const u8, line_len: usize, listing: *const u8, listing_len: usize,
+            numerator: *mut u64, denominator: *mut u64, at: *mut u64,
+        ) -> u32;
     }
 }
 
@@ -180,4 +185,22 @@ pub fn write_number(number: u64, out: &mut [u8]) -> Result<&str, Refusal> {
     let status = unsafe { c::rilvostam_write_number(number, out.as_mut_ptr(), out.len(), &mut at) };
     let length = answer(status, at)?;
     Ok(std::str::from_utf8(&out[..length]).expect("a numeral is UTF-8"))
+}
+
+/// The shares of a listing together: the sum of its active edges' fractions in lowest terms, numerator and denominator, 0 and 1 where there is none.
+pub fn pool_shares(line: &[u8], listing: &[u8]) -> Result<(u64, u64), Refusal> {
+    let (mut numerator, mut denominator, mut at) = (0, 0, 0);
+    // SAFETY: as above.
+    let status = unsafe {
+        c::rilvostam_pool_shares(
+            line.as_ptr(),
+            line.len(),
+            listing.as_ptr(),
+            listing.len(),
+            &mut numerator,
+            &mut denominator,
+            &mut at,
+        )
+    };
+    answer(status, at).map(|_| (numerator, denominator))
 }

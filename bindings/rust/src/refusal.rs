@@ -16,11 +16,12 @@ pub enum Cause {
     TooLong,
     BadPlace,
     NumberAboveTop,
+    SumAboveTop,
     /// A number that this version does not know.
     Other(u32),
 }
 
-/// A refusal: its cause, and the offset in bytes or the place in characters that goes with it, or 0.
+/// A refusal: its cause, and the offset in bytes, the place in characters or the index of an edge that goes with it, or 0.
 #[derive(Clone, Copy, Debug, PartialEq, Eq, Hash)]
 pub struct Refusal {
     pub cause: Cause,
@@ -40,6 +41,7 @@ impl Refusal {
             8 => Cause::TooLong,
             9 => Cause::BadPlace,
             10 => Cause::NumberAboveTop,
+            11 => Cause::SumAboveTop,
             other => Cause::Other(other),
         };
         Refusal { cause, at }
@@ -58,6 +60,7 @@ impl Refusal {
             Cause::TooLong => 8,
             Cause::BadPlace => 9,
             Cause::NumberAboveTop => 10,
+            Cause::SumAboveTop => 11,
             Cause::Other(number) => number,
         }
     }
@@ -77,6 +80,7 @@ impl fmt::Display for Refusal {
             Cause::TooLong => write!(f, "the listing is over 1,024 edges, over 32,768 bytes, or longer than the output"),
             Cause::BadPlace => write!(f, "a place is past the line's end, or start is after end"),
             Cause::NumberAboveTop => write!(f, "a number above 9,007,199,254,740,991 is not written"),
+            Cause::SumAboveTop => write!(f, "with the edge of index {at} numerator or denominator of the sum is above 9,007,199,254,740,991"),
             Cause::Other(number) => write!(f, "refused {number} at {at}"),
         }
     }

@@ -128,3 +128,31 @@ fn numerals() {
     }
     assert_eq!(out, [7; 80]);
 }
+
+/// An active edge over the first place with a fraction.
+fn share(numerator: u64, denominator: u64) -> Vec<u8> {
+    let mut edge = vec![0x85, 0, 0, 0, 1, 0, 0, 0, 0, 0, 0, 0];
+    edge.extend(numerator.to_le_bytes());
+    edge.extend(denominator.to_le_bytes());
+    edge
+}
+
+#[test]
+fn shares() {
+    for (line, sum) in [("三分之一x六分之一", (1, 2)), ("三分之一", (1, 3)), ("五", (0, 1)), ("", (0, 1))] {
+        assert_eq!(pool_shares(line.as_bytes(), &listing(line)).unwrap(), sum, "{line}");
+    }
+    const TOP: u64 = (1 << 53) - 1;
+    let pool = |shares: &[(u64, u64)]| {
+        let edges: Vec<u8> = shares.iter().flat_map(|&(n, d)| share(n, d)).collect();
+        pool_shares(b"x", &[&(shares.len() as u16).to_le_bytes()[..], &edges].concat())
+    };
+    assert_eq!(pool(&[(2, 4), (0, 7)]).unwrap(), (1, 2));
+    assert_eq!(pool(&[(1, TOP), (1, TOP)]).unwrap(), (2, TOP));
+    assert_eq!(pool(&[(1, 2), (1, 2), (TOP - 1, 1)]).unwrap(), (TOP, 1));
+    let refusal = |number, at, r: Refusal| assert_eq!((r.number(), r.at), (number, at), "{r}");
+    refusal(11, 1, pool(&[(TOP - 1, 1), (1, 2), (1, 2)]).unwrap_err());
+    refusal(6, 58, pool(&[(TOP, 1), (1, 1), (1, 0)]).unwrap_err());
+    refusal(2, 0, pool_shares(b"\xFF", NO_EDGES).unwrap_err());
+    refusal(3, 256, pool_shares(&[b'x'; 257], NO_EDGES).unwrap_err());
+}

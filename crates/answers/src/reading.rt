@@ -17,7 +17,7 @@ pub struct CText {
 }
 
 // 01's number of a refusal, and the offset that is returned with it, or 0.
-fn refusal_told(r: ReadRefusal) -> CStatus
+pub fn refusal_told(r: ReadRefusal) -> CStatus
     ensures { λ t. ⌜ t ≡ readRefusalTold r ⌝ }
 {
     match r {

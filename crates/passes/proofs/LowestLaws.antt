@@ -21,31 +21,35 @@ step P k a b h f g = go (eqb b 0) refl
     go true e = f (eqb→eq b 0 (rw e tt))
     go false e = g (omega (arith, mod-lt a (positive b e)))
 
-abbrev DividesBoth : ℕ → ℕ → ℕ → Type 0
+abbrev pub DividesBoth : ℕ → ℕ → ℕ → Type 0
 DividesBoth a b g = (g ∣ a) × (g ∣ b)
 
-gcd-divides : (k a b : ℕ) → b ≤ k → DividesBoth a b (gcdWithin k a b)
+within-divides : (k a b : ℕ) → b ≤ k → DividesBoth a b (gcdWithin k a b)
 unfolding gcdWithin
-gcd-divides zero a b h = let e : b ≡ 0 = omega arith in (dvd-refl a, rw e (dvd-zero a))
-gcd-divides (suc k) a b h =
+within-divides zero a b h = let e : b ≡ 0 = omega arith in (dvd-refl a, rw e (dvd-zero a))
+within-divides (suc k) a b h =
     step (DividesBoth a b) k a b h (λ e. (dvd-refl a, rw e (dvd-zero a)))
-    (λ l. let (p, q) = gcd-divides k b (a % b) l in (dvd-mod-iff _ p .0 q, p))
+    (λ l. let (p, q) = within-divides k b (a % b) l in (dvd-mod-iff _ p .0 q, p))
 
-gcd-greatest : (k a b c : ℕ) → b ≤ k → c ∣ a → c ∣ b → c ∣ gcdWithin k a b
+within-greatest : (k a b c : ℕ) → b ≤ k → c ∣ a → c ∣ b → c ∣ gcdWithin k a b
 unfolding gcdWithin
-gcd-greatest zero a b c h p q = p
-gcd-greatest (suc k) a b c h p q = step (λ g. c ∣ g) k a b h (λ _. p) (λ l. gcd-greatest k b (a % b) c l q (dvd-mod-iff c q .1 p))
+within-greatest zero a b c h p q = p
+within-greatest (suc k) a b c h p q = step (λ g. c ∣ g) k a b h (λ _. p) (λ l. within-greatest k b (a % b) c l q (dvd-mod-iff c q .1 p))
+
+pub gcd-divides : (a b : ℕ) → DividesBoth a b (gcd a b)
+unfolding gcd
+gcd-divides a b = within-divides b a b (le-refl b)
+
+pub gcd-greatest : (a b c : ℕ) → c ∣ a → c ∣ b → c ∣ gcd a b
+unfolding gcd
+gcd-greatest a b c = within-greatest b a b c (le-refl b)
 
 -- ---- the fraction
 module _ (n d : ℕ) (d-pos : 0 < d) where
-  divides : DividesBoth n d (gcd n d)
-  unfolding gcd
-  divides = gcd-divides d n d (le-refl d)
-
   -- both parts times the greatest common divisor are the fraction again
   times : (gcd n d * lowest (n, d) .0 ≡ n) × (gcd n d * lowest (n, d) .1 ≡ d)
   unfolding lowest
-  times = (mul-div-cancel' (gcd n d) (divides .0), mul-div-cancel' (gcd n d) (divides .1))
+  times = (mul-div-cancel' (gcd n d) (gcd-divides n d .0), mul-div-cancel' (gcd n d) (gcd-divides n d .1))
 
   -- the same ratio, cross-multiplied
   pub lowest-same : lowest (n, d) .0 * d ≡ n * lowest (n, d) .1
@@ -55,10 +59,9 @@ module _ (n d : ℕ) (d-pos : 0 < d) where
       same-ratio g x y p q = rw (← p, ← q) (sym (mul-assoc x g y) ∙ ap (λ (m : ℕ). m * y) (mul-comm x g))
 
   pub lowest-coprime : (c : ℕ) → c ∣ lowest (n, d) .0 → c ∣ lowest (n, d) .1 → c ≡ 1
-  unfolding gcd
   lowest-coprime c p q =
-      let whole : gcd n d * c ∣ gcd n d = gcd-greatest d n d (gcd n d * c) (le-refl d) (rw (times .0) at (mul-dvd-mul-left c (gcd n d) p)) (rw (times .1) at (mul-dvd-mul-left c (gcd n d) q)) in
-      eq-one-of-dvd-one (dvd-of-mul-dvd-mul-left c (pos-of-dvd-of-pos (divides .1) d-pos) (rw (mul-one (gcd n d)) whole))
+      let whole : gcd n d * c ∣ gcd n d = gcd-greatest n d (gcd n d * c) (rw (times .0) at (mul-dvd-mul-left c (gcd n d) p)) (rw (times .1) at (mul-dvd-mul-left c (gcd n d) q)) in
+      eq-one-of-dvd-one (dvd-of-mul-dvd-mul-left c (pos-of-dvd-of-pos (gcd-divides n d .1) d-pos) (rw (mul-one (gcd n d)) whole))
 
 -- "0/d to 0/1"
 pub lowest-zero : (d : ℕ) → 0 < d → (lowest (0, d) .0 ≡ 0) × (lowest (0, d) .1 ≡ 1)

@@ -9,7 +9,7 @@ pub struct Ratio {
 }
 
 // The greatest number that divides both.
-fn gcd(n: u64, d: u64) -> u64
+pub fn gcd(n: u64, d: u64) -> u64
     ensures { λ r. ⌜ r ≡ Characters.gcd n d ⌝ }
 {
     let mut a = n;

@@ -37,8 +37,13 @@ use Rattle.paths.specs.Reading.{afterListing, afterLine, readCheck, Span
 use Rattle.paths.proofs.BestLaws.{Each, OfBest, best-holds}
 
 -- ---- what the checks show
-first-two : (a b c d : Bool) → (((a && b) && c) && d) ≡ true → (a ≡ true) × (b ≡ true)
+pub first-two : (a b c d : Bool) → (((a && b) && c) && d) ≡ true → (a ≡ true) × (b ≡ true)
 first-two a b c d h = and-true a b (and-true (a && b) c (and-true ((a && b) && c) d h .0) .0)
+
+sound-numeric : (n : ℕ) (e : Edge) → sound n e ≡ true → each soundNumeric (e .num) ≡ true
+unfolding sound
+sound-numeric n e h =
+    and-true ((ltb (e .start) (e .end) && leb (e .end) n) && (wellFormed (e .type) && wellFormed (e .txt))) (each soundNumeric (e .num)) h .1
 
 pub sound-span : (n : ℕ) (e : Edge) → sound n e ≡ true → (e .start < e .end) × (e .end ≤ n)
 unfolding sound
@@ -50,8 +55,9 @@ spanned : (n : ℕ) (s : List ℕ) (at : ℕ) → good false n s at ≡ true →
 unfolding good
 spanned n s at g =
     let t = and-true (leb (nextAt s at) (length s)) (allowed false (mapAt s at) && sound n (edgeAt s at)) g .1 in
-    let p = sound-span n (edgeAt s at) (and-true (allowed false (mapAt s at)) (sound n (edgeAt s at)) t .1) in
-    record { whole = good-whole false n s at g; rises = p .0; within = p .1 }
+    let fine = and-true (allowed false (mapAt s at)) (sound n (edgeAt s at)) t .1 in
+    let p = sound-span n (edgeAt s at) fine in
+    record { whole = good-whole false n s at g; rises = p .0; within = p .1; numeric = sound-numeric n (edgeAt s at) fine }
 
 checked : (n : ℕ) (s : List ℕ) (k at m : ℕ) → at ≤ length s → checkEdges false n s k at ≡ ListingCheck.Edges m → (m ≡ leAt s 0 2) × Spans n k s at
 unfolding checkEdges Spans
@@ -104,7 +110,7 @@ pub spans-le : (n m k : ℕ) (s : List ℕ) (at : ℕ) → n ≤ m → Spans n k
 unfolding Spans
 spans-le n m zero s at h w = w
 spans-le n m (suc k) s at h w =
-    (record { whole = w .0 .whole; rises = w .0 .rises; within = le-trans (w .0 .within) h }, spans-le n m k s (nextAt s at) h (w .1))
+    (record { whole = w .0 .whole; rises = w .0 .rises; within = le-trans (w .0 .within) h; numeric = w .0 .numeric }, spans-le n m k s (nextAt s at) h (w .1))
 
 module _ (n k : ℕ) (s : List ℕ) (at : ℕ) (h : 0 < k) (w : Spans n k s at) where
   first-of : Spans n (suc (k - 1)) s at

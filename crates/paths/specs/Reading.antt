@@ -1,13 +1,14 @@
 -- The calls that read a finished listing: their checks, 2, 3, 6, then 9, and their answers (01, "The rest of the call"). Definitions only.
 --     number r, place r      01's number of a refusal, and the place or offset returned
 --     readCheck line s       the checks 2, 3 and 6: characters of the line and edges of the listing s, or the refusal
---     Spans n k s at         the k edges from an offset on are within s, and their spans are places of a line of n characters
+--     Spans n k s at         the k edges from an offset on are within s, their spans are places of a line of n characters, and their numeric data may stand
 --     readable ..            an answer, where these checks refuse nothing
 --     inside n q             what q asks is within a line of n characters, and does not start after its end: check 9
 --     answer line s q skip   best edge, right neighbour or left neighbour: its offset, none, or the refusal
 -- Assumes nothing.
 use Prim.Native.Nat.{ℕ, zero, suc, _≤_, _<_}
-use mathlib.Core.Bool.{Bool, false, cond, _&&_}
+use mathlib.Core.Path.{_≡_}
+use mathlib.Core.Bool.{Bool, true, false, cond, _&&_}
 use mathlib.Core.List.{List}
 use lib.ListN.{length}
 use lib.Dec.{leb}
@@ -16,7 +17,7 @@ use Rattle.text.specs.declared.LineCheck.the-variants.{Chars, IllFormed, TooLon
 use Rattle.text.specs.Line.{lineCheck, lineRefusal, lineAt}
 use Rattle.edge.specs.declared.ListingCheck.{ListingCheck}
 use Rattle.edge.specs.declared.ListingCheck.the-variants as ListingCheck
-use Rattle.edge.specs.Check.{checkListing, listingRefusal, listingPlace}
+use Rattle.edge.specs.Check.{each, soundNumeric, checkListing, listingRefusal, listingPlace}
 use Rattle.edge.specs.Layout.{edgeAt, nextAt}
 use Rattle.paths.specs.declared.Query.{Query}
 use Rattle.paths.specs.declared.Query.the-variants.{Span, Right, Left}
@@ -59,6 +60,7 @@ pub record Spanned (n : ℕ) (s : List ℕ) (at : ℕ) : Type 0 where
   pub whole : nextAt s at ≤ length s
   pub rises : edgeAt s at .start < edgeAt s at .end
   pub within : edgeAt s at .end ≤ n
+  pub numeric : each soundNumeric (edgeAt s at .num) ≡ true
 
 unfoldable pub Spans : ℕ → ℕ → List ℕ → ℕ → Type 0
 Spans n zero s at = at ≤ length s

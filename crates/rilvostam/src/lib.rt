@@ -1,6 +1,7 @@
 // The C interface, declared in include/rilvostam.h. Each function is thin: it calls the proved function underneath and tells its answer.
 // A skip other than 0 is set; places are 64-bit numbers.
 pub mod numerals; // numerals.rt: the calls on single numerals
+pub mod pooling; // pooling.rt: what a listing's shares come to
 
 ghost use mathlib.Core.Path.{_≡_};
 ghost use lib.ListN.{length};

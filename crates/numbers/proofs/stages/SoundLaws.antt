@@ -58,7 +58,7 @@ module _ {w : List ℕ} {l : Lattice} {es : List Edge} (q : Holds w l es) (f : (
       let r = q .room in
       let m = q .short in
       let b = s .within in
-      rw here (record { whole = omega arith; rises = rw (t .is) (s .rises); within = rw (t .is) (omega arith) })
+      rw here (record { whole = omega arith; rises = rw (t .is) (s .rises); within = rw (t .is) (omega arith); numeric = rw (t .is) (s .num) })
 
   module _ (legals : Legals n es) where
     legal-at : Legal false n (getD es i noEdge)
