@@ -1,7 +1,6 @@
-// The pass list in lent bytes, for the five passes (01, "Five passes, D1 to G4"; the Rust's numbers.rs): an edge of it, a chain of edges, what a pass answers.
+// The pass list in lent bytes, for the five passes (01, "Five passes, D1 to G4"; the Rust's numbers.rs): an edge of it, what a pass answers.
 pub mod record; // record.rt: an edge of the list, and its bytes
-pub mod chain; // chain.rt: a chain of edges
-pub mod run; // run.rt: what a pass answers
+pub mod run; // run.rt: the passes, and what a pass answers
 pub mod read; // read.rt: an edge of the list, read
 pub mod write; // write.rt: an edge of the list, stored
 pub mod in_turn; // in_turn.rt: the passes in turn on the list, as definitions and theorems

@@ -1,9 +1,10 @@
-// What the next edge does to a chain of touching edges: whether the pass's rule joins it, and the chain that it makes then. The definitions are those of
-// `pass_list`, specs/StoredPass.antt and specs/Answers.antt.
+// A chain of touching edges, as far as a pass's rule goes (01: "a chain state with sum and last base takes the next atom by a method with mut self and hands
+// itself back"): how it begins, and what the next edge does to it. The definitions are in specs/Chain.antt and in `pass_list`, specs/StoredPass.antt.
 ghost use mathlib.Core.Path.{_≡_};
-ghost use Rattle.pass_list.specs.StoredEdge.{StoredEdge, EdgeIs};
-ghost use Rattle.pass_list.specs.StoredPass.{StoredChain, rule};
-ghost use Rattle.pass_list.specs.Answers.{passOf, ChainIs, answer};
+ghost use Rattle.pass_list.specs.StoredEdge.{StoredEdge, passEdge, EdgeIs};
+ghost use Rattle.pass_list.specs.StoredPass.{StoredChain, begin, rule};
+ghost use Rattle.pass_list.specs.Answers.{passOf};
+ghost use Rattle.pass_rules.specs.Chain.{passChain, ChainIs, answer};
 use crate::counted::counted;
 use crate::d1_rule;
 use crate::g1_rule;
@@ -12,11 +13,26 @@ use crate::g3_rule;
 use crate::g4_rule;
 use crate::joined::joined_edge;
 use crate::joined::joined_value;
-use pass_list::chain::Chain;
-use pass_list::chain::Next;
-use pass_list::chain::Pass;
 use pass_list::record::PassEdge;
+use pass_list::run::Pass;
 use whole::Bounded;
+
+pub struct Chain {
+    // the edge over the chain: its value is the sum so far, its base the last one's
+    pub edge: PassEdge,
+    // whether anything was joined
+    pub more: bool,
+    // the base of the chain's nearest edge, from its end, that isn't a gap
+    pub has_near: bool,
+    pub near: u64,
+}
+
+// What the next edge does to a chain: the chain with it; the chain ends before it; a value above TOP.
+pub enum Next {
+    Longer(Chain),
+    Ends,
+    Above,
+}
 
 // Whether the pass joins e, as it counts, to the chain, where they touch.
 fn ruled(pass: Pass, c: Chain, e: PassEdge) -> bool
@@ -49,21 +65,52 @@ fn ruled(pass: Pass, c: Chain, e: PassEdge) -> bool
     }
 }
 
-// What the next edge does to a chain.
-pub fn next(c: Chain, pass: Pass, e: PassEdge) -> Next
-    requires { ⌜ ((x : StoredChain) × ChainIs c x) × ((y : StoredEdge) × EdgeIs e y) ⌝ }
-    ensures { λ r. ⌜ ((x : StoredChain) (y : StoredEdge) → ChainIs c x → EdgeIs e y → r ≡ answer (passOf pass) x y) ⌝ }
-{
-    if c.edge.end.0 != e.start.0 {
-        return Next::Ends;
+impl Chain {
+    // The chain that an edge begins.
+    pub fn begin(e: PassEdge) -> Self
+        ensures { λ r. ⌜ ((y : StoredEdge) → e ≡ passEdge y → r ≡ passChain (begin y)) ⌝ }
+    {
+        if e.num.gap {
+            return Chain {
+                edge: e,
+                more: false,
+                has_near: false,
+                near: 0,
+            };
+        }
+        Chain {
+            edge: e,
+            more: false,
+            has_near: true,
+            near: e.num.base,
+        }
     }
-    let last = c.edge;
-    let r = counted(pass, last, e);
-    if !ruled(pass, c, r) {
-        return Next::Ends;
-    }
-    match joined_value(pass, last.num.value, r.num.value) {
-        Bounded::Above => Next::Above,
-        Bounded::Fits(v) => Next::Longer(c.take(joined_edge(pass, last, r, v), e)),
+
+    // The chain takes the next edge, where the pass joins it, and hands itself back.
+    pub fn join(mut self, pass: Pass, e: PassEdge) -> Next
+        requires { ⌜ ((x : StoredChain) × ChainIs self x) × ((y : StoredEdge) × EdgeIs e y) ⌝ }
+        ensures { λ r. ⌜ ((x : StoredChain) (y : StoredEdge) → ChainIs self x → EdgeIs e y → r ≡ answer (passOf pass) x y) ⌝ }
+    {
+        if self.edge.end.0 != e.start.0 {
+            return Next::Ends;
+        }
+        let last = self.edge;
+        let r = counted(pass, last, e);
+        if !ruled(pass, self, r) {
+            return Next::Ends;
+        }
+        match joined_value(pass, last.num.value, r.num.value) {
+            Bounded::Above => Next::Above,
+            Bounded::Fits(v) => {
+                let over = joined_edge(pass, last, r, v);
+                self.edge = over;
+                self.more = true;
+                if !e.num.gap {
+                    self.has_near = true;
+                    self.near = e.num.base;
+                }
+                Next::Longer(self)
+            }
+        }
     }
 }

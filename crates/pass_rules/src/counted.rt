@@ -7,7 +7,7 @@ ghost use Rattle.passes.specs.Passes.{powerOfTen};
 ghost use Rattle.pass_list.specs.StoredEdge.{StoredEdge, passEdge, EdgeIs};
 ghost use Rattle.pass_list.specs.StoredPass.{retags, retagged, counted};
 ghost use Rattle.pass_list.specs.Answers.{passOf};
-use pass_list::chain::Pass;
+use pass_list::run::Pass;
 use pass_list::record::PassEdge;
 
 fn is_power_of_10(n: u64) -> bool

@@ -21,16 +21,17 @@ use Rattle.passes.proofs.ChainsLaws.{chains-cons, from-nil, from-none, from-som
 use Rattle.text.proofs.RowLaws.{and-true}
 use Rattle.passes.specs.Passes.{Pass, D1, G1, G2, G3, G4}
 use Rattle.pass_list.specs.declared.record.PassEdge.{PassEdge}
-use Rattle.pass_list.specs.declared.chain.Chain.{Chain}
-use Rattle.pass_list.specs.declared.chain.Next.{Next}
-use Rattle.pass_list.specs.declared.chain.Next.the-variants.{Longer, Ends, Above}
+use Rattle.pass_rules.specs.declared.chain.Chain.{Chain}
+use Rattle.pass_rules.specs.declared.chain.Next.{Next}
+use Rattle.pass_rules.specs.declared.chain.Next.the-variants.{Longer, Ends, Above}
 use Rattle.pass_list.specs.declared.run.PassAnswer.the-variants as PassAnswer
 use Rattle.fields.specs.Part.{part}
 use Rattle.fields.proofs.PartLaws.{length-part, part-at, part-take, part-sets, part-sets-other, drop-sets, copy-turn, copy-ends}
 use Rattle.pass_list.specs.StoredEdge.{StoredEdge, Small, nil, cons, AllSmall, Fits, EdgeIs}
 use Rattle.pass_list.specs.Stored.{recordBytes, storedAt, storedListAt}
 use Rattle.pass_list.specs.StoredPass.{StoredChain, begin, touches, g1Rule, g3Rule, rule, counted, kindOf, joins, joinedValue, longer, next, over, chainsOf, edgesOf, joinedOf, after, added, firstAbove}
-use Rattle.pass_list.specs.Answers.{passChain, ChainIs, answer, PassedIs}
+use Rattle.pass_list.specs.Answers.{PassedIs}
+use Rattle.pass_rules.specs.Chain.{passChain, ChainIs, answer}
 use Rattle.pass_run.specs.Ended.{Ended}
 use Rattle.text.specs.declared.Place.{Place}
 use Rattle.pass_run.specs.declared.ChainRun.{ChainRun}
@@ -41,7 +42,7 @@ use Rattle.pass_list.proofs.NextLaws.{joins-of-next}
 use Rattle.pass_rules.proofs.chain.ChainLaws.{counted-fits}
 use Rattle.pass_list.proofs.StoredLaws.{stored-edge-behind, stored-edges-cons, stored-edges-none, stored-edges-snoc, stored-edges-other, length-stored-edges, stored-edges-put, behind-put, behind-next}
 
--- ---- what `next` answers says of the chain
+-- ---- what `Chain::join` answers says of the chain
 module _ (p : Pass) (x : StoredChain) (y : StoredEdge) where
   pub says-longer : (j : Chain) → answer p x y ≡ Longer j → (next p x y ≡ some (longer p x y)) × (j ≡ passChain (longer p x y)) × (joinedValue p x y ≤ TOP)
   unfolding answer next

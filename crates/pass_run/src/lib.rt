@@ -13,18 +13,18 @@ ghost use Rattle.fields.specs.Part.{part};
 ghost use Rattle.pass_list.specs.StoredEdge.{Small, AllSmall};
 ghost use Rattle.pass_list.specs.Stored.{storedAt, storedListAt};
 ghost use Rattle.pass_list.specs.StoredPass.{StoredChain};
-ghost use Rattle.pass_list.specs.Answers.{passOf, ChainIs, answer, PassedIs};
+ghost use Rattle.pass_list.specs.Answers.{passOf, PassedIs};
+ghost use Rattle.pass_rules.specs.Chain.{ChainIs, answer};
 ghost use Rattle.pass_run.specs.Ended.{Ended};
 ghost use Rattle.pass_run.specs.Run.{First, RunIs};
 use crate::look::may_join;
 use crate::take::may_take;
-use pass_list::chain::Chain;
-use pass_list::chain::Next;
-use pass_list::chain::Pass;
+use pass_rules::chain::Chain;
+use pass_rules::chain::Next;
+use pass_list::run::Pass;
 use pass_list::read::read_edge;
 use pass_list::run::PassAnswer;
 use pass_list::write::write_edge;
-use pass_rules::chain::next;
 use text::Place;
 
 // What the chain that an edge begins comes to: the index behind its last edge; or the start of the joined edge above TOP.
@@ -72,7 +72,7 @@ fn next_of_chain(c: Chain, pass: Pass, s: &[u8], at: usize) -> Next
     ensures { λ r. ⌜ ((x : StoredChain) → ChainIs c x → r ≡ answer (passOf pass) x (storedAt (now (s .entry)) at)) ⌝ }
 {
     if may_take(c, s, at, pass) {
-        return next(c, pass, read_edge(s, at));
+        return c.join(pass, read_edge(s, at));
     }
     Next::Ends
 }

@@ -7,7 +7,7 @@ ghost use lib.ListN.{length};
 ghost use Rattle.pass_list.specs.Stored.{storedAt};
 ghost use Rattle.pass_list.specs.StoredPass.{begin, joins};
 ghost use Rattle.pass_list.specs.Answers.{passOf};
-use pass_list::chain::Pass;
+use pass_list::run::Pass;
 
 // Whether the pass may join the edges at two offsets: where it does, these few fields say so.
 pub fn may_join(s: &[u8], a: usize, b: usize, pass: Pass) -> bool

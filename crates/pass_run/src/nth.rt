@@ -7,7 +7,7 @@ ghost use Rattle.pass_list.specs.Stored.{storedListAt};
 ghost use Rattle.pass_list.specs.Answers.{passOf, PassedIs};
 ghost use Rattle.pass_run.specs.Nth.{nth};
 use crate::run_pass;
-use pass_list::chain::Pass;
+use pass_list::run::Pass;
 use pass_list::run::PassAnswer;
 
 // The i-th pass, counted from 0: in the Rust apply_d1_digits, apply_g1_multiplication, apply_g2_addition, apply_g3_large_power_multiplication and

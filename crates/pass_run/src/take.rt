@@ -5,9 +5,10 @@ ghost use Prim.Native.Nat.{_+_, _≤_};
 ghost use lib.ListN.{length};
 ghost use Rattle.pass_list.specs.Stored.{storedAt};
 ghost use Rattle.pass_list.specs.StoredPass.{StoredChain, joins};
-ghost use Rattle.pass_list.specs.Answers.{passOf, passChain};
-use pass_list::chain::Chain;
-use pass_list::chain::Pass;
+ghost use Rattle.pass_list.specs.Answers.{passOf};
+ghost use Rattle.pass_rules.specs.Chain.{passChain};
+use pass_rules::chain::Chain;
+use pass_list::run::Pass;
 
 // Whether the pass may join the edge at an offset to a chain.
 pub fn may_take(c: Chain, s: &[u8], at: usize, pass: Pass) -> bool

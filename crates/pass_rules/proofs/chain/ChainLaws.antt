@@ -1,5 +1,5 @@
 -- Laws of a chain and its next edge (`pass_list`, specs/StoredPass.antt and specs/Answers.antt), for this crate's proofs and its callers'. No contract
--- cites this file. In order: an edge as it counts; what `next` answers.
+-- cites this file. In order: an edge as it counts; what `Chain::join` answers.
 -- Assumes nothing.
 use mathlib.Core.Path.{_≡_, refl, ap}
 use mathlib.Core.Bool.{Bool, true, false, cond, _&&_}
@@ -11,11 +11,11 @@ use borrow.Author.Tests.{leb-true, lt-ltb, le-ltb}
 use Rattle.whole.specs.Whole.{TOP}
 use Rattle.text.proofs.RowLaws.{and-true}
 use Rattle.passes.specs.Passes.{Pass, D1, G1, G2, G3, G4, powerOfTen}
-use Rattle.pass_list.specs.declared.chain.Chain.{Chain}
-use Rattle.pass_list.specs.declared.chain.Next.the-variants.{Longer, Ends, Above}
+use Rattle.pass_rules.specs.declared.chain.Chain.{Chain}
+use Rattle.pass_rules.specs.declared.chain.Next.the-variants.{Longer, Ends, Above}
 use Rattle.pass_list.specs.StoredEdge.{StoredEdge, Fits, EdgeIs}
 use Rattle.pass_list.specs.StoredPass.{StoredChain, touches, rule, retaggable, retags, withNumbers, retagged, counted, joins, joinedValue, longer}
-use Rattle.pass_list.specs.Answers.{passChain, ChainIs, answer}
+use Rattle.pass_rules.specs.Chain.{passChain, ChainIs, answer}
 
 -- ---- an edge as it counts fits like the edge itself
 numbers-fit : (e : StoredEdge) (v b : ℕ) → Fits e → v ≤ TOP → b ≤ TOP → Fits (withNumbers e v b)
@@ -46,7 +46,7 @@ counted-fits G4 l e f g = go (retags l e) refl
     go true t = let s = f .small .base in numbers-fit e _ _ g (tenth-small (e .value) (l .base) (retags-digit l e t) s) (omega arith)
     go false t = g
 
--- ---- what `next` answers
+-- ---- what `Chain::join` answers
 pub chain-edge : {c : Chain} {x : StoredChain} → ChainIs c x → EdgeIs (c .edge) (x .edge)
 chain-edge h = record { is = ap (λ (c : Chain). c .edge) (h .is); fits = h .fits }
 

@@ -15,8 +15,8 @@ use Rattle.passes.specs.Passes.{Pass, D1, G1, G2, G3, G4, powerOfTen}
 use Rattle.pass_list.specs.StoredEdge.{StoredEdge}
 use Rattle.pass_list.specs.Stored.{storedAt}
 use Rattle.pass_list.specs.StoredPass.{StoredChain, begin, touches, d1Rule, g1Rule, comparable, g2Rule, g3Rule, g4Rule, rule, retaggable, retags, withNumbers, retagged, counted, joins, next}
-use Rattle.pass_list.specs.declared.chain.Next.the-variants.{Ends}
-use Rattle.pass_list.specs.Answers.{answer}
+use Rattle.pass_rules.specs.declared.chain.Next.the-variants.{Ends}
+use Rattle.pass_rules.specs.Chain.{answer}
 use Rattle.pass_list.proofs.read.FieldLaws.{fieldsAt, storedAt-fields}
 
 -- ---- rows of tests

@@ -3,10 +3,10 @@ use mathlib.Core.Path.{_≡_, ap}
 use mathlib.Core.Bool.{not, _&&_}
 use Rattle.whole.specs.Whole.{ofNat}
 use Rattle.pass_list.specs.declared.record.PassEdge.{PassEdge}
-use Rattle.pass_list.specs.declared.chain.Chain.{Chain}
+use Rattle.pass_rules.specs.declared.chain.Chain.{Chain}
 use Rattle.pass_list.specs.StoredEdge.{StoredEdge, EdgeIs}
 use Rattle.pass_list.specs.StoredPass.{StoredChain, comparable}
-use Rattle.pass_list.specs.Answers.{ChainIs}
+use Rattle.pass_rules.specs.Chain.{ChainIs}
 use borrow.Author.Needs.{needs}
 use Rattle.pass_rules.proofs.chain.ruled.Statement.{statement}
 use Rattle.pass_rules.proofs.chain.ruled.Tie as tie

@@ -1,10 +1,10 @@
 -- `Chain::begin` meets its contract. Assumes nothing.
 use mathlib.Core.Path.{_≡_, sym, ap, _∙_}
 use mathlib.Core.Bool.{true, false}
 use Rattle.pass_list.specs.declared.record.PassEdge.{PassEdge}
 use Rattle.pass_list.specs.StoredPass.{begin}
-use Rattle.pass_list.proofs.chain.Chain.begin.Statement.{statement}
-use Rattle.pass_list.proofs.chain.Chain.begin.Tie as tie
+use Rattle.pass_rules.proofs.chain.Chain.begin.Statement.{statement}
+use Rattle.pass_rules.proofs.chain.Chain.begin.Tie as tie
 
 returns : tie.Need-returns
 unfolding begin
