@@ -18,7 +18,7 @@ use Rattle.pass_list.specs.StoredEdge.{StoredEdge}
 abbrev pub numberIf : Bool → ℕ → ℕ
 numberIf b n = cond b n 0
 
--- the marks: type "digit" with a value 0 to 9; 零 or 〇; script CJK
+-- the marks: type "digit" with a value 0 to 9; 零 or 〇; script cjkBit
 unfoldable pub charStored : List ℕ → NumProp → ℕ → ℕ → ℕ → StoredEdge
 charStored t p at i c = record {
   start = i;

@@ -29,7 +29,7 @@ use Rattle.numbers.specs.CallEdge.{Legals}
 use Rattle.numbers.proofs.stages.CallLaws.{add-all-legals}
 use Rattle.lattice.specs.declared.Lattice.{Lattice}
 use Rattle.lattice.specs.Lattice.{add, addAll}
-use Rattle.lattice.specs.Kept.{Holds, AddingIs}
+use Rattle.lattice.specs.Kept.{Holds, AddingIs, SameBehind}
 use Rattle.lattice.proofs.HoldsLaws.{add-all-append, add-nothing}
 use Rattle.numbers.specs.Fallback.{covered, numType, asciiDigit, fallback}
 use Rattle.fallback.specs.Marks.{anyDigit}
@@ -114,7 +114,7 @@ module _ (line : List ℕ) (p : ℕ) (h : p < length (chars line)) where
 -- ---- the walk: with the characters from place p on, the lattice is what it shall be
 pub record Walking (w₀ : List ℕ) (l₀ : Lattice) (line : List ℕ) (marks : List Bool) (w : List ℕ) (l : Lattice) (p : ℕ) : Type 0 where
   pub long : length w ≡ length w₀
-  pub frame : drop 39424 w ≡ drop 39424 w₀
+  pub frame : SameBehind w₀ w
   pub holds : (es : List Edge) → Holds w₀ l₀ es
       → (ds : List Edge) × Holds w l ds × (addAll ds (unmarked marks p (drop p (chars line))) ≡ addAll es (unmarked marks 0 (chars line)))
 
@@ -122,7 +122,7 @@ pub walk-start : (w : List ℕ) (l : Lattice) (line : List ℕ) (marks : List Bo
 walk-start w l line marks = record { long = refl; frame = refl; holds = λ es q. (es, q, refl) }
 
 module _ {w₀ : List ℕ} {l₀ : Lattice} {line : List ℕ} {marks : List Bool} {w : List ℕ} {l : Lattice} {p : ℕ} (a : Walking w₀ l₀ line marks w l p) where
-  pub walk-next : p < length (chars line) → {at : ℕ} → at ≡ offsetOf line p → {v : List ℕ} {m : Lattice} → length v ≡ length w → drop 39424 v ≡ drop 39424 w
+  pub walk-next : p < length (chars line) → {at : ℕ} → at ≡ offsetOf line p → {v : List ℕ} {m : Lattice} → length v ≡ length w → SameBehind w v
       → ((es : List Edge) → Holds w l es → Holds v m (addAll es (digitEdge (getD line at 0) p (getD marks p false)))) → Walking w₀ l₀ line marks v m (p + 1)
   unfolding unmarked
   walk-next h {at} here {v} {m} y f g =

@@ -23,7 +23,7 @@ use Rattle.edge.specs.Check.{checkListing}
 use Rattle.edge.specs.declared.ListingCheck.the-variants.{Edges}
 use Rattle.lattice.specs.declared.Lattice.{Lattice}
 use Rattle.lattice.specs.Lattice.{addAll}
-use Rattle.lattice.specs.Kept.{Holds}
+use Rattle.lattice.specs.Kept.{Holds, END}
 use Rattle.lattice.proofs.HoldsLaws.{add-all-append}
 use Rattle.numbers.specs.Ready.{Ready}
 use Rattle.numbers.specs.CallEdge.{CallEdges}
@@ -41,7 +41,7 @@ use Rattle.numbers.specs.Call.{afterPasses}
 use Rattle.first_stages.specs.declared.chars.CharsAnswer.{CharsAnswer}
 use Rattle.first_stages.specs.Stages.{CallPassed}
 
-module _ (line t : List ℕ) (h : Shape) (given : List ℕ) {n count : ℕ} (ready : Ready line t h n) (legal : checkListing true n given ≡ Edges count) (bytes : (j : ℕ) → getD given j 0 < 256) (s : List ℕ) (r : CharsAnswer) (i : Initial line t h (drop 39424 s) (r .count)) where
+module _ (line t : List ℕ) (h : Shape) (given : List ℕ) {n count : ℕ} (ready : Ready line t h n) (legal : checkListing true n given ≡ Edges count) (bytes : (j : ℕ) → getD given j 0 < 256) (s : List ℕ) (r : CharsAnswer) (i : Initial line t h (drop END s) (r .count)) where
   abbrev w : List ℕ
   w = chars line
 
@@ -56,12 +56,12 @@ module _ (line t : List ℕ) (h : Shape) (given : List ℕ) {n count : ℕ} (rea
 
   pub call-above : (u : List ℕ) (p : Place) → FivePasses w t s (r .lattice) (r .count) u (Above p) → CallPassed line t h given u (Above p)
   unfolding FivePasses CallPassed
-  call-above u p f = sym (initial-five line t h (drop 39424 s) (r .count) i .above) ∙ f
+  call-above u p f = sym (initial-five line t h (drop END s) (r .count) i .above) ∙ f
 
   -- the edges of the characters, then the joined ones
   in-a-row : (es : List Edge) → addAll (addAll es (listedStored w t first)) (listedStored w t (addedBy five first)) ≡ addAll es (map listedEdge (firstList table w ++ joinedEdges table w))
   in-a-row es =
-      let f = initial-five line t h (drop 39424 s) (r .count) i in
+      let f = initial-five line t h (drop END s) (r .count) i in
       sym (add-all-append es (listedStored w t first) (listedStored w t (addedBy five first)))
       ∙ ap (addAll es) (sym (map-append listedEdge (map (edgeOf w t) first) (map (edgeOf w t) (addedBy five first))))
       ∙ ap (λ (es' : List NumEdge). addAll es (map listedEdge (es' ++ map (edgeOf w t) (addedBy five first)))) (f .first)
@@ -74,7 +74,7 @@ module _ (line t : List ℕ) (h : Shape) (given : List ℕ) {n count : ℕ} (rea
       → FivePasses w t s (r .lattice) (r .count) u (Added m k) → CallPassed line t h given u (Added m k)
   unfolding FivePasses CallPassed afterPasses
   call-done u m k q sounds f =
-      let a = initial-five line t h (drop 39424 s) (r .count) i in
+      let a = initial-five line t h (drop END s) (r .count) i in
       let e = in-a-row (addAll [] (listed given)) in
       record {
         above = sym (a .above) ∙ f .below;

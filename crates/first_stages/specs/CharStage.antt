@@ -13,7 +13,7 @@ use Rattle.table.specs.declared.shape.Shape.{Shape}
 use Rattle.edge.specs.Edge.{Edge}
 use Rattle.lattice.specs.declared.Lattice.{Lattice}
 use Rattle.lattice.specs.Lattice.{addAll}
-use Rattle.lattice.specs.Kept.{Holds}
+use Rattle.lattice.specs.Kept.{Holds, END}
 use Rattle.numbers.specs.Ready.{Offsets}
 use Rattle.characters.specs.Initial.{SoFar, Initial}
 use Rattle.first_stages.specs.Five.{listedStored, behind, PassList}
@@ -30,10 +30,10 @@ abbrev pub Grown : List ℕ → List ℕ → List ℕ → Lattice → List ℕ �
 Grown line t s l u r = (es : List Edge) → Holds s l es → Holds u (r .lattice) (addAll es (listedStored (chars line) t (behind u (r .count))))
 
 pub record Adding (line t : List ℕ) (rs : List Record) (k : ℕ) (s : List ℕ) (l : Lattice) (u : List ℕ) (r : CharsAnswer) : Type 0 where
-  pub so-far : SoFar (chars line) t rs k (drop 39424 u) (r .count)
+  pub so-far : SoFar (chars line) t rs k (drop END u) (r .count)
   pub holds : Grown line t s l u r
 
 pub record FirstDone (line t : List ℕ) (h : Shape) (s : List ℕ) (l : Lattice) (u : List ℕ) (r : CharsAnswer) : Type 0 where
-  pub initial : Initial line t h (drop 39424 u) (r .count)
+  pub initial : Initial line t h (drop END u) (r .count)
   pub list : PassList (chars line) t 1 u (r .count)
   pub holds : Grown line t s l u r

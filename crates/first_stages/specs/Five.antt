@@ -18,7 +18,7 @@ use Rattle.pass_run.specs.Nth.{nth}
 use Rattle.edge.specs.Edge.{Edge}
 use Rattle.lattice.specs.declared.Lattice.{Lattice}
 use Rattle.lattice.specs.Lattice.{addAll}
-use Rattle.lattice.specs.Kept.{Holds}
+use Rattle.lattice.specs.Kept.{Holds, END}
 use Rattle.pass_edge.specs.Grounded.{AllGrounded}
 use Rattle.numbers.specs.Listed.{listedEdge}
 use Rattle.first_stages.specs.declared.five_passes.PassesAnswer.{PassesAnswer}
@@ -29,7 +29,7 @@ listedStored w t l = map listedEdge (map (edgeOf w t) l)
 
 -- the list behind the lattice
 abbrev pub behind : List ℕ → ℕ → List StoredEdge
-behind s n = storedListAt (drop 39424 s) 0 n
+behind s n = storedListAt (drop END s) 0 n
 
 pub record PassList (w t : List ℕ) (k : ℕ) (s : List ℕ) (n : ℕ) : Type 0 where
   pub sounds : AllGrounded w t (behind s n)

@@ -54,7 +54,7 @@ fn put_and_add(
     ensures { λ r. ⌜ (behind (now (w .exit)) (n + 1) ≡ behind (now (w .entry)) n ++ (charStored (now (table .entry)) p («record_at» .0) (place .0) c ∷ [])) × ((es : List Edge) → Holds (now (w .entry)) l es → Holds (now (w .exit)) r (add es (listedEdge (edgeOf (chars (now (line .entry))) (now (table .entry)) (charStored (now (table .entry)) p («record_at» .0) (place .0) c))))) ⌝ }
 {
     let e = char_edge(table, p, record_at, place, c);
-    write_edge(w, 39424 + n * 56, e);
+    write_edge(w, lattice::END + n * 56, e);
     characters::add::add_char(w, l, line, offs, table, e)
 }
 

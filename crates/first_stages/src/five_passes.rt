@@ -10,7 +10,7 @@ ghost use Rattle.pass_list.specs.InTurn.{ofKind};
 ghost use Rattle.numbers.specs.Ready.{Offsets};
 ghost use Rattle.edge.specs.Edge.{Edge};
 ghost use Rattle.lattice.specs.Lattice.{addAll};
-ghost use Rattle.lattice.specs.Kept.{Holds};
+ghost use Rattle.lattice.specs.Kept.{Holds, END, SameBehind};
 ghost use Rattle.numbers.specs.Listed.{listedEdge};
 ghost use Rattle.pass_edge.specs.Grounded.{Grounded, AllGrounded};
 ghost use Rattle.pass_edge.specs.Adding.{Addable, Added, addIf};
@@ -70,10 +70,10 @@ fn add_if(
     i: usize,
     kind: u16,
 ) -> Lattice
-    requires { ⌜ ((es : List Edge) × Holds (now w) l es) × Offsets (now line) (now offs) × (length (chars (now line)) ≤ 256) × Grounded (chars (now line)) (now table) (storedAt (drop 39424 (now w)) (i * 56)) × (39424 + i * 56 + 56 ≤ length (now w)) × (kind ≡ 0 → ⊥) ⌝ }
-    ensures { λ r. ⌜ (drop 39424 (now (w .exit)) ≡ drop 39424 (now (w .entry))) × ((es : List Edge) → Holds (now (w .entry)) l es → Holds (now (w .exit)) r (addIf (chars (now (line .entry))) (now (table .entry)) kind es (storedAt (drop 39424 (now (w .entry))) (i * 56)))) ⌝ }
+    requires { ⌜ ((es : List Edge) × Holds (now w) l es) × Offsets (now line) (now offs) × (length (chars (now line)) ≤ 256) × Grounded (chars (now line)) (now table) (storedAt (drop END (now w)) (i * 56)) × (END + i * 56 + 56 ≤ length (now w)) × (kind ≡ 0 → ⊥) ⌝ }
+    ensures { λ r. ⌜ SameBehind (now (w .entry)) (now (w .exit)) × ((es : List Edge) → Holds (now (w .entry)) l es → Holds (now (w .exit)) r (addIf (chars (now (line .entry))) (now (table .entry)) kind es (storedAt (drop END (now (w .entry))) (i * 56)))) ⌝ }
 {
-    let at = 39424 + i * 56;
+    let at = lattice::END + i * 56;
     let found = fields::u16_at(w, at + 4);
     if found != kind {
         return l;
@@ -92,8 +92,8 @@ fn add_of_kind(
     n: usize,
     kind: u16,
 ) -> Lattice
-    requires { ⌜ ((es : List Edge) × Holds (now w) l es) × Offsets (now line) (now offs) × (length (chars (now line)) ≤ 256) × AllGrounded (chars (now line)) (now table) (storedListAt (drop 39424 (now w)) 0 n) × (39424 + n * 56 ≤ length (now w)) × (kind ≡ 0 → ⊥) ⌝ }
-    ensures { λ r. ⌜ (drop 39424 (now (w .exit)) ≡ drop 39424 (now (w .entry))) × ((es : List Edge) → Holds (now (w .entry)) l es → Holds (now (w .exit)) r (addAll es (map listedEdge (map (edgeOf (chars (now (line .entry))) (now (table .entry))) (ofKind kind (storedListAt (drop 39424 (now (w .entry))) 0 n)))))) ⌝ }
+    requires { ⌜ ((es : List Edge) × Holds (now w) l es) × Offsets (now line) (now offs) × (length (chars (now line)) ≤ 256) × AllGrounded (chars (now line)) (now table) (storedListAt (drop END (now w)) 0 n) × (END + n * 56 ≤ length (now w)) × (kind ≡ 0 → ⊥) ⌝ }
+    ensures { λ r. ⌜ SameBehind (now (w .entry)) (now (w .exit)) × ((es : List Edge) → Holds (now (w .entry)) l es → Holds (now (w .exit)) r (addAll es (map listedEdge (map (edgeOf (chars (now (line .entry))) (now (table .entry))) (ofKind kind (storedListAt (drop END (now (w .entry))) 0 n)))))) ⌝ }
 {
     // two words, not a structure: one that is handed back in two pieces and copied as a whole makes the processor wait
     let mut count = l.count;
@@ -121,7 +121,7 @@ fn one_pass(
     requires { ⌜ ((es : List Edge) × Holds (now w) l es) × Offsets (now line) (now offs) × (length (chars (now line)) ≤ 256) × (65536 ≤ length (now w)) × PassList (chars (now line)) (now table) (suc i) (now w) n × (i < 5) ⌝ }
     ensures { λ r. ⌜ OnePass (chars (now (line .entry))) (now (table .entry)) i (now (w .entry)) l n (now (w .exit)) r ⌝ }
 {
-    match pass_run::nth::pass_behind(w, n, i) {
+    match pass_run::nth::pass_behind(w, lattice::END, n, i) {
         PassAnswer::Above(p) => PassesAnswer::Above(p),
         PassAnswer::Edges(k) => {
             // as many edges as before: none is joined

@@ -3,19 +3,18 @@ ghost use mathlib.Core.Path.{_≡_};
 ghost use mathlib.Core.Bool.{true};
 ghost use mathlib.Core.List.{List};
 ghost use Prim.Native.Nat.{ℕ};
-ghost use lib.ListN.{drop};
 ghost use Rattle.edge.specs.Edge.{Edge};
 ghost use Rattle.edge.specs.Layout.{listed};
 ghost use Rattle.edge.specs.Check.{checkListing};
 ghost use Rattle.edge.specs.declared.ListingCheck.the-variants.{Edges};
 ghost use Rattle.lattice.specs.Lattice.{addAll};
-ghost use Rattle.lattice.specs.Kept.{Holds};
+ghost use Rattle.lattice.specs.Kept.{Holds, SameBehind};
 use lattice::Lattice;
 
 // The edges of an accepted listing are added, one after the other from its front.
 pub fn add_all_given(w: &mut [u8], l: Lattice, given: &[u8], count: usize) -> Lattice
     requires { ⌜ ((es : List Edge) × Holds (now w) l es) × ((n : ℕ) × (checkListing true n (now given) ≡ Edges count)) ⌝ }
-    ensures { λ r. ⌜ (drop 39424 (now (w .exit)) ≡ drop 39424 (now (w .entry))) × ((es : List Edge) → Holds (now (w .entry)) l es → Holds (now (w .exit)) r (addAll es (listed (now (given .entry))))) ⌝ }
+    ensures { λ r. ⌜ SameBehind (now (w .entry)) (now (w .exit)) × ((es : List Edge) → Holds (now (w .entry)) l es → Holds (now (w .exit)) r (addAll es (listed (now (given .entry))))) ⌝ }
 {
     let mut grown = l;
     let mut at = 2;

@@ -5,12 +5,12 @@ use mathlib.Core.List.{List, [], _∷_, _++_}
 use Prim.Native.Nat.{ℕ, zero, suc, _+_, _-_, _≤_, _<_}
 use native.Mathlib.Nat.{suc-add}
 use native.Mathlib.Omega.{arith}
-use lib.ListN.{length, drop}
+use lib.ListN.{length}
 use Rattle.table.specs.Table.{Table}
 use Rattle.edge.specs.Edge.{Edge}
 use Rattle.lattice.specs.declared.Lattice.{Lattice}
 use Rattle.lattice.specs.Lattice.{addAll}
-use Rattle.lattice.specs.Kept.{Holds}
+use Rattle.lattice.specs.Kept.{Holds, SameBehind}
 use Rattle.lattice.proofs.HoldsLaws.{add-all-append}
 use Rattle.pass_list.specs.StoredEdge.{Every, nil, cons}
 use Rattle.numbers.proofs.stages.CallLaws.{add-all-call}
@@ -95,7 +95,7 @@ add-more es fs ls rs p v =
 pub record Grown (w₀ : List ℕ) (l₀ : Lattice) (fs ls rs : List ℕ) (n : ℕ) (w : List ℕ) (l : Lattice) (p : ℕ) : Type 0 where
   pub most : p ≤ n
   pub long : length w ≡ length w₀
-  pub frame : drop 39424 w ≡ drop 39424 w₀
+  pub frame : SameBehind w₀ w
   pub holds : (es : List Edge) → Planned n w₀ l₀ es fs ls rs → Holds w l (addAll es (newEdges (outcomesOf es fs ls rs 0 p)))
 
 pub grown-start : (w : List ℕ) (l : Lattice) (fs ls rs : List ℕ) (n : ℕ) → Grown w l fs ls rs n w l 0
@@ -106,7 +106,7 @@ module _ {w₀ : List ℕ} {l₀ : Lattice} {fs ls rs : List ℕ} {n : ℕ} {w :
   pub grown-next : p < n → {es : List Edge} → Planned n w₀ l₀ es fs ls rs → (ds : List Edge) × HoldsChoice n w l ds (choiceAt fs ls rs p)
   grown-next h {es} k = (addAll es (newEdges (outcomesOf es fs ls rs 0 p)), add-over k p h (q .holds es k))
 
-  pub grown-more : p < n → {u : List ℕ} {m : Lattice} → length u ≡ length w → drop 39424 u ≡ drop 39424 w
+  pub grown-more : p < n → {u : List ℕ} {m : Lattice} → length u ≡ length w → SameBehind w u
       → ((j : ℕ) (ds : List Edge) → HoldsChoice j w l ds (choiceAt fs ls rs p) → Holds u m (addOutcome ds (outcomeOf ds p (choiceAt fs ls rs p)))) → Grown w₀ l₀ fs ls rs n u m (p + 1)
   grown-more h {u} {m} x y f = record {
     most = omega arith;

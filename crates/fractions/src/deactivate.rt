@@ -2,10 +2,9 @@
 ghost use mathlib.Core.Path.{_≡_};
 ghost use mathlib.Core.List.{List};
 ghost use Prim.Native.Nat.{_≤_, _<_};
-ghost use lib.ListN.{drop};
 ghost use Rattle.edge.specs.Edge.{Edge};
 ghost use Rattle.lattice.specs.Lattice.{turnOffAt, turnOff};
-ghost use Rattle.lattice.specs.Kept.{Holds};
+ghost use Rattle.lattice.specs.Kept.{Holds, SameBehind};
 ghost use Rattle.numbers.specs.Fractions.{usedEdges};
 ghost use Rattle.fraction_choices.specs.Choice.{Valid};
 ghost use Rattle.fractions.specs.Outcomes.{outcomesOf, usedBy, AllValid};
@@ -25,7 +24,7 @@ fn turn_off_both(w: &mut [u8], l: Lattice, left: usize, right: usize)
 // The edges that a choice uses turn inactive.
 fn turn_off_used(w: &mut [u8], l: Lattice, c: Choice)
     requires { ⌜ ((es : List Edge) × Holds (now w) l es × Valid es c) × (l .len ≡ 0 → ⊥) ⌝ }
-    ensures { λ _. ⌜ (drop 39424 (now (w .exit)) ≡ drop 39424 (now (w .entry))) × ((es : List Edge) → Holds (now (w .entry)) l es → Holds (now (w .exit)) l (turnOff es (usedBy c))) ⌝ }
+    ensures { λ _. ⌜ SameBehind (now (w .entry)) (now (w .exit)) × ((es : List Edge) → Holds (now (w .entry)) l es → Holds (now (w .exit)) l (turnOff es (usedBy c))) ⌝ }
 {
     let left = c.left;
     let right = c.right;
@@ -48,7 +47,7 @@ pub fn turn_off_all(
     n: usize,
 )
     requires { ⌜ ((es : List Edge) × Holds (now w) l es × AllValid es (now forms) (now lefts) (now rights) n) × (l .len ≡ 0 → ⊥) × (n ≤ 256) ⌝ }
-    ensures { λ _. ⌜ (drop 39424 (now (w .exit)) ≡ drop 39424 (now (w .entry))) × ((es : List Edge) → Holds (now (w .entry)) l es → AllValid es (now (forms .entry)) (now (lefts .entry)) (now (rights .entry)) n → Holds (now (w .exit)) l (turnOff es (usedEdges (outcomesOf es (now (forms .entry)) (now (lefts .entry)) (now (rights .entry)) 0 n)))) ⌝ }
+    ensures { λ _. ⌜ SameBehind (now (w .entry)) (now (w .exit)) × ((es : List Edge) → Holds (now (w .entry)) l es → AllValid es (now (forms .entry)) (now (lefts .entry)) (now (rights .entry)) n → Holds (now (w .exit)) l (turnOff es (usedEdges (outcomesOf es (now (forms .entry)) (now (lefts .entry)) (now (rights .entry)) 0 n)))) ⌝ }
 {
     let mut p = 0;
     while p < n {

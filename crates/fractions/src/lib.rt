@@ -5,15 +5,13 @@ pub mod texts; // texts.rt: the texts of the new edges
 pub mod parts; // parts.rt: their fields, and what they take from the used edges
 pub mod new_edge; // new_edge.rt: the edge of a choice, added
 
-ghost use mathlib.Core.Path.{_≡_};
 ghost use mathlib.Core.List.{List};
 ghost use Prim.Native.Nat.{_≤_, _<_};
-ghost use lib.ListN.{drop};
 ghost use Rattle.text.specs.Text.{chars};
 ghost use Rattle.table.specs.Answers.{tableOf};
 ghost use Rattle.edge.specs.Edge.{Edge};
 ghost use Rattle.lattice.specs.Lattice.{addAll};
-ghost use Rattle.lattice.specs.Kept.{Holds};
+ghost use Rattle.lattice.specs.Kept.{Holds, SameBehind};
 ghost use Rattle.numbers.specs.Ready.{Ready, Offsets};
 ghost use Rattle.numbers.specs.CallEdge.{CallEdges};
 ghost use Rattle.numbers.specs.Fractions.{newEdges, fractions};
@@ -33,7 +31,7 @@ fn add_all(
     n: usize,
 ) -> Lattice
     requires { ⌜ ((es : List Edge) × Planned n (now w) l es (now forms) (now lefts) (now rights)) × (n ≤ 256) ⌝ }
-    ensures { λ r. ⌜ (drop 39424 (now (w .exit)) ≡ drop 39424 (now (w .entry))) × ((es : List Edge) → Planned n (now (w .entry)) l es (now (forms .entry)) (now (lefts .entry)) (now (rights .entry)) → Holds (now (w .exit)) r (addAll es (newEdges (outcomesOf es (now (forms .entry)) (now (lefts .entry)) (now (rights .entry)) 0 n)))) ⌝ }
+    ensures { λ r. ⌜ SameBehind (now (w .entry)) (now (w .exit)) × ((es : List Edge) → Planned n (now (w .entry)) l es (now (forms .entry)) (now (lefts .entry)) (now (rights .entry)) → Holds (now (w .exit)) r (addAll es (newEdges (outcomesOf es (now (forms .entry)) (now (lefts .entry)) (now (rights .entry)) 0 n)))) ⌝ }
 {
     let mut grown = l;
     let mut p = 0;
@@ -56,7 +54,7 @@ pub fn fractions(
     n: usize,
 ) -> Lattice
     requires { ⌜ Ready (now line) (now table) h n × ((es : List Edge) × Holds (now w) l es × CallEdges n es) × Offsets (now line) (now offs) ⌝ }
-    ensures { λ r. ⌜ (drop 39424 (now (w .exit)) ≡ drop 39424 (now (w .entry))) × ((es : List Edge) → Holds (now (w .entry)) l es → CallEdges n es → Holds (now (w .exit)) r (fractions (tableOf (now (table .entry)) h) (chars (now (line .entry))) es)) ⌝ }
+    ensures { λ r. ⌜ SameBehind (now (w .entry)) (now (w .exit)) × ((es : List Edge) → Holds (now (w .entry)) l es → CallEdges n es → Holds (now (w .exit)) r (fractions (tableOf (now (table .entry)) h) (chars (now (line .entry))) es)) ⌝ }
 {
     if l.len == 0 {
         return l;

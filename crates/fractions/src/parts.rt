@@ -4,12 +4,12 @@ ghost use mathlib.Core.Path.{_≡_};
 ghost use mathlib.Core.List.{List};
 ghost use mathlib.Core.Option.{some};
 ghost use Prim.Native.Nat.{ℕ, _+_, _≤_, _<_};
-ghost use lib.ListN.{length, getD, drop};
+ghost use lib.ListN.{length, getD};
 ghost use Rattle.edge.specs.Edge.{Edge, Text};
 ghost use Rattle.edge.specs.Layout.{fieldsEnd, numericAt};
 ghost use Rattle.edge.specs.View.{textOf};
 ghost use Rattle.lattice.specs.Lattice.{add};
-ghost use Rattle.lattice.specs.Kept.{noEdge, Holds};
+ghost use Rattle.lattice.specs.Kept.{noEdge, Holds, SameBehind};
 ghost use Rattle.fraction_choices.specs.Choice.{valueOr, HasValue, One};
 ghost use Rattle.fractions.specs.MadeParts.{HeadIs, scriptFrom, scriptLen, fractionFields, HoldsCall, fractionWith, txtPercentOf};
 use edge::EdgeView;
@@ -99,7 +99,7 @@ pub fn value_of(w: &[u8], l: Lattice, i: usize) -> u64
 // The right edge's txt and "%", from a place on.
 pub fn add_txt_percent(w: &mut [u8], l: Lattice, p: Place, right: usize) -> Lattice
     requires { ⌜ ((n : ℕ) × ((es : List Edge) × HoldsCall n (now w) l es × One es right)) × (l .len ≡ 0 → ⊥) × (p .0 < 65536) ⌝ }
-    ensures { λ r. ⌜ (drop 39424 (now (w .exit)) ≡ drop 39424 (now (w .entry))) × ((n : ℕ) (es : List Edge) → HoldsCall n (now (w .entry)) l es → One es right → Holds (now (w .exit)) r (add es (txtPercentOf es (p .0) right))) ⌝ }
+    ensures { λ r. ⌜ SameBehind (now (w .entry)) (now (w .exit)) × ((n : ℕ) (es : List Edge) → HoldsCall n (now (w .entry)) l es → One es right → Holds (now (w .exit)) r (add es (txtPercentOf es (p .0) right))) ⌝ }
 {
     let b = head_of(w, l, right);
     let mut buf = [0u8; 300];
@@ -119,7 +119,7 @@ pub fn add_composed(
     script: &[u8; 300],
 ) -> Lattice
     requires { ⌜ ((es : List Edge) × Holds (now w) l es) × (start .0 < 65536) × (end .0 < 65536) × (length (now txt) ≤ 300) × (scriptLen s ≤ 60) ⌝ }
-    ensures { λ r. ⌜ (drop 39424 (now (w .exit)) ≡ drop 39424 (now (w .entry))) × ((es : List Edge) → Holds (now (w .entry)) l es → Holds (now (w .exit)) r (add es (fractionWith (start .0) (end .0) (now (txt .entry)) (q .numerator, q .denominator) (scriptFrom (now (script .entry)) s)))) ⌝ }
+    ensures { λ r. ⌜ SameBehind (now (w .entry)) (now (w .exit)) × ((es : List Edge) → Holds (now (w .entry)) l es → Holds (now (w .exit)) r (add es (fractionWith (start .0) (end .0) (now (txt .entry)) (q .numerator, q .denominator) (scriptFrom (now (script .entry)) s)))) ⌝ }
 {
     let d = fraction_fields(txt.len(), q, s);
     lattice_add::numeric::add_numeric(w, l, start, end, b"fraction", txt, d, txt, script, b"")

@@ -92,7 +92,7 @@ isLarge (digit d) = false
 isLarge (ten t) = false
 isLarge (large l) = true
 
--- "rom is the value in decimal .. script CJK"
+-- "rom is the value in decimal .. script cjkBit"
 unfoldable pub plainRecord : Char → Record
 plainRecord c = record {
   code-point = codePoint c;

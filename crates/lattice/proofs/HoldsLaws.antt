@@ -6,7 +6,7 @@ use mathlib.Core.Bool.{Bool, true, false, cond, _||_}
 use mathlib.Core.List.{List, [], _∷_, _++_}
 use Prim.Native.Nat.{ℕ, _+_, _*_, _≤_, _<_}
 use native.Mathlib.Omega.{arith}
-use lib.ListN.{length, drop, length-append}
+use lib.ListN.{length, length-append}
 use lib.Seq.{sets, length-sets}
 use lib.Dec.{ltb}
 use borrow.Author.Tests.{lt-ltb, ltb-true}
@@ -15,14 +15,14 @@ use Rattle.edge.specs.Edge.{Edge, edgesBytes, listingBytes}
 use Rattle.lattice.specs.declared.Lattice.{Lattice}
 use Rattle.lattice.specs.declared.Adding.the-variants.{Nothing}
 use Rattle.lattice.specs.Lattice.{has, add, addAll, overfull}
-use Rattle.lattice.specs.Kept.{END, OFFSETS, NEXTS, HEADS, cell, Kept, Holds, AddingIs}
+use Rattle.lattice.specs.Kept.{END, OFFSETS, NEXTS, HEADS, cell, Kept, Holds, AddingIs, SameBehind}
 use Rattle.lattice.proofs.KeptLaws.{length-edges-snoc, length-listing, cell-other}
 
 -- ---- what lies behind the lattice, of plain lists: as a place of the code has the two sides, antt takes half a second to compare them
-pub behind-same : (u w : List ℕ) → drop 39424 w ≡ drop 39424 u → drop 39424 w ≡ drop 39424 u
+pub behind-same : (u w : List ℕ) → SameBehind u w → SameBehind u w
 behind-same u w p = p
 
-pub behind-twice : (u v w : List ℕ) → drop 39424 w ≡ drop 39424 v → drop 39424 v ≡ drop 39424 u → drop 39424 w ≡ drop 39424 u
+pub behind-twice : (u v w : List ℕ) → SameBehind v w → SameBehind u v → SameBehind u w
 behind-twice u v w p q = p ∙ q
 
 -- ---- a lattice that is not full is kept, one that is full is over

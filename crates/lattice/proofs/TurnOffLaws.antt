@@ -17,7 +17,7 @@ use Rattle.fields.proofs.PartLaws.{part-add, part-sets, part-sets-other, length
 use Rattle.edge.specs.Edge.{Edge, Numeric, there, flag, numericMap, mapOf, opt, numericBytes, edgeBytes, edgesBytes}
 use Rattle.lattice.specs.declared.Lattice.{Lattice}
 use Rattle.lattice.specs.Lattice.{quiet, inactive, turnOffAt}
-use Rattle.lattice.specs.Kept.{END, OFFSETS, NEXTS, HEADS, key, bucket, noEdge, lastIn, offset, inactiveMap, Fits, Kept, Holds}
+use Rattle.lattice.specs.Kept.{END, OFFSETS, NEXTS, HEADS, key, bucket, noEdge, lastIn, offset, inactiveMap, Fits, Kept, Holds, SameBehind}
 use Rattle.lattice.proofs.KeyLaws.{cut}
 use Rattle.lattice.proofs.KeptLaws.{there-le, flag-le, fieldsBytes, edge-parts, length-edge, edges-split, length-listing, map-stands, map-in, kept-size, kept-bytes, kept-count, listing-of, cell-other}
 use Rattle.lattice.proofs.HoldsLaws.{kept-of}
@@ -210,7 +210,7 @@ module _ {w : List ℕ} {l : Lattice} {es : List Edge} (q : Holds w l es) (f : (
       let g = kept-turned k i x in
       rw (wrote, e, here) (record { room = g .room; short = q .short; state = inr (f, g) })
 
-  pub turned-frame : drop END t ≡ drop END w
+  pub turned-frame : SameBehind w t
   turned-frame =
       let k = kept-of q f in
       let y = map-in k i x in

@@ -6,6 +6,7 @@
 --     38,912 HEADS     the last edge of each bucket, u16 x 256
 --     39,424 END       nothing of the lattice from here on
 --
+--     SameBehind s u    what stands behind the lattice in s is in u as it was
 --     cell s base i     the i-th u16 from an offset on
 --     key e             the bytes of an edge that tell it apart: start, end, type and txt; no key begins another
 --     hash bs           a hash of the bytes of a key, below 256
@@ -25,7 +26,7 @@ use mathlib.Core.Bool.{Bool, true, false, cond, _||_}
 use mathlib.Core.List.{List, [], _∷_, _++_}
 use mathlib.Core.Option.{none}
 use Prim.Native.Nat.{ℕ, zero, suc, _+_, _*_, _/_, _%_, _-_, _≤_, _<_}
-use lib.ListN.{length, take, getD}
+use lib.ListN.{length, take, drop, getD}
 use lib.Dec.{eqb, ltb}
 use lib.Seq.{sets}
 use Rattle.fields.specs.Fields.{leAt, bytesOf}
@@ -51,6 +52,10 @@ HEADS = 38912
 
 abbrev pub END : ℕ
 END = 39424
+
+-- what stands behind the lattice in the work space s is in u as it was
+abbrev pub SameBehind : List ℕ → List ℕ → Type 0
+SameBehind s u = drop END u ≡ drop END s
 
 abbrev pub cell : List ℕ → ℕ → ℕ → ℕ
 cell s base i = leAt s (base + 2 * i) 2

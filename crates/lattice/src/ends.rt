@@ -2,19 +2,17 @@
 ghost use mathlib.Core.Path.{_≡_};
 ghost use mathlib.Core.List.{List, []};
 ghost use Prim.Native.Nat.{_≤_};
-ghost use lib.ListN.{length, drop};
+ghost use lib.ListN.{length};
 ghost use Rattle.edge.specs.Edge.{Edge};
-ghost use Rattle.lattice.specs.Kept.{Holds, finished, finishedOut};
+ghost use Rattle.lattice.specs.Kept.{Holds, finished, finishedOut, END, SameBehind};
 use crate::Finished;
+use crate::HEADS;
 use crate::Lattice;
-
-// Where the last edge of each bucket stands.
-const HEADS: usize = 38912;
 
 // A lattice without edges.
 pub fn empty(w: &mut [u8]) -> Lattice
-    requires { ⌜ 39424 ≤ length (now w) ⌝ }
-    ensures { λ r. ⌜ (drop 39424 (now (w .exit)) ≡ drop 39424 (now (w .entry))) × Holds (now (w .exit)) r [] ⌝ }
+    requires { ⌜ END ≤ length (now w) ⌝ }
+    ensures { λ r. ⌜ SameBehind (now (w .entry)) (now (w .exit)) × Holds (now (w .exit)) r [] ⌝ }
 {
     fields::write::put_u16(w, 0, 0);
     let mut b = 0;

@@ -10,14 +10,10 @@ ghost use Rattle.edge.specs.Edge.{Edge};
 ghost use Rattle.lattice.specs.Lattice.{has};
 ghost use Rattle.lattice.specs.Kept.{mixed, hash, Stands, Holds, Search, AddingIs};
 use crate::Adding;
+use crate::HEADS;
 use crate::Lattice;
-
-// Where the offset of each edge, the last earlier edge of its bucket, and the last edge of each bucket stand.
-const OFFSETS: usize = 34816;
-
-const NEXTS: usize = 36864;
-
-const HEADS: usize = 38912;
+use crate::NEXTS;
+use crate::OFFSETS;
 
 // What a listing may hold.
 const MOST_EDGES: usize = 1024;

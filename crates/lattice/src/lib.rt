@@ -8,13 +8,19 @@ ghost use mathlib.Core.Path.{_≡_};
 ghost use mathlib.Core.Bool.{false};
 ghost use mathlib.Core.List.{List};
 ghost use Prim.Native.Nat.{_<_};
-ghost use lib.ListN.{drop};
 ghost use Rattle.edge.specs.Edge.{Edge};
 ghost use Rattle.lattice.specs.Lattice.{turnOffAt};
-ghost use Rattle.lattice.specs.Kept.{offset, inactiveMap, Holds};
+ghost use Rattle.lattice.specs.Kept.{offset, inactiveMap, Holds, SameBehind};
 
-// Where the offset of each edge stands.
+// The layout of the work space: where the offset of each edge, the last earlier edge of its bucket, and the last edge of each bucket stand (edges count
+// from 1 there), and where the lattice ends.
 const OFFSETS: usize = 34816;
+
+const NEXTS: usize = 36864;
+
+const HEADS: usize = 38912;
+
+pub const END: usize = 39424;
 
 // A lattice: how many edges, and the length of their listing; 0, which no listing has, where they became too many or too long.
 pub struct Lattice {
@@ -53,7 +59,7 @@ fn inactive_map(map: u16) -> u16
 // The i-th edge turns inactive.
 pub fn turn_off(w: &mut [u8], l: Lattice, i: usize)
     requires { ⌜ ((es : List Edge) × Holds (now w) l es) × (l .len ≡ 0 → ⊥) × (i < l .count) ⌝ }
-    ensures { λ _. ⌜ (drop 39424 (now (w .exit)) ≡ drop 39424 (now (w .entry))) × ((es : List Edge) → Holds (now (w .entry)) l es → Holds (now (w .exit)) l (turnOffAt es i)) ⌝ }
+    ensures { λ _. ⌜ SameBehind (now (w .entry)) (now (w .exit)) × ((es : List Edge) → Holds (now (w .entry)) l es → Holds (now (w .exit)) l (turnOffAt es i)) ⌝ }
 {
     let at = offset_at(w, l, i);
     let map = inactive_map(fields::u16_at(w, at));

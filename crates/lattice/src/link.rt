@@ -4,14 +4,10 @@ ghost use Prim.Native.Nat.{_+_, _*_, _≤_, _<_};
 ghost use lib.ListN.{length};
 ghost use lib.Seq.{sets};
 ghost use Rattle.fields.specs.Fields.{bytesOf};
-ghost use Rattle.lattice.specs.Kept.{linked};
-
-// Where the offset of each edge, the last earlier edge of its bucket, and the last edge of each bucket stand. Edges count from 1 there.
-const OFFSETS: usize = 34816;
-
-const NEXTS: usize = 36864;
-
-const HEADS: usize = 38912;
+ghost use Rattle.lattice.specs.Kept.{linked, END};
+use crate::HEADS;
+use crate::NEXTS;
+use crate::OFFSETS;
 
 // The i-th cell from base on is v.
 fn put_cell(w: &mut [u8], base: usize, i: usize, v: usize)
@@ -23,7 +19,7 @@ fn put_cell(w: &mut [u8], base: usize, i: usize, v: usize)
 
 // The cells and the count with one edge more, the n-th, at offset len.
 pub fn link(w: &mut [u8], n: usize, len: usize, bucket: usize)
-    requires { ⌜ (39424 ≤ length (now w)) × (n < 1024) × (len ≤ 32768) × (bucket < 256) ⌝ }
+    requires { ⌜ (END ≤ length (now w)) × (n < 1024) × (len ≤ 32768) × (bucket < 256) ⌝ }
     ensures { λ _. ⌜ now (w .exit) ≡ linked (now (w .entry)) n len bucket ⌝ }
 {
     let head = fields::u16_at(w, HEADS + 2 * bucket) as usize;

@@ -12,7 +12,7 @@ use Rattle.fields.specs.Part.{part}
 use Rattle.fields.proofs.PartLaws.{part-sets, drop-sets}
 use Rattle.edge.specs.Edge.{Edge, there, edgeBytes}
 use Rattle.lattice.specs.Lattice.{add}
-use Rattle.lattice.specs.Kept.{Stands, END, linked, Holds, AddingIs}
+use Rattle.lattice.specs.Kept.{Stands, END, linked, Holds, AddingIs, SameBehind}
 use Rattle.lattice.specs.declared.Lattice.{Lattice}
 use Rattle.lattice.specs.declared.Adding.the-variants.{TooMuch, Into}
 use Rattle.lattice.proofs.HoldsLaws.{kept-of, holds-beside, add-new}
@@ -53,7 +53,7 @@ module _ {w s : List ℕ} {l : Lattice} {es : List Edge} (q : Holds w l es) (at 
   copy-is : t ≡ sets w (l .len) (edgeBytes e)
   copy-is = let z = d .ends in let n : to - at ≡ length (edgeBytes e) = omega arith in copied ∙ ap (λ (k : ℕ). sets w (l .len) (part s at k)) n ∙ ap (sets w (l .len)) (d .there)
 
-  pub copy-frame : l .len + (to - at) ≤ END → l .count < 1024 → b < 256 → drop END u ≡ drop END w
+  pub copy-frame : l .len + (to - at) ≤ END → l .count < 1024 → b < 256 → SameBehind w u
   copy-frame h few small =
       let z = d .ends in
       link-frame t (l .count) (l .len) b few small linked-in ∙ ap (drop END) copy-is ∙ drop-sets w (l .len) (edgeBytes e) END (omega arith)

@@ -17,7 +17,7 @@ use Rattle.fields.specs.Part.{part}
 use Rattle.fields.proofs.FieldsLaws.{length-bytesOf}
 use Rattle.fields.proofs.PartLaws.{part-add, part-sets, part-sets-other, drop-sets}
 use Rattle.edge.specs.Edge.{Edge, edgeBytes, edgesBytes}
-use Rattle.lattice.specs.Kept.{END, OFFSETS, NEXTS, HEADS, cell, linked, Fits, Kept, Stands, noEdge, offset, lastIn, bucket}
+use Rattle.lattice.specs.Kept.{END, OFFSETS, NEXTS, HEADS, cell, linked, Fits, Kept, Stands, noEdge, offset, lastIn, bucket, SameBehind}
 use Rattle.lattice.proofs.find.BucketLaws.{bucket-lt, last-le, last-more}
 use Rattle.lattice.proofs.HoldsLaws.{length-snoc}
 use Rattle.lattice.proofs.KeptLaws.{edges-snoc, length-edges-snoc, length-listing, kept-size, kept-bytes, listing-of, cell-same, cell-other}
@@ -179,7 +179,7 @@ module _ (w : List ℕ) (n len : ℕ) (es : List Edge) (q : Kept w n len es) (k 
       next-new x y = nexts-after n (omega arith) ∙ cell-same w1 NEXTS n head x y ∙ q .heads b b-lt ∙ sym (rw (getD-new, ← in-bucket, last-old b n (omega arith)))
 
 -- what stands from END on is as it was
-pub link-frame : (w : List ℕ) {t : List ℕ} (n len b : ℕ) → n < 1024 → b < 256 → t ≡ linked w n len b → drop END t ≡ drop END w
+pub link-frame : (w : List ℕ) {t : List ℕ} (n len b : ℕ) → n < 1024 → b < 256 → t ≡ linked w n len b → SameBehind w t
 link-frame w n len b x y e =
     let h = cell w HEADS b in
     let p = two len in

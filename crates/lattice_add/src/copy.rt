@@ -2,13 +2,13 @@
 ghost use mathlib.Core.Path.{_≡_};
 ghost use mathlib.Core.List.{List};
 ghost use Prim.Native.Nat.{_+_, _-_, _*_, _≤_, _<_};
-ghost use lib.ListN.{length, drop};
+ghost use lib.ListN.{length};
 ghost use lib.Seq.{sets};
 ghost use Rattle.fields.specs.Part.{part};
 ghost use Rattle.edge.specs.Edge.{Edge};
 ghost use Rattle.edge.specs.Write.{Put};
 ghost use Rattle.lattice.specs.Lattice.{add};
-ghost use Rattle.lattice.specs.Kept.{Holds};
+ghost use Rattle.lattice.specs.Kept.{Holds, SameBehind};
 ghost use Rattle.lattice_add.specs.Copy.{prefixed, prefixedBytes, Source};
 use lattice::Lattice;
 
@@ -101,7 +101,7 @@ fn compose(
 // The edge that stands in the listing from at to the offset next is added once more, with sep before its txt.
 pub fn add_copy(w: &mut [u8], l: Lattice, at: usize, next: usize, sep: &[u8]) -> Lattice
     requires { ⌜ ((es : List Edge) × Holds (now w) l es) × ((e : Edge) × Source (now w) (l .len) at next (length (now sep)) e) ⌝ }
-    ensures { λ r. ⌜ (drop 39424 (now (w .exit)) ≡ drop 39424 (now (w .entry))) × ((es : List Edge) (e : Edge) → Holds (now (w .entry)) l es → Source (now (w .entry)) (l .len) at next (length (now (sep .entry))) e → Holds (now (w .exit)) r (add es (prefixed (now (sep .entry)) e))) ⌝ }
+    ensures { λ r. ⌜ SameBehind (now (w .entry)) (now (w .exit)) × ((es : List Edge) (e : Edge) → Holds (now (w .entry)) l es → Source (now (w .entry)) (l .len) at next (length (now (sep .entry))) e → Holds (now (w .exit)) r (add es (prefixed (now (sep .entry)) e))) ⌝ }
 {
     let len = l.len;
     let v = edge::head::edge_at(w, at);

@@ -1,12 +1,11 @@
 // A new numeric edge is written behind the lattice's listing, where 2,048 bytes are free, and added. `lattice_add::regular` adds a regular one.
-ghost use mathlib.Core.Path.{_≡_};
 ghost use mathlib.Core.List.{List};
 ghost use Prim.Native.Nat.{_+_, _≤_, _<_};
-ghost use lib.ListN.{length, drop};
+ghost use lib.ListN.{length};
 ghost use Rattle.edge.specs.Edge.{Edge};
 ghost use Rattle.edge.specs.Write.{numeric, Writable};
 ghost use Rattle.lattice.specs.Lattice.{add};
-ghost use Rattle.lattice.specs.Kept.{Holds};
+ghost use Rattle.lattice.specs.Kept.{Holds, SameBehind};
 use edge::NumFields;
 use edge::Written;
 use lattice::Lattice;
@@ -26,7 +25,7 @@ pub fn add_numeric(
     v: &[u8],
 ) -> Lattice
     requires { ⌜ ((es : List Edge) × Holds (now w) l es) × (start .0 < 65536) × (end .0 < 65536) × Writable (now o) (now c) (now v) d × (length (now ty) + length (now txt) + d .orig .len + d .script .len + d .«value_s» .len ≤ 1990) ⌝ }
-    ensures { λ r. ⌜ (drop 39424 (now (w .exit)) ≡ drop 39424 (now (w .entry))) × ((es : List Edge) → Holds (now (w .entry)) l es → Holds (now (w .exit)) r (add es (numeric (start .0) (end .0) (now (ty .entry)) (now (txt .entry)) (now (o .entry)) (now (c .entry)) (now (v .entry)) d))) ⌝ }
+    ensures { λ r. ⌜ SameBehind (now (w .entry)) (now (w .exit)) × ((es : List Edge) → Holds (now (w .entry)) l es → Holds (now (w .exit)) r (add es (numeric (start .0) (end .0) (now (ty .entry)) (now (txt .entry)) (now (o .entry)) (now (c .entry)) (now (v .entry)) d))) ⌝ }
 {
     let len = l.len;
     match edge_write::numeric::write_numeric(w, len, start, end, ty, txt, d, o, c, v) {

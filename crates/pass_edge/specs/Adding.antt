@@ -4,12 +4,11 @@
 --     kindEdges w t k l        the edges of the stored edges of l that are of kind k, as they are listed
 --     addIf w t k es x         es with the edge of x added, if x is of kind k
 --     Assumes nothing.
-use mathlib.Core.Path.{_≡_}
 use mathlib.Core.Bool.{cond}
 use mathlib.Core.List.{List, map}
 use Prim.Native.Nat.{ℕ, _≤_}
 use lib.Dec.{eqb}
-use lib.ListN.{length, drop}
+use lib.ListN.{length}
 use Rattle.text.specs.Text.{chars}
 use Rattle.pass_list.specs.declared.record.PassEdge.{PassEdge}
 use Rattle.pass_list.specs.StoredEdge.{StoredEdge}
@@ -18,7 +17,7 @@ use Rattle.pass_list.specs.InTurn.{ofKind}
 use Rattle.edge.specs.Edge.{Edge}
 use Rattle.lattice.specs.Lattice.{add}
 use Rattle.lattice.specs.declared.Lattice.{Lattice}
-use Rattle.lattice.specs.Kept.{Holds}
+use Rattle.lattice.specs.Kept.{Holds, SameBehind}
 use Rattle.numbers.specs.Ready.{Offsets}
 use Rattle.numbers.specs.Listed.{listedEdge}
 use Rattle.pass_edge.specs.Grounded.{StoredIs}
@@ -30,7 +29,7 @@ pub record Addable (s : List ℕ) (l : Lattice) (line offs t : List ℕ) (e : Pa
   pub few : length (chars line) ≤ 256
 
 pub record Added (line t : List ℕ) (e : PassEdge) (s : List ℕ) (l : Lattice) (u : List ℕ) (r : Lattice) : Type 0 where
-  pub frame : drop 39424 u ≡ drop 39424 s
+  pub frame : SameBehind s u
   pub holds : (es : List Edge) (x : StoredEdge) → Holds s l es → StoredIs line t e x → Holds u r (add es (listedEdge (edgeOf (chars line) t x)))
 
 abbrev pub kindEdges : List ℕ → List ℕ → ℕ → List StoredEdge → List Edge

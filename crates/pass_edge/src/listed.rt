@@ -2,14 +2,14 @@
 ghost use mathlib.Core.Path.{_≡_};
 ghost use Prim.Native.Nat.{_*_, _≤_};
 ghost use mathlib.Core.List.{List};
-ghost use lib.ListN.{length, drop};
+ghost use lib.ListN.{length};
 ghost use Rattle.text.specs.Text.{chars};
 ghost use Rattle.pass_list.specs.StoredEdge.{StoredEdge};
 ghost use Rattle.pass_list.specs.Edges.{edgeOf};
 ghost use Rattle.numbers.specs.Ready.{Offsets};
 ghost use Rattle.edge.specs.Edge.{Edge, flag};
 ghost use Rattle.lattice.specs.Lattice.{add};
-ghost use Rattle.lattice.specs.Kept.{Holds};
+ghost use Rattle.lattice.specs.Kept.{Holds, SameBehind};
 ghost use Rattle.numbers.specs.Listed.{listedEdge};
 ghost use Rattle.pass_edge.specs.Texts.{TextsAre};
 ghost use Rattle.pass_edge.specs.Fields.{storedFraction, FractionIs, storedMap, partOr, storedFields, Listable};
@@ -93,7 +93,7 @@ pub fn add_texts(
     txt: &[u8],
 ) -> Lattice
     requires { ⌜ ((es : List Edge) × Holds (now w) l es) × Offsets (now line) (now offs) × ((i : StoredEdge) × TextsAre (now line) (now table) x (now ty) (now txt) i) × (length (chars (now line)) ≤ 256) × FractionIs f (storedFraction (now table) (x .kind) (x .«record_at» .0)) ⌝ }
-    ensures { λ r. ⌜ (drop 39424 (now (w .exit)) ≡ drop 39424 (now (w .entry))) × ((es : List Edge) (i : StoredEdge) → Holds (now (w .entry)) l es → TextsAre (now (line .entry)) (now (table .entry)) x (now (ty .entry)) (now (txt .entry)) i → Holds (now (w .exit)) r (add es (listedEdge (edgeOf (chars (now (line .entry))) (now (table .entry)) i)))) ⌝ }
+    ensures { λ r. ⌜ SameBehind (now (w .entry)) (now (w .exit)) × ((es : List Edge) (i : StoredEdge) → Holds (now (w .entry)) l es → TextsAre (now (line .entry)) (now (table .entry)) x (now (ty .entry)) (now (txt .entry)) i → Holds (now (w .exit)) r (add es (listedEdge (edgeOf (chars (now (line .entry))) (now (table .entry)) i)))) ⌝ }
 {
     let d = fields_of(offs, x, f, txt.len());
     lattice_add::numeric::add_numeric(w, l, x.start, x.end, ty, txt, d, line, table, txt)

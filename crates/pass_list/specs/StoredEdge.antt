@@ -35,7 +35,7 @@ pub record StoredEdge : Type 0 where
   pub has-mult : Bool
   pub has-script : Bool
   pub large-power : Bool
-  -- D1's digit; a gap; script CJK
+  -- D1's digit; a gap; script cjkBit
   pub digit : Bool
   pub gap : Bool
   pub cjk : Bool

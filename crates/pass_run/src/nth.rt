@@ -1,4 +1,4 @@
-// One of the five passes by its number, on the list in the work space, behind the lattice (01, "Five passes, D1 to G4").
+// One of the five passes by its number, on the list in the work space, behind an offset (01, "Five passes, D1 to G4").
 ghost use mathlib.Core.Path.{_≡_};
 ghost use Prim.Native.Nat.{_+_, _*_, _≤_, _<_};
 ghost use lib.ListN.{length, take, drop};
@@ -25,11 +25,10 @@ fn pass_of(i: usize) -> Pass
     }
 }
 
-// The i-th pass over the list behind the lattice, which stays as it is.
-pub fn pass_behind(w: &mut [u8], n: usize, i: usize) -> PassAnswer
-    requires { ⌜ (39424 + n * 56 ≤ length (now w)) × AllSmall (storedListAt (drop 39424 (now w)) 0 n) × (i < 5) ⌝ }
-    ensures { λ r. ⌜ (take 39424 (now (w .exit)) ≡ take 39424 (now (w .entry))) × PassedIs (nth i) (storedListAt (drop 39424 (now (w .entry))) 0 n) (drop 39424 (now (w .exit))) r ⌝ }
+// The i-th pass over the list that stands in the work space from an offset on; what stands before it stays as it is.
+pub fn pass_behind(w: &mut [u8], from: usize, n: usize, i: usize) -> PassAnswer
+    requires { ⌜ (from + n * 56 ≤ length (now w)) × AllSmall (storedListAt (drop from (now w)) 0 n) × (i < 5) ⌝ }
+    ensures { λ r. ⌜ (take from (now (w .exit)) ≡ take from (now (w .entry))) × PassedIs (nth i) (storedListAt (drop from (now (w .entry))) 0 n) (drop from (now (w .exit))) r ⌝ }
 {
-    let from = 39424;
     run_pass(&mut w[from..], n, pass_of(i))
 }

@@ -37,7 +37,7 @@ passName G2 = 71 ∷ 50 ∷ []
 passName G3 = 71 ∷ 51 ∷ []
 passName G4 = 71 ∷ 52 ∷ []
 
--- "digit" and "CJK" in ASCII
+-- "digit" and "cjkBit" in ASCII
 abbrev pub digitType : Text
 digitType = 100 ∷ 105 ∷ 103 ∷ 105 ∷ 116 ∷ []
 
@@ -119,7 +119,7 @@ abbrev pub isScript : Option Text → Text → Bool
 isScript none t = false
 isScript (some s) t = same s t
 
--- G4: "if the last has script CJK and a power of ten base ≥ 1000, and the next is one place long with value 1 to 9"; the edge over a chain
+-- G4: "if the last has script cjkBit and a power of ten base ≥ 1000, and the next is one place long with value 1 to 9"; the edge over a chain
 -- has the base and the script of the chain's last, as that one counts
 unfoldable pub retags : NumEdge → NumEdge → Bool
 retags l e =

@@ -20,7 +20,7 @@ use Rattle.edge.proofs.theorems.ReadBackLaws.{map-bits}
 use Rattle.paths.specs.Reading.{Spanned}
 use Rattle.lattice.specs.declared.Lattice.{Lattice}
 use Rattle.lattice.specs.Lattice.{add, turnOffAt, turnOff, overfull}
-use Rattle.lattice.specs.Kept.{noEdge, offset, Holds}
+use Rattle.lattice.specs.Kept.{noEdge, offset, Holds, SameBehind}
 use Rattle.lattice.proofs.KeptLaws.{fieldsBytes, edge-stands, offset-in, kept-size}
 use Rattle.lattice.proofs.HoldsLaws.{kept-of, over-of, over-add}
 use Rattle.lattice_add.specs.Copy.{prefixed, Source}
@@ -173,7 +173,7 @@ full-separate {es = es} f q = holds-full q f (over-add-all _ (copies es es) (ove
 -- ---- the loop: with the edges from the i-th on set apart, the lattice is what it shall be
 pub record Setting (w₀ : List ℕ) (l₀ : Lattice) (marks : List Bool) (count : ℕ) (w : List ℕ) (l : Lattice) (i : ℕ) : Type 0 where
   pub long : length w ≡ length w₀
-  pub frame : drop 39424 w ≡ drop 39424 w₀
+  pub frame : SameBehind w₀ w
   pub up-to : i ≤ count
   pub holds : (n : ℕ) (es : List Edge) → n ≤ 256 → Holds w₀ l₀ es → length es ≡ count → CallEdges n es
       → (ds : List Edge) × Holds w l ds × (count ≤ length ds) × ((j : ℕ) → i ≤ j → j < count → getD ds j noEdge ≡ getD es j noEdge) × (allApart marks ds i (count - i) ≡ allApart marks es 0 (length es))
@@ -203,7 +203,7 @@ module _ {w₀ : List ℕ} {l₀ : Lattice} {marks : List Bool} {count : ℕ} {w
   unfolding allApart
   one-less h ds = let e : count - i ≡ suc (count - (i + 1)) = omega arith in rw (e, add-one i)
 
-  pub setting-next : i < count → {v : List ℕ} {m : Lattice} → length v ≡ length w → drop 39424 v ≡ drop 39424 w
+  pub setting-next : i < count → {v : List ℕ} {m : Lattice} → length v ≡ length w → SameBehind w v
       → ((n : ℕ) (ds : List Edge) → n ≤ 256 → Holds w l ds → i < length ds → CallEdge n (getD ds i noEdge) → Holds v m (setApart marks ds i)) → Setting w₀ l₀ marks count v m (i + 1)
   setting-next h y f g = record {
     long = y ∙ s .long;

@@ -9,13 +9,13 @@ ghost use mathlib.Core.Path.{_≡_};
 ghost use mathlib.Core.Bool.{true};
 ghost use mathlib.Core.List.{List, _∷_, [], _++_};
 ghost use Prim.Native.Nat.{_+_, _≤_};
-ghost use lib.ListN.{length, drop};
+ghost use lib.ListN.{length};
 ghost use Rattle.text.specs.Text.{chars, wellFormed};
 ghost use Rattle.table.specs.Layout.{listAt};
 ghost use Rattle.table.specs.Answers.{partOf, Within};
 ghost use Rattle.edge.specs.Edge.{Edge};
 ghost use Rattle.lattice.specs.Lattice.{add};
-ghost use Rattle.lattice.specs.Kept.{Holds};
+ghost use Rattle.lattice.specs.Kept.{Holds, SameBehind};
 ghost use Rattle.pass_list.specs.StoredEdge.{StoredEdge, EdgeIs};
 ghost use Rattle.pass_list.specs.Edges.{txtOf, edgeOf};
 ghost use Rattle.numbers.specs.Ready.{Offsets};
@@ -66,7 +66,7 @@ fn add_signed(
     start: Place,
 ) -> Lattice
     requires { ⌜ Addable (now w) l (now line) (now offs) (now table) x × (start .0 ≤ 256) ⌝ }
-    ensures { λ r. ⌜ (drop 39424 (now (w .exit)) ≡ drop 39424 (now (w .entry))) × ((es : List Edge) (i : StoredEdge) → Holds (now (w .entry)) l es → EdgeIs x i → Holds (now (w .exit)) r (add es (signEdge (start .0) sign (edgeOf (chars (now (line .entry))) (now (table .entry)) i)))) ⌝ }
+    ensures { λ r. ⌜ SameBehind (now (w .entry)) (now (w .exit)) × ((es : List Edge) (i : StoredEdge) → Holds (now (w .entry)) l es → EdgeIs x i → Holds (now (w .exit)) r (add es (signEdge (start .0) sign (edgeOf (chars (now (line .entry))) (now (table .entry)) i)))) ⌝ }
 {
     let mut ty = [0u8; 62];
     let mut txt = [0u8; 257];

@@ -4,7 +4,6 @@ pub mod edges; // edges.rt: the edges for the signs before one edge
 use lattice::Lattice;
 use pass_list::record::PassEdge;
 use table::shape::Shape;
-ghost use mathlib.Core.Path.{_≡_};
 ghost use mathlib.Core.List.{List, map};
 ghost use Prim.Native.Nat.{ℕ, _+_, _*_, _≤_};
 ghost use lib.ListN.{length, drop};
@@ -12,7 +11,7 @@ ghost use Rattle.text.specs.Text.{chars};
 ghost use Rattle.table.specs.Answers.{tableOf};
 ghost use Rattle.edge.specs.Edge.{Edge};
 ghost use Rattle.lattice.specs.Lattice.{addAll};
-ghost use Rattle.lattice.specs.Kept.{Holds};
+ghost use Rattle.lattice.specs.Kept.{Holds, END, SameBehind};
 ghost use Rattle.pass_list.specs.StoredEdge.{StoredEdge, EdgeIs};
 ghost use Rattle.pass_list.specs.Stored.{storedListAt};
 ghost use Rattle.pass_list.specs.Edges.{edgeOf};
@@ -20,9 +19,6 @@ ghost use Rattle.numbers.specs.Ready.{Ready, Offsets};
 ghost use Rattle.pass_edge.specs.Grounded.{AllGrounded, StoredIs};
 ghost use Rattle.numbers.specs.Signs.{signs};
 ghost use Rattle.signs.specs.SignsOf.{signsOf};
-
-// Where the pass list stands in the work space.
-const LIST: usize = 39424;
 
 // The edges for the signs before a stored edge: only where it has a value, minus before plus. None stands before the line's first place.
 fn add_edge_signs(
@@ -35,7 +31,7 @@ fn add_edge_signs(
     x: PassEdge,
 ) -> Lattice
     requires { ⌜ ((es : List Edge) × Holds (now w) l es) × Offsets (now line) (now offs) × ((i : StoredEdge) × StoredIs (now line) (now table) x i) × ((n : ℕ) × Ready (now line) (now table) h n) ⌝ }
-    ensures { λ r. ⌜ (drop 39424 (now (w .exit)) ≡ drop 39424 (now (w .entry))) × ((es : List Edge) (i : StoredEdge) → Holds (now (w .entry)) l es → EdgeIs x i → Holds (now (w .exit)) r (addAll es (signsOf (tableOf (now (table .entry)) h) (chars (now (line .entry))) (edgeOf (chars (now (line .entry))) (now (table .entry)) i)))) ⌝ }
+    ensures { λ r. ⌜ SameBehind (now (w .entry)) (now (w .exit)) × ((es : List Edge) (i : StoredEdge) → Holds (now (w .entry)) l es → EdgeIs x i → Holds (now (w .exit)) r (addAll es (signsOf (tableOf (now (table .entry)) h) (chars (now (line .entry))) (edgeOf (chars (now (line .entry))) (now (table .entry)) i)))) ⌝ }
 {
     if x.start.0 == 0 {
         return l;
@@ -57,10 +53,10 @@ pub fn add_signs(
     h: Shape,
     n: usize,
 ) -> Lattice
-    requires { ⌜ ((es : List Edge) × Holds (now w) l es) × Offsets (now line) (now offs) × ((m : ℕ) × Ready (now line) (now table) h m) × AllGrounded (chars (now line)) (now table) (storedListAt (drop 39424 (now w)) 0 n) × (39424 + n * 56 ≤ length (now w)) ⌝ }
-    ensures { λ r. ⌜ (drop 39424 (now (w .exit)) ≡ drop 39424 (now (w .entry))) × ((es : List Edge) → Holds (now (w .entry)) l es → Holds (now (w .exit)) r (addAll es (signs (tableOf (now (table .entry)) h) (chars (now (line .entry))) (map (edgeOf (chars (now (line .entry))) (now (table .entry))) (storedListAt (drop 39424 (now (w .entry))) 0 n))))) ⌝ }
+    requires { ⌜ ((es : List Edge) × Holds (now w) l es) × Offsets (now line) (now offs) × ((m : ℕ) × Ready (now line) (now table) h m) × AllGrounded (chars (now line)) (now table) (storedListAt (drop END (now w)) 0 n) × (END + n * 56 ≤ length (now w)) ⌝ }
+    ensures { λ r. ⌜ SameBehind (now (w .entry)) (now (w .exit)) × ((es : List Edge) → Holds (now (w .entry)) l es → Holds (now (w .exit)) r (addAll es (signs (tableOf (now (table .entry)) h) (chars (now (line .entry))) (map (edgeOf (chars (now (line .entry))) (now (table .entry))) (storedListAt (drop END (now (w .entry))) 0 n))))) ⌝ }
 {
-    let list = LIST;
+    let list = lattice::END;
     let mut grown = l;
     let mut i = 0;
     while i < n {

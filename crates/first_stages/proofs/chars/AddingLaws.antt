@@ -20,7 +20,7 @@ use Rattle.pass_list.proofs.StoredLaws.{stored-edges-put}
 use Rattle.edge.specs.Edge.{Edge}
 use Rattle.lattice.specs.declared.Lattice.{Lattice}
 use Rattle.lattice.specs.Lattice.{add, addAll}
-use Rattle.lattice.specs.Kept.{Holds}
+use Rattle.lattice.specs.Kept.{Holds, END, SameBehind}
 use Rattle.lattice.proofs.HoldsLaws.{add-all-append}
 use Rattle.numbers.specs.Listed.{listedEdge}
 use Rattle.characters.specs.CharStored.{charStored}
@@ -43,20 +43,20 @@ behind-sets k s i (b ∷ bs) =
     let e : suc (k + i) ≡ k + suc i = omega arith in
     ap (λ (j : ℕ). drop k (sets (set s (k + i) b) j bs)) e ∙ behind-sets k (set s (k + i) b) (suc i) bs ∙ ap (λ (l : List ℕ). sets l (suc i) bs) (drop-set-add k s i b)
 
-module _ (s v : List ℕ) (n : ℕ) (x : StoredEdge) (stored : v ≡ sets s (39424 + n * 56) (recordBytes x)) where
+module _ (s v : List ℕ) (n : ℕ) (x : StoredEdge) (stored : v ≡ sets s (END + n * 56) (recordBytes x)) where
   pub stored-holds : {l : Lattice} {es : List Edge} → Holds s l es → Holds v l es
-  stored-holds q = holds-front s v (ap (take 39424) stored ∙ front-sets 39424 s (39424 + n * 56) (recordBytes x) (omega arith)) (ap length stored ∙ length-sets s (39424 + n * 56) (recordBytes x)) q
+  stored-holds q = holds-front s v (ap (take END) stored ∙ front-sets END s (END + n * 56) (recordBytes x) (omega arith)) (ap length stored ∙ length-sets s (END + n * 56) (recordBytes x)) q
 
   -- from v to u what is behind the lattice stayed
-  pub stored-behind : (u : List ℕ) → Fits x → 39424 + n * 56 + 56 ≤ length s → drop 39424 u ≡ drop 39424 v → behind u (n + 1) ≡ behind s n ++ (x ∷ [])
+  pub stored-behind : (u : List ℕ) → Fits x → END + n * 56 + 56 ≤ length s → SameBehind v u → behind u (n + 1) ≡ behind s n ++ (x ∷ [])
   stored-behind u fits room frame =
-      ap (λ (b : List ℕ). storedListAt b 0 (n + 1)) (frame ∙ ap (drop 39424) stored ∙ behind-sets 39424 s (n * 56) (recordBytes x))
-      ∙ stored-edges-put (drop 39424 s) n x fits (omega (arith, length-drop 39424 s))
+      ap (λ (b : List ℕ). storedListAt b 0 (n + 1)) (frame ∙ ap (drop END) stored ∙ behind-sets END s (n * 56) (recordBytes x))
+      ∙ stored-edges-put (drop END s) n x fits (omega (arith, length-drop END s))
 
 -- ---- no character
 pub adding-none : (line t : List ℕ) (rs : List Record) (s : List ℕ) (l : Lattice) → Adding line t rs 0 s l s (record { lattice = l; count = 0 })
 unfolding storedListAt addAll
-adding-none line t rs s l = record { so-far = so-far-none (chars line) t rs (drop 39424 s); holds = λ es q. q }
+adding-none line t rs s l = record { so-far = so-far-none (chars line) t rs (drop END s); holds = λ es q. q }
 
 -- ---- a turn: c stands at place k of the line, and the characters before it were added, from s with the lattice l to u, as f says
 one-more : (w t : List ℕ) (es : List Edge) (xs : List StoredEdge) (x : StoredEdge) → add (addAll es (listedStored w t xs)) (listedEdge (edgeOf w t x)) ≡ addAll es (listedStored w t (xs ++ (x ∷ [])))
@@ -66,7 +66,7 @@ one-more w t es xs x = sym (ap (addAll es) (listed-append w t xs (x ∷ [])) ∙
 module _ (line t : List ℕ) (all : RecordRun) (ok : Records t all) (k c : ℕ) (inside : k < length (chars line)) (here : getD (chars line) k 0 ≡ c) (s : List ℕ) (l : Lattice) (u : List ℕ) (f : CharsAnswer)
     (a : Adding line t (recordsIn t all) k s l u f) where
   pub adding-skip : find (recordsIn t all) c ≡ none → Adding line t (recordsIn t all) (k + 1) s l u f
-  adding-skip e = record { so-far = so-far-skip t all ok (chars line) (chars-scalars line) k c inside here (f .count) (drop 39424 u) (a .so-far) e; holds = a .holds }
+  adding-skip e = record { so-far = so-far-skip t all ok (chars line) (chars-scalars line) k c inside here (f .count) (drop END u) (a .so-far) e; holds = a .holds }
 
   pub adding-more : (p : NumProp) (at : ℕ) → FoundAt t (recordsIn t all) c p at → (v : List ℕ) (m : Lattice) → behind v (f .count + 1) ≡ behind u (f .count) ++ (charStored t p at k c ∷ [])
       → ((es : List Edge) → Holds u (f .lattice) es → Holds v m (add es (listedEdge (edgeOf (chars line) t (charStored t p at k c)))))
@@ -75,7 +75,7 @@ module _ (line t : List ℕ) (all : RecordRun) (ok : Records t all) (k c : ℕ) 
       let x = charStored t p at k c in
       let before = behind u (f .count) in
       record {
-        so-far = so-far-more t all ok (chars line) (chars-scalars line) k c inside here (f .count) (drop 39424 u) (a .so-far) p at (drop 39424 v) found put;
+        so-far = so-far-more t all ok (chars line) (chars-scalars line) k c inside here (f .count) (drop END u) (a .so-far) p at (drop END v) found put;
         holds = λ es q. subst (λ (xs : List StoredEdge). Holds v m (addAll es (listedStored (chars line) t xs))) (sym put)
             (subst (Holds v m) (one-more (chars line) t es before x) (g (addAll es (listedStored (chars line) t before)) (a .holds es q)));
       }

@@ -11,6 +11,7 @@ use Rattle.table.specs.declared.shape.Shape.{Shape}
 use Rattle.pass_list.specs.StoredEdge.{StoredEdge}
 use Rattle.pass_list.proofs.in_turn.EveryLaws.{every-map}
 use Rattle.lattice.specs.declared.Lattice.{Lattice}
+use Rattle.lattice.specs.Kept.{END}
 use Rattle.numbers.specs.Ready.{Ready}
 use Rattle.characters.specs.Initial.{Initial}
 use Rattle.characters.proofs.InitialLaws.{said-initial}
@@ -19,7 +20,7 @@ use Rattle.first_stages.proofs.five_passes.RootLaws.{sounds-of}
 use Rattle.first_stages.specs.declared.chars.CharsAnswer.{CharsAnswer}
 use Rattle.first_stages.specs.CharStage.{Adding, FirstDone}
 
-first-list : (line t : List ℕ) (h : Shape) (v : List ℕ) (n : ℕ) → length (chars line) ≤ 256 → Initial line t h (drop 39424 v) n → PassList (chars line) t 1 v n
+first-list : (line t : List ℕ) (h : Shape) (v : List ℕ) (n : ℕ) → length (chars line) ≤ 256 → Initial line t h (drop END v) n → PassList (chars line) t 1 v n
 first-list line t h v n few i =
     let f = i .few in
     record {
@@ -32,5 +33,5 @@ first-list line t h v n few i =
 pub first-done : (line t : List ℕ) (h : Shape) {n left : ℕ} → Ready line t h n → left ≡ leAt t 0 2 → (s : List ℕ) (l : Lattice) (u : List ℕ) (r : CharsAnswer)
     → Adding line t (recordsAt left t (h .records)) (length (chars line)) s l u r → FirstDone line t h s l u r
 first-done line t h ready count s l u r a =
-    let i : Initial line t h (drop 39424 u) (r .count) = said-initial t h (ready .checked) count line (a .so-far) in
+    let i : Initial line t h (drop END u) (r .count) = said-initial t h (ready .checked) count line (a .so-far) in
     record { initial = i; list = first-list line t h u (r .count) (omega (arith, ready .few, ready .count)) i; holds = a .holds }

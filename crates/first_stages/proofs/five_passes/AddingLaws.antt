@@ -21,24 +21,24 @@ use Rattle.pass_list.specs.InTurn.{ofKind}
 use Rattle.edge.specs.Edge.{Edge}
 use Rattle.lattice.specs.Lattice.{add, addAll}
 use Rattle.lattice.specs.declared.Lattice.{Lattice}
-use Rattle.lattice.specs.Kept.{Holds}
+use Rattle.lattice.specs.Kept.{Holds, END, SameBehind}
 use Rattle.lattice.proofs.HoldsLaws.{add-all-append}
 use Rattle.numbers.specs.Listed.{listedEdge}
 use Rattle.pass_edge.specs.Grounded.{Grounded, StoredIs}
 use Rattle.pass_edge.specs.Adding.{Added, kindEdges, addIf}
 
 -- ---- a stored edge behind the lattice
-pub stored-edge-behind-is : (w : List ℕ) (at : ℕ) → storedAt w (39424 + at) ≡ storedAt (drop 39424 w) at
+pub stored-edge-behind-is : (w : List ℕ) (at : ℕ) → storedAt w (END + at) ≡ storedAt (drop END w) at
 unfolding storedAt
-stored-edge-behind-is w at = ap storedOf (sym (part-of-drop w 39424 at 56))
+stored-edge-behind-is w at = ap storedOf (sym (part-of-drop w END at 56))
 
-pub stored-edge-behind : (line t : List ℕ) (w : List ℕ) (at : ℕ) (e : PassEdge) → Grounded (chars line) t (storedAt (drop 39424 w) at) → EdgeIs e (storedAt w (39424 + at)) → StoredIs line t e (storedAt (drop 39424 w) at)
+pub stored-edge-behind : (line t : List ℕ) (w : List ℕ) (at : ℕ) (e : PassEdge) → Grounded (chars line) t (storedAt (drop END w) at) → EdgeIs e (storedAt w (END + at)) → StoredIs line t e (storedAt (drop END w) at)
 stored-edge-behind line t w at e s h = record { is = subst (EdgeIs e) (stored-edge-behind-is w at) h; sound = s }
 
 -- its kind can be read alone
-pub kind-behind : (w : List ℕ) (at : ℕ) → leAt w (39424 + at + 4) 2 ≡ storedAt (drop 39424 w) at .kind
+pub kind-behind : (w : List ℕ) (at : ℕ) → leAt w (END + at + 4) 2 ≡ storedAt (drop END w) at .kind
 unfolding storedAt storedOf
-kind-behind w at = sym (leAt-of-part w (39424 + at) 56 4 2 (omega arith)) ∙ ap (λ (x : StoredEdge). x .kind) (stored-edge-behind-is w at)
+kind-behind w at = sym (leAt-of-part w (END + at) 56 4 2 (omega arith)) ∙ ap (λ (x : StoredEdge). x .kind) (stored-edge-behind-is w at)
 
 -- ---- each stored edge of a list
 every-stored-edges : (P : StoredEdge → Type 0) (s : List ℕ) (i n j : ℕ) → Every P (storedListAt s i n) → j < n → P (storedAt s ((i + j) * 56))
@@ -108,27 +108,27 @@ module _ (w t : List ℕ) (k : ℕ) (es : List Edge) where
 pub record Adding (w t : List ℕ) (k n : ℕ) (s : List ℕ) (l : Lattice) (u : List ℕ) (r : Lattice) (i : ℕ) : Type 0 where
   pub inside : i ≤ n
   pub long : length u ≡ length s
-  pub frame : drop 39424 u ≡ drop 39424 s
-  pub holds : (es : List Edge) → Holds s l es → Holds u r (addAll es (kindEdges w t k (storedListAt (drop 39424 s) 0 i)))
+  pub frame : SameBehind s u
+  pub holds : (es : List Edge) → Holds s l es → Holds u r (addAll es (kindEdges w t k (storedListAt (drop END s) 0 i)))
 
 pub adding-none : (w t : List ℕ) (k n : ℕ) (s : List ℕ) (l : Lattice) → Adding w t k n s l s l 0
-adding-none w t k n s l = record { inside = omega arith; long = refl; frame = refl; holds = λ es h. subst (Holds s l) (add-none w t k es (drop 39424 s)) h }
+adding-none w t k n s l = record { inside = omega arith; long = refl; frame = refl; holds = λ es h. subst (Holds s l) (add-none w t k es (drop END s)) h }
 
 -- a list of which nothing behind the lattice changed is as long as before
-same-long : (s u : List ℕ) → 39424 ≤ length s → 39424 ≤ length u → drop 39424 u ≡ drop 39424 s → length u ≡ length s
-same-long s u h k e = omega (arith, length-drop 39424 s, length-drop 39424 u, ap length e)
+same-long : (s u : List ℕ) → END ≤ length s → END ≤ length u → SameBehind s u → length u ≡ length s
+same-long s u h k e = omega (arith, length-drop END s, length-drop END u, ap length e)
 
 module _ (w t : List ℕ) (k n : ℕ) (s : List ℕ) (l : Lattice) (u : List ℕ) (r : Lattice) (i : ℕ) (a : Adding w t k n s l u r i) where
-  pub stored-edge-sound : Every (Grounded w t) (storedListAt (drop 39424 s) 0 n) → i < n → Grounded w t (storedAt (drop 39424 u) (i * 56))
-  stored-edge-sound e h = rw (a .frame) (stored-edge-of (Grounded w t) (drop 39424 s) n i e h)
+  pub stored-edge-sound : Every (Grounded w t) (storedListAt (drop END s) 0 n) → i < n → Grounded w t (storedAt (drop END u) (i * 56))
+  stored-edge-sound e h = rw (a .frame) (stored-edge-of (Grounded w t) (drop END s) n i e h)
 
-  pub adding-more : (v : List ℕ) (m : Lattice) → (es : List Edge) → Holds s l es → i < n → drop 39424 v ≡ drop 39424 u
-      → ((fs : List Edge) → Holds u r fs → Holds v m (addIf w t k fs (storedAt (drop 39424 u) (i * 56)))) → Adding w t k n s l v m (i + 1)
+  pub adding-more : (v : List ℕ) (m : Lattice) → (es : List Edge) → Holds s l es → i < n → SameBehind u v
+      → ((fs : List Edge) → Holds u r fs → Holds v m (addIf w t k fs (storedAt (drop END u) (i * 56)))) → Adding w t k n s l v m (i + 1)
   adding-more v m es h j f g =
-      let frame : drop 39424 v ≡ drop 39424 s = f ∙ a .frame in
-      let more : (fs : List Edge) → Holds s l fs → Holds v m (addAll fs (kindEdges w t k (storedListAt (drop 39424 s) 0 (i + 1)))) =
-      λ fs q. rw (add-more w t k fs (drop 39424 s) i) (rw (a .frame) at (g (addAll fs (kindEdges w t k (storedListAt (drop 39424 s) 0 i))) (a .holds fs q))) in
+      let frame : SameBehind s v = f ∙ a .frame in
+      let more : (fs : List Edge) → Holds s l fs → Holds v m (addAll fs (kindEdges w t k (storedListAt (drop END s) 0 (i + 1)))) =
+      λ fs q. rw (add-more w t k fs (drop END s) i) (rw (a .frame) at (g (addAll fs (kindEdges w t k (storedListAt (drop END s) 0 i))) (a .holds fs q))) in
       record { inside = omega arith; long = same-long s v (h .room) (more es h .room) frame; frame = frame; holds = more }
 
-  pub adding-all : n ≤ i → (es : List Edge) → Holds s l es → Holds u r (addAll es (kindEdges w t k (storedListAt (drop 39424 s) 0 n)))
-  adding-all h es q = let e : i ≡ n = omega (arith, a .inside) in subst (λ (j : ℕ). Holds u r (addAll es (kindEdges w t k (storedListAt (drop 39424 s) 0 j)))) e (a .holds es q)
+  pub adding-all : n ≤ i → (es : List Edge) → Holds s l es → Holds u r (addAll es (kindEdges w t k (storedListAt (drop END s) 0 n)))
+  adding-all h es q = let e : i ≡ n = omega (arith, a .inside) in subst (λ (j : ℕ). Holds u r (addAll es (kindEdges w t k (storedListAt (drop END s) 0 j)))) e (a .holds es q)

@@ -27,7 +27,7 @@ use Rattle.pass_run.specs.Nth.{nth}
 use Rattle.edge.specs.Edge.{Edge}
 use Rattle.lattice.specs.declared.Lattice.{Lattice}
 use Rattle.lattice.specs.Lattice.{addAll}
-use Rattle.lattice.specs.Kept.{Holds}
+use Rattle.lattice.specs.Kept.{Holds, END, SameBehind}
 use Rattle.lattice.proofs.HoldsLaws.{add-all-append}
 use Rattle.pass_list.proofs.in_turn.EveryLaws.{every-append}
 use Rattle.pass_edge.specs.Grounded.{Grounded, AllGrounded}
@@ -60,7 +60,7 @@ module _ {w t : List ℕ} {i : ℕ} {s : List ℕ} {n : ℕ} (scalars : Scalars 
   earlier = rw (nth-kind i h) (q .kinds)
 
   -- the pass ran over the list behind the lattice, from s to v
-  module _ (v : List ℕ) {r : PassAnswer} (p : PassedIs (nth i) (behind s n) (drop 39424 v) r) where
+  module _ (v : List ℕ) {r : PassAnswer} (p : PassedIs (nth i) (behind s n) (drop END v) r) where
     pub one-above : (l : Lattice) (a : Place) → r ≡ PassAnswer.Above a → OnePass w t i s l n v (Above a)
     unfolding OnePass
     one-above l a e = go (firstAbove (added (nth i) (behind s n))) (sym (p .answer) ∙ e)
@@ -81,7 +81,7 @@ module _ {w t : List ℕ} {i : ℕ} {s : List ℕ} {n : ℕ} (scalars : Scalars 
       after-is = rw (not-above .1) (p .list (not-above .0))
 
       few-left : k ≤ n
-      few-left = let f = p .fewer (not-above .0) in let l = length-stored-edges (drop 39424 s) 0 n in let g = not-above .1 in omega arith
+      few-left = let f = p .fewer (not-above .0) in let l = length-stored-edges (drop END s) 0 n in let g = not-above .1 in omega arith
 
       pub pass-sounds : AllGrounded w t (behind v k)
       pass-sounds = rw after-is (sounds-of (after-made w t scalars (nth i) (behind s n) (sounds-made (q .sounds))) (p .small (not-above .0)) (after-rooted t (nth i) (behind s n) (sounds-rooted (q .sounds))))
@@ -100,7 +100,7 @@ module _ {w t : List ℕ} {i : ℕ} {s : List ℕ} {n : ℕ} (scalars : Scalars 
       new-stored-edges = ap (λ (j : ℕ). ofKind j (behind v k)) (add-one i) ∙ ap (ofKind (suc i)) after-is ∙ ap (λ (j : ℕ). ofKind j (after (nth i) (behind s n))) (sym (nth-kind i h)) ∙ sym (added-of-kind (nth i) (behind s n) earlier)
 
       -- then the joined edges were added, from v to u
-      pub one-added : (l : Lattice) (u : List ℕ) (m : Lattice) → take 39424 v ≡ take 39424 s → length v ≡ length s → drop 39424 u ≡ drop 39424 v
+      pub one-added : (l : Lattice) (u : List ℕ) (m : Lattice) → take END v ≡ take END s → length v ≡ length s → SameBehind v u
           → ((es : List Edge) → Holds v l es → Holds u m (addAll es (listedStored w t (ofKind (i + 1) (behind v k))))) → OnePass w t i s l n u (Added m k)
       unfolding OnePass
       one-added l u m front long frame g =
@@ -114,10 +114,10 @@ module _ {w t : List ℕ} {i : ℕ} {s : List ℕ} {n : ℕ} (scalars : Scalars 
           }
 
       -- or there are none to add: as many edges as before
-      pub one-kept : (l : Lattice) → take 39424 v ≡ take 39424 s → length v ≡ length s → k ≡ n → OnePass w t i s l n v (Added l k)
+      pub one-kept : (l : Lattice) → take END v ≡ take END s → length v ≡ length s → k ≡ n → OnePass w t i s l n v (Added l k)
       unfolding addAll
       one-kept l front long kept =
-          let none-new : ofKind (i + 1) (behind v k) ≡ [] = new-stored-edges ∙ added-none (nth i) (behind s n) (sym (not-above .1) ∙ kept ∙ sym (length-stored-edges (drop 39424 s) 0 n)) in
+          let none-new : ofKind (i + 1) (behind v k) ≡ [] = new-stored-edges ∙ added-none (nth i) (behind s n) (sym (not-above .1) ∙ kept ∙ sym (length-stored-edges (drop END s) 0 n)) in
           one-added l v l front long refl (λ es x. rw none-new x)
 
 -- ---- all five in turn

@@ -15,11 +15,11 @@ use Rattle.lattice.specs.declared.Lattice.{Lattice}
 use Rattle.lattice.specs.Lattice.{overfull}
 use Rattle.lattice.specs.Kept.{END, OFFSETS, NEXTS, HEADS, cell, Kept, Holds}
 
-module _ (w v : List ℕ) (front : take 39424 v ≡ take 39424 w) (long : length v ≡ length w) where
-  part-front : (at n : ℕ) → at + n ≤ 39424 → part v at n ≡ part w at n
-  part-front at n h = sym (part-of-take v 39424 at n h) ∙ ap (λ (s : List ℕ). part s at n) front ∙ part-of-take w 39424 at n h
+module _ (w v : List ℕ) (front : take END v ≡ take END w) (long : length v ≡ length w) where
+  part-front : (at n : ℕ) → at + n ≤ END → part v at n ≡ part w at n
+  part-front at n h = sym (part-of-take v END at n h) ∙ ap (λ (s : List ℕ). part s at n) front ∙ part-of-take w END at n h
 
-  cell-front : (base i : ℕ) → base + 2 * i + 2 ≤ 39424 → cell v base i ≡ cell w base i
+  cell-front : (base i : ℕ) → base + 2 * i + 2 ≤ END → cell v base i ≡ cell w base i
   unfolding leAt
   cell-front base i h = ap le (part-front (base + 2 * i) 2 h)
 

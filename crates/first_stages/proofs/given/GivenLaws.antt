@@ -6,7 +6,7 @@ use mathlib.Core.List.{List, [], _∷_}
 use mathlib.Core.Option.{none, some, Option·some-ne-none}
 use Prim.Native.Nat.{ℕ, zero, suc, _+_, _-_, _≤_, _<_}
 use native.Mathlib.Omega.{arith}
-use lib.ListN.{length, drop, getD}
+use lib.ListN.{length, getD}
 use lib.Dec.{eqb, leb, ltb}
 use borrow.Author.Tests.{eqb-true, leb-true}
 use Rattle.text.proofs.RowLaws.{cond-cases, and-true}
@@ -20,7 +20,7 @@ use Rattle.edge.proofs.CheckLaws.{good-whole, map-within}
 use Rattle.edge.specs.Legal.{Legal}
 use Rattle.lattice.specs.declared.Lattice.{Lattice}
 use Rattle.lattice.specs.Lattice.{add, addAll}
-use Rattle.lattice.specs.Kept.{Holds}
+use Rattle.lattice.specs.Kept.{Holds, SameBehind}
 use Rattle.lattice_add.proofs.GivenLaws.{given-stands}
 use Rattle.pass_list.specs.StoredEdge.{Every, nil, cons}
 use Rattle.numbers.specs.CallEdge.{CallEdge, CallEdges}
@@ -88,7 +88,7 @@ pub record Adding (w₀ : List ℕ) (l₀ : Lattice) (s : List ℕ) (w : List �
   pub n : ℕ
   pub regular : Regulars n k s at
   pub long : length w ≡ length w₀
-  pub frame : drop 39424 w ≡ drop 39424 w₀
+  pub frame : SameBehind w₀ w
   pub holds : (es : List Edge) → Holds w₀ l₀ es → (ds : List Edge) × Holds w l ds × (addAll ds (edgesAt k s at) ≡ addAll es (listed s))
 
 pub add-start : (w : List ℕ) (l : Lattice) (s : List ℕ) (count n : ℕ) → checkListing true n s ≡ Edges count → Adding w l s w l 2 count
@@ -97,7 +97,7 @@ add-start w l s count n e =
     record { n = n; regular = r .1; long = refl; frame = refl; holds = λ es q. (es, q, rw (r .0)) }
 
 module _ {w₀ : List ℕ} {l₀ : Lattice} {s w : List ℕ} {l : Lattice} {at k : ℕ} (a : Adding w₀ l₀ s w l at k) where
-  pub add-next : 0 < k → {v : List ℕ} {m : Lattice} {next : ℕ} → next ≡ nextAt s at → length v ≡ length w → drop 39424 v ≡ drop 39424 w
+  pub add-next : 0 < k → {v : List ℕ} {m : Lattice} {next : ℕ} → next ≡ nextAt s at → length v ≡ length w → SameBehind w v
       → ((es : List Edge) → Holds w l es → Holds v m (add es (edgeAt s at))) → Adding w₀ l₀ s v m next (k - 1)
   unfolding addAll
   add-next h {v} {m} e y f g = record {

@@ -7,10 +7,11 @@ use native.Mathlib.Nat.{suc-add, add-suc, add-zero, zero-add}
 use native.Mathlib.Numerals.{add-one}
 use native.Mathlib.Omega.{arith}
 use lib.ListN.{length, getD, drop}
+use borrow.Author.Tests.{ne-eqb}
 use Rattle.edge.specs.Edge.{Edge}
 use Rattle.lattice.specs.declared.Lattice.{Lattice}
 use Rattle.lattice.specs.Lattice.{turnOffAt, turnOff}
-use Rattle.lattice.specs.Kept.{noEdge, Holds}
+use Rattle.lattice.specs.Kept.{noEdge, Holds, SameBehind}
 use Rattle.lattice.proofs.HoldsLaws.{kept-of}
 use Rattle.numbers.specs.Fractions.{Outcome, made, nothing, usedEdges}
 use Rattle.fraction_choices.specs.declared.decision.Form.{Form}
@@ -90,7 +91,7 @@ in-count q f h = let k = kept-of q f .count in omega arith
 pub record Turned (w₀ : List ℕ) (l : Lattice) (fs ls rs : List ℕ) (n : ℕ) (w : List ℕ) (p : ℕ) : Type 0 where
   pub most : p ≤ n
   pub long : length w ≡ length w₀
-  pub frame : drop 39424 w ≡ drop 39424 w₀
+  pub frame : SameBehind w₀ w
   pub holds : (es : List Edge) → Holds w₀ l es → AllValid es fs ls rs n → Holds w l (turnOff es (usedEdges (outcomesOf es fs ls rs 0 p)))
 
 pub turned-start : (w : List ℕ) (l : Lattice) (fs ls rs : List ℕ) (n : ℕ) → Turned w l fs ls rs n w 0
@@ -101,7 +102,7 @@ module _ {w₀ : List ℕ} {l : Lattice} {fs ls rs : List ℕ} {n : ℕ} {w : Li
   pub turned-next : p < n → {es : List Edge} → Holds w₀ l es → AllValid es fs ls rs n → (ds : List Edge) × Holds w l ds × Valid ds (choiceAt fs ls rs p)
   turned-next h {es} k v = (turnOff es (usedEdges (outcomesOf es fs ls rs 0 p)), q .holds es k v, turn-valid es fs ls rs n p v h)
 
-  pub turned-more : p < n → {u : List ℕ} → length u ≡ length w → drop 39424 u ≡ drop 39424 w → ((ds : List Edge) → Holds w l ds → Holds u l (turnOff ds (usedBy (choiceAt fs ls rs p)))) → Turned w₀ l fs ls rs n u (p + 1)
+  pub turned-more : p < n → {u : List ℕ} → length u ≡ length w → SameBehind w u → ((ds : List Edge) → Holds w l ds → Holds u l (turnOff ds (usedBy (choiceAt fs ls rs p)))) → Turned w₀ l fs ls rs n u (p + 1)
   turned-more h {u} x y f = record {
     most = omega arith;
     long = x ∙ q .long;

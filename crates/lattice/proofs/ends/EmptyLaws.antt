@@ -13,14 +13,14 @@ use Rattle.fields.specs.Part.{part}
 use Rattle.fields.proofs.FieldsLaws.{length-bytesOf}
 use Rattle.fields.proofs.PartLaws.{part-sets, part-sets-other, drop-sets}
 use Rattle.edge.specs.Edge.{listingBytes, edgesBytes}
-use Rattle.lattice.specs.Kept.{END, HEADS, cell, lastIn, Holds}
+use Rattle.lattice.specs.Kept.{END, HEADS, cell, lastIn, Holds, SameBehind}
 use Rattle.lattice.proofs.KeptLaws.{cell-same, cell-other, listing-of}
 
 -- the count is 0, and so are the heads before b; what stands from END on is as in w₀
 pub record Cleared (w₀ w : List ℕ) (b : ℕ) : Type 0 where
   pub within : b ≤ 256
   pub long : length w ≡ length w₀
-  pub frame : drop END w ≡ drop END w₀
+  pub frame : SameBehind w₀ w
   pub count : part w 0 2 ≡ bytesOf 2 0
   pub zeros : (i : ℕ) → i < b → cell w HEADS i ≡ 0
 
@@ -34,7 +34,7 @@ none-cleared w w₀ r e = record {
   zeros = λ i x. absurd (omega arith);
 }
 
-pub count-frame : (w w₀ : List ℕ) → w₀ ≡ sets w 0 (bytesOf 2 0) → drop END w₀ ≡ drop END w
+pub count-frame : (w w₀ : List ℕ) → w₀ ≡ sets w 0 (bytesOf 2 0) → SameBehind w w₀
 count-frame w w₀ e = let l = length-bytesOf 2 0 in ap (drop END) e ∙ drop-sets w 0 (bytesOf 2 0) END (omega arith)
 
 pub one-cleared : (w₀ w t : List ℕ) (b : ℕ) → Cleared w₀ w b → b < 256 → END ≤ length w → t ≡ sets w (HEADS + 2 * b) (bytesOf 2 0) → Cleared w₀ t (b + 1)

@@ -20,7 +20,7 @@ use Rattle.edge.specs.Write.{Put}
 use Rattle.edge.proofs.WriteLaws.{put-then}
 use Rattle.edge.proofs.theorems.ReadBackLaws.{behind, number-there, number-behind, edge-there}
 use Rattle.lattice.specs.declared.Lattice.{Lattice}
-use Rattle.lattice.specs.Kept.{key, Fits, Stands, Holds, END}
+use Rattle.lattice.specs.Kept.{key, Fits, Stands, Holds, END, SameBehind}
 use Rattle.lattice.proofs.KeyLaws.{length-key}
 use Rattle.lattice.proofs.KeptLaws.{fieldsBytes, length-edge, begins}
 use Rattle.lattice.proofs.HoldsLaws.{holds-beside}
@@ -281,7 +281,7 @@ module _ (x : List ℕ) {w : List ℕ} {len at next : ℕ} {e : Edge} (q : Sourc
       pub copy-holds : {l : Lattice} {es : List Edge} → l .len ≡ len → Holds w l es → Holds t l es
       copy-holds p h = let s = copy-short in let y = h .short in rw (copied .wrote) (holds-beside h len (edgeBytes (prefixed x e)) (omega arith, inl (omega arith)))
 
-      pub copy-frame : len ≤ 32768 → drop END t ≡ drop END w
+      pub copy-frame : len ≤ 32768 → SameBehind w t
       copy-frame h = let s = copy-short in ap (drop END) (copied .wrote) ∙ drop-sets w len (edgeBytes (prefixed x e)) END (omega arith)
 
 -- a shorter text has room too

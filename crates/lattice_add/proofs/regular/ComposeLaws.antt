@@ -19,7 +19,7 @@ use Rattle.edge.specs.View.{numericOf}
 use Rattle.edge.specs.Write.{written, writtenTo, regular, numeric, textPastIf, fieldsPast, Writable}
 use Rattle.edge.proofs.WriteLaws.{regular-bytes, length-head, length-fields, numeric-bytes}
 use Rattle.lattice.specs.declared.Lattice.{Lattice}
-use Rattle.lattice.specs.Kept.{END, Fits, Stands, Holds}
+use Rattle.lattice.specs.Kept.{END, Fits, Stands, Holds, SameBehind}
 use Rattle.lattice.proofs.KeyLaws.{length-key}
 use Rattle.lattice.proofs.HoldsLaws.{holds-beside}
 
@@ -50,7 +50,7 @@ length-numeric o c v d h a z ty tx =
 
 -- ---- what a writer leaves: r is its answer, t the work space then
 pub record Composed (w t : List ℕ) (l : Lattice) (e : Edge) (r : Written) : Type 0 where
-  pub frame : drop END t ≡ drop END w
+  pub frame : SameBehind w t
   pub holds : (es : List Edge) → Holds w l es → Holds t l es
   pub placed : (to : ℕ) → r ≡ To to → Stands t (l .len) (8 + length (e .type) + length (e .txt)) to e
   pub room : r ≡ NoRoom → ⊥

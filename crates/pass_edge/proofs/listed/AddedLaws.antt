@@ -1,8 +1,6 @@
 -- A stored edge with its texts is added: what the crates above say of it by `add_texts`. Assumes nothing.
-use mathlib.Core.Path.{_≡_}
 use mathlib.Core.List.{List}
 use Prim.Native.Nat.{ℕ}
-use lib.ListN.{drop}
 use Rattle.text.specs.Text.{chars}
 use Rattle.table.specs.Table.{Text}
 use Rattle.pass_list.specs.declared.record.PassEdge.{PassEdge}
@@ -11,7 +9,7 @@ use Rattle.pass_list.specs.Edges.{edgeOf}
 use Rattle.edge.specs.Edge.{Edge}
 use Rattle.lattice.specs.Lattice.{add}
 use Rattle.lattice.specs.declared.Lattice.{Lattice}
-use Rattle.lattice.specs.Kept.{Holds}
+use Rattle.lattice.specs.Kept.{Holds, SameBehind}
 use Rattle.numbers.specs.Listed.{listedEdge}
 use Rattle.pass_edge.specs.Grounded.{StoredIs}
 use Rattle.pass_edge.specs.Texts.{TextsAre}
@@ -22,6 +20,6 @@ module _ {line t : List ℕ} {e : PassEdge} {ty tx : Text} (are : (x : StoredEdg
   texts-there a = (a .stored-edge .0, are (a .stored-edge .0) (a .stored-edge .1))
 
   pub texts-added : {s u : List ℕ} {l r : Lattice}
-      → (drop 39424 u ≡ drop 39424 s) × ((es : List Edge) (x : StoredEdge) → Holds s l es → TextsAre line t e ty tx x → Holds u r (add es (listedEdge (edgeOf (chars line) t x))))
+      → SameBehind s u × ((es : List Edge) (x : StoredEdge) → Holds s l es → TextsAre line t e ty tx x → Holds u r (add es (listedEdge (edgeOf (chars line) t x))))
       → Added line t e s l u r
   texts-added h = record { frame = h .0; holds = λ es x q is. h .1 es x q (are x is) }

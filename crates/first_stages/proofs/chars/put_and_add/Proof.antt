@@ -10,6 +10,7 @@ use Rattle.pass_list.specs.Stored.{recordBytes}
 use Rattle.pass_edge.specs.Grounded.{StoredIs}
 use Rattle.characters.specs.CharStored.{charStored}
 use Rattle.characters.proofs.CharLaws.{char-kind}
+use Rattle.lattice.specs.Kept.{END}
 use Rattle.first_stages.proofs.chars.AddingLaws.{stored-holds, stored-behind}
 use Rattle.first_stages.proofs.chars.put_and_add.Statement.{statement}
 use Rattle.first_stages.proofs.chars.put_and_add.Tie as tie
@@ -26,7 +27,7 @@ is e = record { is = e .char-edge .ensures; sound = start e .pre .4 }
 abbrev edge : tie.After-write-edge → tie.After-char-edge
 edge c = c .before .before
 
-stored : (c : tie.After-write-edge) → let a = start (edge c) .args in c .write-edge .last .0 ≡ sets (a .w .now) (39424 + a .n * 56) (recordBytes (stored-edge (edge c)))
+stored : (c : tie.After-write-edge) → let a = start (edge c) .args in c .write-edge .last .0 ≡ sets (a .w .now) (END + a .n * 56) (recordBytes (stored-edge (edge c)))
 stored c = c .write-edge .ensures (stored-edge (edge c)) (edge c .char-edge .ensures)
 
 char-edge-requires : tie.Need-char-edge-requires

@@ -7,7 +7,7 @@ use Rattle.text.specs.Text.{chars}
 use Rattle.pass_list.specs.declared.record.PassEdge.{PassEdge}
 use Rattle.pass_list.specs.StoredEdge.{StoredEdge, Small}
 use Rattle.pass_list.specs.Stored.{storedAt}
-use Rattle.lattice.specs.Kept.{Holds}
+use Rattle.lattice.specs.Kept.{Holds, END}
 use Rattle.pass_edge.specs.Grounded.{StoredIs}
 use Rattle.first_stages.proofs.five_passes.AddingLaws.{kind-behind, stored-edge-behind-is, stored-edge-behind, passes-over, added-if}
 use Rattle.first_stages.proofs.five_passes.add_if.Statement.{statement}
@@ -17,7 +17,7 @@ abbrev start : tie.After-u16-at → tie.Start
 start c = c .before .before .before .before .before
 
 abbrev stored-edge : tie.After-u16-at → StoredEdge
-stored-edge c = storedAt (drop 39424 (start c .args .w .now)) (start c .args .i * 56)
+stored-edge c = storedAt (drop END (start c .args .w .now)) (start c .args .i * 56)
 
 kind : (c : tie.After-u16-at) → c .u16-at .result ≡ stored-edge c .kind
 kind c = c .u16-at .ensures ∙ kind-behind (start c .args .w .now) (start c .args .i * 56)
