@@ -7,6 +7,7 @@ ghost use Rattle.table.specs.Answers.{tableOf};
 ghost use Rattle.edge.specs.Edge.{Edge};
 ghost use Rattle.lattice.specs.Kept.{Holds, END};
 ghost use Rattle.pass_list.specs.Edges.{edgeOf};
+ghost use Rattle.pass_list.specs.Layout.{SIZE};
 ghost use Rattle.numbers.specs.Ready.{Ready, Offsets};
 ghost use Rattle.numbers.specs.CallEdge.{CallEdges};
 ghost use Rattle.pass_edge.specs.Grounded.{AllGrounded};
@@ -26,7 +27,7 @@ pub fn run_last_stages(
     n: usize,
     k: usize,
 ) -> Lattice
-    requires { ⌜ Ready (now line) (now table) h n × ((es : List Edge) × Holds (now w) l es × CallEdges n es) × Offsets (now line) (now offs) × AllGrounded (chars (now line)) (now table) (behind (now w) k) × CallEdges n (listedStored (chars (now line)) (now table) (behind (now w) k)) × (END + k * 56 ≤ length (now w)) ⌝ }
+    requires { ⌜ Ready (now line) (now table) h n × ((es : List Edge) × Holds (now w) l es × CallEdges n es) × Offsets (now line) (now offs) × AllGrounded (chars (now line)) (now table) (behind (now w) k) × CallEdges n (listedStored (chars (now line)) (now table) (behind (now w) k)) × (END + k * SIZE ≤ length (now w)) ⌝ }
     ensures { λ r. ⌜ ((es : List Edge) → Holds (now (w .entry)) l es → CallEdges n es → Holds (now (w .exit)) r (restOf (tableOf (now (table .entry)) h) (chars (now (line .entry))) (map (edgeOf (chars (now (line .entry))) (now (table .entry))) (behind (now (w .entry)) k)) es)) ⌝ }
 {
     let made = fractions::fractions(w, l, line, offs, table, h, n);

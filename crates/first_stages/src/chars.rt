@@ -22,6 +22,7 @@ ghost use Rattle.first_stages.specs.Five.{behind};
 ghost use Rattle.first_stages.specs.CharStage.{Room, Adding, FirstDone};
 use characters::char_edge;
 use lattice::Lattice;
+use pass_list::layout::SIZE;
 use pass_list::write::write_edge;
 use table::index::CharRecord;
 use table::index::RecordRun;
@@ -54,7 +55,7 @@ fn put_and_add(
     ensures { λ r. ⌜ (behind (now (w .exit)) (n + 1) ≡ behind (now (w .entry)) n ++ (charStored (now (table .entry)) p («record_at» .0) (place .0) c ∷ [])) × ((es : List Edge) → Holds (now (w .entry)) l es → Holds (now (w .exit)) r (add es (listedEdge (edgeOf (chars (now (line .entry))) (now (table .entry)) (charStored (now (table .entry)) p («record_at» .0) (place .0) c))))) ⌝ }
 {
     let e = char_edge(table, p, record_at, place, c);
-    write_edge(w, lattice::END + n * 56, e);
+    write_edge(w, lattice::END + n * SIZE, e);
     characters::add::add_char(w, l, line, offs, table, e)
 }
 

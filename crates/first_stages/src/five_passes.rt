@@ -7,6 +7,7 @@ ghost use Rattle.text.specs.Text.{chars};
 ghost use Rattle.pass_list.specs.Edges.{edgeOf};
 ghost use Rattle.pass_list.specs.Stored.{storedAt, storedListAt};
 ghost use Rattle.pass_list.specs.InTurn.{ofKind};
+ghost use Rattle.pass_list.specs.Layout.{SIZE};
 ghost use Rattle.numbers.specs.Ready.{Offsets};
 ghost use Rattle.edge.specs.Edge.{Edge};
 ghost use Rattle.lattice.specs.Lattice.{addAll};
@@ -17,6 +18,8 @@ ghost use Rattle.pass_edge.specs.Adding.{Addable, Added, addIf};
 ghost use Rattle.first_stages.specs.Five.{PassList, OnePass, FivePasses};
 use lattice::Lattice;
 use pass_edge::Fraction;
+use pass_list::layout::KIND_AT;
+use pass_list::layout::SIZE;
 use pass_list::record::PassEdge;
 use pass_list::run::PassAnswer;
 use text::Place;
@@ -70,11 +73,11 @@ fn add_if(
     i: usize,
     kind: u16,
 ) -> Lattice
-    requires { ⌜ ((es : List Edge) × Holds (now w) l es) × Offsets (now line) (now offs) × (length (chars (now line)) ≤ 256) × Grounded (chars (now line)) (now table) (storedAt (drop END (now w)) (i * 56)) × (END + i * 56 + 56 ≤ length (now w)) × (kind ≡ 0 → ⊥) ⌝ }
-    ensures { λ r. ⌜ SameBehind (now (w .entry)) (now (w .exit)) × ((es : List Edge) → Holds (now (w .entry)) l es → Holds (now (w .exit)) r (addIf (chars (now (line .entry))) (now (table .entry)) kind es (storedAt (drop END (now (w .entry))) (i * 56)))) ⌝ }
+    requires { ⌜ ((es : List Edge) × Holds (now w) l es) × Offsets (now line) (now offs) × (length (chars (now line)) ≤ 256) × Grounded (chars (now line)) (now table) (storedAt (drop END (now w)) (i * SIZE)) × (END + i * SIZE + SIZE ≤ length (now w)) × (kind ≡ 0 → ⊥) ⌝ }
+    ensures { λ r. ⌜ SameBehind (now (w .entry)) (now (w .exit)) × ((es : List Edge) → Holds (now (w .entry)) l es → Holds (now (w .exit)) r (addIf (chars (now (line .entry))) (now (table .entry)) kind es (storedAt (drop END (now (w .entry))) (i * SIZE)))) ⌝ }
 {
-    let at = lattice::END + i * 56;
-    let found = fields::u16_at(w, at + 4);
+    let at = lattice::END + i * SIZE;
+    let found = fields::u16_at(w, at + KIND_AT);
     if found != kind {
         return l;
     }
@@ -92,7 +95,7 @@ fn add_of_kind(
     n: usize,
     kind: u16,
 ) -> Lattice
-    requires { ⌜ ((es : List Edge) × Holds (now w) l es) × Offsets (now line) (now offs) × (length (chars (now line)) ≤ 256) × AllGrounded (chars (now line)) (now table) (storedListAt (drop END (now w)) 0 n) × (END + n * 56 ≤ length (now w)) × (kind ≡ 0 → ⊥) ⌝ }
+    requires { ⌜ ((es : List Edge) × Holds (now w) l es) × Offsets (now line) (now offs) × (length (chars (now line)) ≤ 256) × AllGrounded (chars (now line)) (now table) (storedListAt (drop END (now w)) 0 n) × (END + n * SIZE ≤ length (now w)) × (kind ≡ 0 → ⊥) ⌝ }
     ensures { λ r. ⌜ SameBehind (now (w .entry)) (now (w .exit)) × ((es : List Edge) → Holds (now (w .entry)) l es → Holds (now (w .exit)) r (addAll es (map listedEdge (map (edgeOf (chars (now (line .entry))) (now (table .entry))) (ofKind kind (storedListAt (drop END (now (w .entry))) 0 n)))))) ⌝ }
 {
     // two words, not a structure: one that is handed back in two pieces and copied as a whole makes the processor wait

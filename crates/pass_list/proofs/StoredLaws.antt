@@ -17,6 +17,7 @@ use Rattle.fields.specs.Part.{part}
 use Rattle.fields.proofs.FieldsLaws.{le-bytesOf}
 use Rattle.fields.proofs.PartLaws.{part-sets, part-sets-other, drop-sets}
 use Rattle.pass_list.specs.StoredEdge.{StoredEdge, numData, Small, cons, AllSmall, Fits}
+use Rattle.pass_list.specs.Layout.{SIZE, endAt, kindAt, mapAt, valueAt, baseAt, multAt, recordAt, scriptAt, scriptLenAt}
 use Rattle.pass_list.specs.Stored.{digitOf, mapOf, numBytes, recordBytes, storedOf, storedAt, storedListAt}
 
 -- ---- what was written is read
@@ -82,15 +83,15 @@ module _ (x : StoredEdge) where
 -- the numbers of a record's bytes
 record Back (x : StoredEdge) : Type 0 where
   start : leAt (recordBytes x) 0 2 ≡ x .start
-  end : leAt (recordBytes x) 2 2 ≡ x .end
-  kind : leAt (recordBytes x) 4 2 ≡ x .kind
-  map : leAt (recordBytes x) 6 2 ≡ mapOf (numData x)
-  value : leAt (recordBytes x) 8 8 ≡ x .value
-  base : leAt (recordBytes x) 16 8 ≡ x .base
-  mult : leAt (recordBytes x) 24 8 ≡ x .mult
-  record-at : leAt (recordBytes x) 32 8 ≡ x .record-at
-  script-at : leAt (recordBytes x) 40 8 ≡ x .script-at
-  script-len : leAt (recordBytes x) 48 8 ≡ x .script-len
+  end : leAt (recordBytes x) endAt 2 ≡ x .end
+  kind : leAt (recordBytes x) kindAt 2 ≡ x .kind
+  map : leAt (recordBytes x) mapAt 2 ≡ mapOf (numData x)
+  value : leAt (recordBytes x) valueAt 8 ≡ x .value
+  base : leAt (recordBytes x) baseAt 8 ≡ x .base
+  mult : leAt (recordBytes x) multAt 8 ≡ x .mult
+  record-at : leAt (recordBytes x) recordAt 8 ≡ x .record-at
+  script-at : leAt (recordBytes x) scriptAt 8 ≡ x .script-at
+  script-len : leAt (recordBytes x) scriptLenAt 8 ≡ x .script-len
 
 numbers-back : (x : StoredEdge) → Fits x → Back x
 unfolding leAt le part bytesOf recordBytes numBytes
@@ -143,21 +144,21 @@ record-back x f =
       digit-back (x .cjk),
     )
 
-pub length-record : (x : StoredEdge) → length (recordBytes x) ≡ 56
+pub length-record : (x : StoredEdge) → length (recordBytes x) ≡ SIZE
 unfolding recordBytes numBytes bytesOf
 length-record x = refl
 
-pub stored-edge-same : (s : List ℕ) (at : ℕ) (x : StoredEdge) → Fits x → at + 56 ≤ length s → storedAt (sets s at (recordBytes x)) at ≡ x
+pub stored-edge-same : (s : List ℕ) (at : ℕ) (x : StoredEdge) → Fits x → at + SIZE ≤ length s → storedAt (sets s at (recordBytes x)) at ≡ x
 unfolding storedAt
-stored-edge-same s at x f h = ap storedOf (part-sets s at (recordBytes x) 56 (length-record x) h) ∙ record-back x f
+stored-edge-same s at x f h = ap storedOf (part-sets s at (recordBytes x) SIZE (length-record x) h) ∙ record-back x f
 
 -- ---- lists of records
 -- what lies behind k records is read as before
 pub stored-edge-behind : (s t : List ℕ) (at : ℕ) → drop at t ≡ drop at s → storedAt t at ≡ storedAt s at
 unfolding storedAt part
-stored-edge-behind s t at e = ap (λ (l : List ℕ). storedOf (take 56 l)) e
+stored-edge-behind s t at e = ap (λ (l : List ℕ). storedOf (take SIZE l)) e
 
-pub stored-edges-cons : (s : List ℕ) (i n : ℕ) → i < n → storedListAt s i (n - i) ≡ storedAt s (i * 56) ∷ storedListAt s (i + 1) (n - (i + 1))
+pub stored-edges-cons : (s : List ℕ) (i n : ℕ) → i < n → storedListAt s i (n - i) ≡ storedAt s (i * SIZE) ∷ storedListAt s (i + 1) (n - (i + 1))
 unfolding storedListAt
 stored-edges-cons s i n h = let e : n - i ≡ suc (n - suc i) = omega arith in rw (add-one i, e)
 
@@ -170,34 +171,34 @@ unfolding storedListAt
 length-stored-edges s i zero = refl
 length-stored-edges s i (suc n) = ap suc (length-stored-edges s (suc i) n)
 
-pub stored-edges-other : (s : List ℕ) (at : ℕ) (bs : List ℕ) (i n : ℕ) → (i + n) * 56 ≤ at → storedListAt (sets s at bs) i n ≡ storedListAt s i n
+pub stored-edges-other : (s : List ℕ) (at : ℕ) (bs : List ℕ) (i n : ℕ) → (i + n) * SIZE ≤ at → storedListAt (sets s at bs) i n ≡ storedListAt s i n
 unfolding storedListAt storedAt
 stored-edges-other s at bs i zero h = refl
-stored-edges-other s at bs i (suc n) h = rw (part-sets-other s at bs (i * 56) 56 (inr (omega arith)), stored-edges-other s at bs (suc i) n (omega arith))
+stored-edges-other s at bs i (suc n) h = rw (part-sets-other s at bs (i * SIZE) SIZE (inr (omega arith)), stored-edges-other s at bs (suc i) n (omega arith))
 
-pub stored-edges-snoc : (s : List ℕ) (i n : ℕ) → storedListAt s i (n + 1) ≡ storedListAt s i n ++ (storedAt s ((i + n) * 56) ∷ [])
+pub stored-edges-snoc : (s : List ℕ) (i n : ℕ) → storedListAt s i (n + 1) ≡ storedListAt s i n ++ (storedAt s ((i + n) * SIZE) ∷ [])
 unfolding storedListAt
 stored-edges-snoc s i zero = rw add-zero
-stored-edges-snoc s i (suc n) = let e : i + suc n ≡ suc i + n = omega arith in rw (suc-add n 1, e) (ap (λ (l : List StoredEdge). storedAt s (i * 56) ∷ l) (stored-edges-snoc s (suc i) n))
+stored-edges-snoc s i (suc n) = let e : i + suc n ≡ suc i + n = omega arith in rw (suc-add n 1, e) (ap (λ (l : List StoredEdge). storedAt s (i * SIZE) ∷ l) (stored-edges-snoc s (suc i) n))
 
 -- one more record, written right behind n of them
-pub stored-edges-put : (s : List ℕ) (n : ℕ) (x : StoredEdge) → Fits x → n * 56 + 56 ≤ length s → storedListAt (sets s (n * 56) (recordBytes x)) 0 (n + 1) ≡ storedListAt s 0 n ++ (x ∷ [])
+pub stored-edges-put : (s : List ℕ) (n : ℕ) (x : StoredEdge) → Fits x → n * SIZE + SIZE ≤ length s → storedListAt (sets s (n * SIZE) (recordBytes x)) 0 (n + 1) ≡ storedListAt s 0 n ++ (x ∷ [])
 stored-edges-put s n x f h =
-    let e : (0 + n) * 56 ≡ n * 56 = omega arith in
-    stored-edges-snoc (sets s (n * 56) (recordBytes x)) 0 n
-    ∙ rw (e, stored-edges-other s (n * 56) (recordBytes x) 0 n (omega arith), stored-edge-same s (n * 56) x f h)
+    let e : (0 + n) * SIZE ≡ n * SIZE = omega arith in
+    stored-edges-snoc (sets s (n * SIZE) (recordBytes x)) 0 n
+    ∙ rw (e, stored-edges-other s (n * SIZE) (recordBytes x) 0 n (omega arith), stored-edge-same s (n * SIZE) x f h)
 
-small-at : (s : List ℕ) (i n j : ℕ) → AllSmall (storedListAt s i n) → j < n → Small (storedAt s ((i + j) * 56))
+small-at : (s : List ℕ) (i n j : ℕ) → AllSmall (storedListAt s i n) → j < n → Small (storedAt s ((i + j) * SIZE))
 unfolding storedListAt
 small-at s i zero j a h = absurd (omega arith)
 small-at s i (suc n) zero (cons x a) h = rw add-zero x
 small-at s i (suc n) (suc j) (cons x a) h = let e : i + suc j ≡ suc i + j = omega arith in rw e (small-at s (suc i) n j a (omega arith))
 
 -- the bytes behind the i-th record stay as they are where earlier ones are written
-pub behind-put : (s t : List ℕ) (i k : ℕ) (x : StoredEdge) → k < i → drop (i * 56) t ≡ drop (i * 56) s → drop (i * 56) (sets t (k * 56) (recordBytes x)) ≡ drop (i * 56) s
-behind-put s t i k x h e = let l = length-record x in drop-sets t (k * 56) (recordBytes x) (i * 56) (omega arith) ∙ e
+pub behind-put : (s t : List ℕ) (i k : ℕ) (x : StoredEdge) → k < i → drop (i * SIZE) t ≡ drop (i * SIZE) s → drop (i * SIZE) (sets t (k * SIZE) (recordBytes x)) ≡ drop (i * SIZE) s
+behind-put s t i k x h e = let l = length-record x in drop-sets t (k * SIZE) (recordBytes x) (i * SIZE) (omega arith) ∙ e
 
-pub behind-next : (s t : List ℕ) (i : ℕ) → drop (i * 56) t ≡ drop (i * 56) s → drop ((i + 1) * 56) t ≡ drop ((i + 1) * 56) s
+pub behind-next : (s t : List ℕ) (i : ℕ) → drop (i * SIZE) t ≡ drop (i * SIZE) s → drop ((i + 1) * SIZE) t ≡ drop ((i + 1) * SIZE) s
 behind-next s t i e =
-    let a : (i + 1) * 56 ≡ i * 56 + 56 = omega arith in
-    rw (a, ← (drop-drop 56 (i * 56) t), ← (drop-drop 56 (i * 56) s), e)
+    let a : (i + 1) * SIZE ≡ i * SIZE + SIZE = omega arith in
+    rw (a, ← (drop-drop SIZE (i * SIZE) t), ← (drop-drop SIZE (i * SIZE) s), e)

@@ -1,11 +1,10 @@
--- The bytes of an edge in the pass list: 56, the numbers little-endian. Definitions only.
+-- The bytes of an edge in the pass list, the numbers little-endian (specs/Layout.antt). Definitions only.
 --     digitOf b        1 for true, 0 for false
 --     bit map of       whether the bit of worth `of` stands in map
---     mapOf n          the marks of n in one number: the listing's bits for the fields (1 value, 3 base, 4 mult, 5 script, 6 large power), 8 to 10 for
---                      digit, gap and cjk
+--     mapOf n          the marks of n in one number
 --     recordBytes x    the bytes of x
 --     storedOf bs        what the bytes bs say
---     storedAt s at      what the 56 bytes of s from the offset at on say
+--     storedAt s at      what the bytes of the edge at an offset of s say
 --     storedListAt s i n    n edges of the list s from the i-th on
 -- Assumes nothing.
 use mathlib.Core.Bool.{Bool, true, false}
@@ -15,6 +14,8 @@ use lib.Dec.{eqb}
 use Rattle.fields.specs.Fields.{leAt, bytesOf}
 use Rattle.fields.specs.Part.{part}
 use Rattle.pass_list.specs.declared.record.PassData.{PassData}
+use Rattle.pass_list.specs.Layout.{SIZE, endAt, kindAt, mapAt, valueAt, baseAt, multAt, recordAt, scriptAt, scriptLenAt}
+use Rattle.pass_list.specs.Layout.{valueBit, baseBit, multBit, scriptBit, largePowerBit, digitBit, gapBit, cjkBit}
 use Rattle.pass_list.specs.StoredEdge.{StoredEdge, numData}
 
 abbrev pub digitOf : Bool → ℕ
@@ -26,8 +27,8 @@ bit map of = eqb (map / of % 2) 1
 
 abbrev pub mapOf : PassData → ℕ
 mapOf n =
-    2 * digitOf (n .«has_value») + 8 * digitOf (n .«has_base») + 16 * digitOf (n .«has_mult») + 32 * digitOf (n .«has_script»)
-    + 64 * digitOf (n .«large_power») + 256 * digitOf (n .digit) + 512 * digitOf (n .gap) + 1024 * digitOf (n .cjk)
+    valueBit * digitOf (n .«has_value») + baseBit * digitOf (n .«has_base») + multBit * digitOf (n .«has_mult») + scriptBit * digitOf (n .«has_script»)
+    + largePowerBit * digitOf (n .«large_power») + digitBit * digitOf (n .digit) + gapBit * digitOf (n .gap) + cjkBit * digitOf (n .cjk)
 
 unfoldable pub numBytes : StoredEdge → List ℕ
 numBytes x =
@@ -39,27 +40,27 @@ recordBytes x = bytesOf 2 (x .start) ++ (bytesOf 2 (x .end) ++ (bytesOf 2 (x .ki
 unfoldable pub storedOf : List ℕ → StoredEdge
 storedOf bs = record {
   start = leAt bs 0 2;
-  end = leAt bs 2 2;
-  kind = leAt bs 4 2;
-  record-at = leAt bs 32 8;
-  value = leAt bs 8 8;
-  base = leAt bs 16 8;
-  mult = leAt bs 24 8;
-  script-at = leAt bs 40 8;
-  script-len = leAt bs 48 8;
-  has-value = bit (leAt bs 6 2) 2;
-  has-base = bit (leAt bs 6 2) 8;
-  has-mult = bit (leAt bs 6 2) 16;
-  has-script = bit (leAt bs 6 2) 32;
-  large-power = bit (leAt bs 6 2) 64;
-  digit = bit (leAt bs 6 2) 256;
-  gap = bit (leAt bs 6 2) 512;
-  cjk = bit (leAt bs 6 2) 1024;
+  end = leAt bs endAt 2;
+  kind = leAt bs kindAt 2;
+  record-at = leAt bs recordAt 8;
+  value = leAt bs valueAt 8;
+  base = leAt bs baseAt 8;
+  mult = leAt bs multAt 8;
+  script-at = leAt bs scriptAt 8;
+  script-len = leAt bs scriptLenAt 8;
+  has-value = bit (leAt bs mapAt 2) valueBit;
+  has-base = bit (leAt bs mapAt 2) baseBit;
+  has-mult = bit (leAt bs mapAt 2) multBit;
+  has-script = bit (leAt bs mapAt 2) scriptBit;
+  large-power = bit (leAt bs mapAt 2) largePowerBit;
+  digit = bit (leAt bs mapAt 2) digitBit;
+  gap = bit (leAt bs mapAt 2) gapBit;
+  cjk = bit (leAt bs mapAt 2) cjkBit;
 }
 
 unfoldable pub storedAt : List ℕ → ℕ → StoredEdge
-storedAt s at = storedOf (part s at 56)
+storedAt s at = storedOf (part s at SIZE)
 
 unfoldable pub storedListAt : List ℕ → ℕ → ℕ → List StoredEdge
 storedListAt s i zero = []
-storedListAt s i (suc n) = storedAt s (i * 56) ∷ storedListAt s (suc i) n
+storedListAt s i (suc n) = storedAt s (i * SIZE) ∷ storedListAt s (suc i) n

@@ -1,5 +1,6 @@
 // The pass list in lent bytes, for the five passes (01, "Five passes, D1 to G4"; the Rust's numbers.rs): an edge of it, what a pass answers.
-pub mod record; // record.rt: an edge of the list, and its bytes
+pub mod record; // record.rt: an edge of the list
+pub mod layout; // layout.rt: the layout of its bytes
 pub mod run; // run.rt: the passes, and what a pass answers
 pub mod read; // read.rt: an edge of the list, read
 pub mod write; // write.rt: an edge of the list, stored

@@ -1,47 +1,49 @@
-// The 56 bytes of an edge in the pass list, read. The definitions are those of `pass_list`, specs/StoredEdge.antt and specs/Stored.antt; `pass_list::write` stores them.
+// The bytes of an edge in the pass list, read. The definitions are those of `pass_list`, specs/StoredEdge.antt and specs/Stored.antt; `pass_list::write` stores them.
 ghost use mathlib.Core.Path.{_≡_};
 ghost use Prim.Native.Nat.{_+_, _≤_};
 ghost use lib.ListN.{length};
 ghost use Rattle.pass_list.specs.StoredEdge.{numData, EdgeIs, Small};
+ghost use Rattle.pass_list.specs.Layout.{SIZE};
 ghost use Rattle.pass_list.specs.Stored.{storedAt};
+use crate::layout;
 use crate::record::PassData;
 use crate::record::PassEdge;
 use text::Offset;
 use text::Place;
 
-// The map's bits are the listing's for the fields, and three more for the marks.
+// The numeric data of the edge at an offset.
 fn num_at(s: &[u8], at: usize) -> PassData
-    requires { ⌜ (at + 56 ≤ length (now s)) × Small (storedAt (now s) at) ⌝ }
+    requires { ⌜ (at + SIZE ≤ length (now s)) × Small (storedAt (now s) at) ⌝ }
     ensures { λ r. ⌜ r ≡ numData (storedAt (now (s .entry)) at) ⌝ }
 {
-    let map = fields::u16_at(s, at + 6);
+    let map = fields::u16_at(s, at + layout::MAP_AT);
     PassData {
-        value: whole::exact_f64(fields::u64_at(s, at + 8)),
-        base_multiplier: whole::exact_f64(fields::u64_at(s, at + 24)),
-        base: fields::u64_at(s, at + 16),
-        has_value: map / 2 % 2 == 1,
-        has_base: map / 8 % 2 == 1,
-        has_mult: map / 16 % 2 == 1,
-        has_script: map / 32 % 2 == 1,
-        large_power: map / 64 % 2 == 1,
-        digit: map / 256 % 2 == 1,
-        gap: map / 512 % 2 == 1,
-        cjk: map / 1024 % 2 == 1,
-        script: Offset(fields::u64_at(s, at + 40) as usize),
-        script_len: fields::u64_at(s, at + 48) as usize,
+        value: whole::exact_f64(fields::u64_at(s, at + layout::VALUE_AT)),
+        base_multiplier: whole::exact_f64(fields::u64_at(s, at + layout::MULT_AT)),
+        base: fields::u64_at(s, at + layout::BASE_AT),
+        has_value: map / layout::HAS_VALUE % 2 == 1,
+        has_base: map / layout::HAS_BASE % 2 == 1,
+        has_mult: map / layout::HAS_MULT % 2 == 1,
+        has_script: map / layout::HAS_SCRIPT % 2 == 1,
+        large_power: map / layout::LARGE_POWER % 2 == 1,
+        digit: map / layout::DIGIT % 2 == 1,
+        gap: map / layout::GAP % 2 == 1,
+        cjk: map / layout::CJK % 2 == 1,
+        script: Offset(fields::u64_at(s, at + layout::SCRIPT_AT) as usize),
+        script_len: fields::u64_at(s, at + layout::SCRIPT_LEN_AT) as usize,
     }
 }
 
 // The edge that stands at an offset.
 pub fn read_edge(s: &[u8], at: usize) -> PassEdge
-    requires { ⌜ (at + 56 ≤ length (now s)) × Small (storedAt (now s) at) ⌝ }
+    requires { ⌜ (at + SIZE ≤ length (now s)) × Small (storedAt (now s) at) ⌝ }
     ensures { λ r. ⌜ EdgeIs r (storedAt (now (s .entry)) at) ⌝ }
 {
     PassEdge {
         start: Place(fields::u16_at(s, at) as usize),
-        end: Place(fields::u16_at(s, at + 2) as usize),
-        kind: fields::u16_at(s, at + 4),
-        record_at: Offset(fields::u64_at(s, at + 32) as usize),
+        end: Place(fields::u16_at(s, at + layout::END_AT) as usize),
+        kind: fields::u16_at(s, at + layout::KIND_AT),
+        record_at: Offset(fields::u64_at(s, at + layout::RECORD_AT) as usize),
         num: num_at(s, at),
     }
 }

@@ -28,6 +28,7 @@ use Rattle.pass_list.specs.declared.run.PassAnswer.the-variants as PassAnswer
 use Rattle.fields.specs.Part.{part}
 use Rattle.fields.proofs.PartLaws.{length-part, part-at, part-take, part-sets, part-sets-other, drop-sets, copy-turn, copy-ends}
 use Rattle.pass_list.specs.StoredEdge.{StoredEdge, Small, nil, cons, AllSmall, Fits, EdgeIs}
+use Rattle.pass_list.specs.Layout.{SIZE}
 use Rattle.pass_list.specs.Stored.{recordBytes, storedAt, storedListAt}
 use Rattle.pass_list.specs.StoredPass.{StoredChain, begin, touches, g1Rule, g3Rule, rule, counted, kindOf, joins, joinedValue, longer, next, over, chainsOf, edgesOf, joinedOf, after, added, firstAbove}
 use Rattle.pass_list.specs.Answers.{PassedIs}
@@ -187,43 +188,43 @@ passed-all p l u k cs all stored below small few =
     }
 
 -- ---- the k-th edge, written before those that are still to be read
-pub ended-put : (t : List ℕ) {u : List ℕ} (k i : ℕ) (x : StoredEdge) → Fits x → k < i → i * 56 ≤ length t → u ≡ sets t (k * 56) (recordBytes x) → Ended t k i x u
+pub ended-put : (t : List ℕ) {u : List ℕ} (k i : ℕ) (x : StoredEdge) → Fits x → k < i → i * SIZE ≤ length t → u ≡ sets t (k * SIZE) (recordBytes x) → Ended t k i x u
 ended-put t k i x f h room w = record { stored = rw w (stored-edges-put t k x f (omega arith)); rest = rw w (behind-put t t i k x h refl) }
 
 -- the edge stands in its place
-pub ended-stands : (t : List ℕ) (k i : ℕ) → k ≡ i → Ended t k (i + 1) (storedAt t (i * 56)) t
+pub ended-stands : (t : List ℕ) (k i : ℕ) → k ≡ i → Ended t k (i + 1) (storedAt t (i * SIZE)) t
 ended-stands t k i e = let z : 0 + k ≡ i = omega arith in record { stored = stored-edges-snoc t 0 k ∙ rw z; rest = refl }
 
 -- a turn of the loop that copies a record to an earlier place
-module _ (s : List ℕ) (to from : ℕ) (apart : to + 56 ≤ from) (room : from + 56 ≤ length s) where
-  pub moved-turn : {now : List ℕ} (j : ℕ) → j < 56 → now ≡ sets s to (take j (part s from 56)) → set now (to + j) (getD now (from + j) 0) ≡ sets s to (take (j + 1) (part s from 56))
+module _ (s : List ℕ) (to from : ℕ) (apart : to + SIZE ≤ from) (room : from + SIZE ≤ length s) where
+  pub moved-turn : {now : List ℕ} (j : ℕ) → j < SIZE → now ≡ sets s to (take j (part s from SIZE)) → set now (to + j) (getD now (from + j) 0) ≡ sets s to (take (j + 1) (part s from SIZE))
   moved-turn {now} j h e =
-      let l = length-part s from 56 room in
-      let q : length (take j (part s from 56)) ≡ j = rw (part-take s from 56 j (omega arith)) (length-part s from j (omega arith)) in
-      let r : getD now (from + j) 0 ≡ getD (part s from 56) j 0 =
-      sym (part-at now from 56 j h) ∙ ap (λ (z : List ℕ). getD z j 0) (ap (λ (z : List ℕ). part z from 56) e ∙ part-sets-other s to (take j (part s from 56)) from 56 (inl (omega arith))) in
-      ap (set now (to + j)) r ∙ copy-turn s (part s from 56) to j (omega arith) e
+      let l = length-part s from SIZE room in
+      let q : length (take j (part s from SIZE)) ≡ j = rw (part-take s from SIZE j (omega arith)) (length-part s from j (omega arith)) in
+      let r : getD now (from + j) 0 ≡ getD (part s from SIZE) j 0 =
+      sym (part-at now from SIZE j h) ∙ ap (λ (z : List ℕ). getD z j 0) (ap (λ (z : List ℕ). part z from SIZE) e ∙ part-sets-other s to (take j (part s from SIZE)) from SIZE (inl (omega arith))) in
+      ap (set now (to + j)) r ∙ copy-turn s (part s from SIZE) to j (omega arith) e
 
-  pub moved-ends : {now : List ℕ} (j : ℕ) → 56 ≤ j → now ≡ sets s to (take j (part s from 56)) → now ≡ sets s to (part s from 56)
-  moved-ends j h e = let l = length-part s from 56 room in copy-ends s (part s from 56) to j (omega arith) e
+  pub moved-ends : {now : List ℕ} (j : ℕ) → SIZE ≤ j → now ≡ sets s to (take j (part s from SIZE)) → now ≡ sets s to (part s from SIZE)
+  moved-ends j h e = let l = length-part s from SIZE room in copy-ends s (part s from SIZE) to j (omega arith) e
 
 -- its bytes are copied there
-pub ended-moved : (t : List ℕ) {u : List ℕ} (k i : ℕ) → k < i → (i + 1) * 56 ≤ length t → u ≡ sets t (k * 56) (part t (i * 56) 56) → Ended t k (i + 1) (storedAt t (i * 56)) u
+pub ended-moved : (t : List ℕ) {u : List ℕ} (k i : ℕ) → k < i → (i + 1) * SIZE ≤ length t → u ≡ sets t (k * SIZE) (part t (i * SIZE) SIZE) → Ended t k (i + 1) (storedAt t (i * SIZE)) u
 unfolding storedAt
 ended-moved t {u} k i h room w =
-    let l = length-part t (i * 56) 56 (omega arith) in
-    let z : (0 + k) * 56 ≡ k * 56 = omega arith in
-    let there : part (sets t (k * 56) (part t (i * 56) 56)) (k * 56) 56 ≡ part t (i * 56) 56 = part-sets t (k * 56) (part t (i * 56) 56) 56 l (omega arith) in
+    let l = length-part t (i * SIZE) SIZE (omega arith) in
+    let z : (0 + k) * SIZE ≡ k * SIZE = omega arith in
+    let there : part (sets t (k * SIZE) (part t (i * SIZE) SIZE)) (k * SIZE) SIZE ≡ part t (i * SIZE) SIZE = part-sets t (k * SIZE) (part t (i * SIZE) SIZE) SIZE l (omega arith) in
     record {
-      stored = rw w (stored-edges-snoc (sets t (k * 56) (part t (i * 56) 56)) 0 k ∙ rw (z, stored-edges-other t (k * 56) (part t (i * 56) 56) 0 k (omega arith), there));
-      rest = rw w (drop-sets t (k * 56) (part t (i * 56) 56) ((i + 1) * 56) (omega arith));
+      stored = rw w (stored-edges-snoc (sets t (k * SIZE) (part t (i * SIZE) SIZE)) 0 k ∙ rw (z, stored-edges-other t (k * SIZE) (part t (i * SIZE) SIZE) 0 k (omega arith), there));
+      rest = rw w (drop-sets t (k * SIZE) (part t (i * SIZE) SIZE) ((i + 1) * SIZE) (omega arith));
     }
 
 -- ---- edges that are still to be read
-stored-edges-behind : (s t : List ℕ) (i n : ℕ) → drop (i * 56) t ≡ drop (i * 56) s → storedListAt t i n ≡ storedListAt s i n
+stored-edges-behind : (s t : List ℕ) (i n : ℕ) → drop (i * SIZE) t ≡ drop (i * SIZE) s → storedListAt t i n ≡ storedListAt s i n
 unfolding storedListAt
 stored-edges-behind s t i zero e = refl
-stored-edges-behind s t i (suc n) e = rw (stored-edge-behind s t (i * 56) e, stored-edges-behind s t (suc i) n (rw add-one at (behind-next s t i e)))
+stored-edges-behind s t i (suc n) e = rw (stored-edge-behind s t (i * SIZE) e, stored-edges-behind s t (suc i) n (rw add-one at (behind-next s t i e)))
 
 one-small : {x : StoredEdge} {l : List StoredEdge} → AllSmall (x ∷ l) → Small x
 one-small (cons x a) = x
@@ -247,7 +248,7 @@ small-behind s i j n h k a =
     rw f at (small-later s i (j - i) (n - j) (rw e at a))
 
 -- the j-th of them
-pub small-one : (s : List ℕ) (i j n : ℕ) → i ≤ j → j < n → AllSmall (storedListAt s i (n - i)) → Small (storedAt s (j * 56))
+pub small-one : (s : List ℕ) (i j n : ℕ) → i ≤ j → j < n → AllSmall (storedListAt s i (n - i)) → Small (storedAt s (j * SIZE))
 small-one s i j n h k a = one-small (rw (stored-edges-cons s j n k) at (small-behind s i j n h (omega arith) a))
 
 -- ---- the chain that an edge begins
@@ -269,11 +270,11 @@ chains-first p y l = chains-cons begin (next p) y l
 
 -- the chain c is open before the j-th of n edges: it ends there where it doesn't take that one, or where there is none
 module _ (p : Pass) (s : List ℕ) (n j : ℕ) (c : StoredChain) where
-  ends-before : (j < n → next p c (storedAt s (j * 56)) ≡ none) → from begin (next p) c (storedListAt s j (n - j)) ≡ c ∷ chainsOf p (storedListAt s j (n - j))
+  ends-before : (j < n → next p c (storedAt s (j * SIZE)) ≡ none) → from begin (next p) c (storedListAt s j (n - j)) ≡ c ∷ chainsOf p (storedListAt s j (n - j))
   ends-before f = go (ltb j n) refl
     where
       go : (b : Bool) → ltb j n ≡ b → from begin (next p) c (storedListAt s j (n - j)) ≡ c ∷ chainsOf p (storedListAt s j (n - j))
-      go true t = let h = ltb-true _ _ t in rw (stored-edges-cons s j n h) (from-none begin (next p) c _ _ (f h) ∙ rw (chains-first p (storedAt s (j * 56)) (storedListAt s (j + 1) (n - (j + 1)))))
+      go true t = let h = ltb-true _ _ t in rw (stored-edges-cons s j n h) (from-none begin (next p) c _ _ (f h) ∙ rw (chains-first p (storedAt s (j * SIZE)) (storedListAt s (j + 1) (n - (j + 1)))))
       go false t = rw (stored-edges-none s j n (ltb-false _ _ t), chains-none p) (from-nil begin (next p) c)
 
 -- ---- the loop over a chain: c is open before the j-th edge, and ends before the to-th at the latest
@@ -284,16 +285,16 @@ pub record Open (p : Pass) (s : List ℕ) (n i : ℕ) (c : Chain) (j to : ℕ) :
   pub model : StoredChain
   pub is : ChainIs c model
   -- where that isn't the list's end, it does not take the edge there
-  pub closed : to < n → (j ≡ to) × (next p model (storedAt s (j * 56)) ≡ none)
+  pub closed : to < n → (j ≡ to) × (next p model (storedAt s (j * SIZE)) ≡ none)
   pub so-far : from begin (next p) model (storedListAt s j (n - j)) ≡ chainsOf p (storedListAt s i (n - i))
 
 module _ (p : Pass) (s : List ℕ) (n i : ℕ) where
-  pub opens : (c : Chain) {e : PassEdge} → i < n → EdgeIs e (storedAt s (i * 56)) → c ≡ passChain (begin (storedAt s (i * 56))) → Open p s n i c (i + 1) n
+  pub opens : (c : Chain) {e : PassEdge} → i < n → EdgeIs e (storedAt s (i * SIZE)) → c ≡ passChain (begin (storedAt s (i * SIZE))) → Open p s n i c (i + 1) n
   opens c h e b = record {
     later = omega arith;
     before = omega arith;
     inside = omega arith;
-    model = begin (storedAt s (i * 56));
+    model = begin (storedAt s (i * SIZE));
     is = begin-is (e .fits) b;
     closed = λ z. absurd (omega arith);
     so-far = sym (ap (chainsOf p) (stored-edges-cons s i n h) ∙ chains-first p _ _);
@@ -301,7 +302,7 @@ module _ (p : Pass) (s : List ℕ) (n i : ℕ) where
 
   module _ (c : Chain) (j to : ℕ) (g : Open p s n i c j to) where
     abbrev y : StoredEdge
-    y = storedAt s (j * 56)
+    y = storedAt s (j * SIZE)
 
     module _ (h : j < to) where
       open-next : from begin (next p) (g .model) (y ∷ storedListAt s (j + 1) (n - (j + 1))) ≡ chainsOf p (storedListAt s i (n - i))
@@ -356,13 +357,13 @@ module _ (p : Pass) (s t : List ℕ) (n k i : ℕ) {r : ChainRun} (h : RunIs p s
   ran-above e = rw e at h
 
 -- an edge that takes no neighbour is a chain of its own
-pub first-alone : (p : Pass) (s : List ℕ) (n i : ℕ) → i < n → (i + 1 < n → next p (begin (storedAt s (i * 56))) (storedAt s ((i + 1) * 56)) ≡ none) → First p s n i (i + 1) (storedAt s (i * 56))
+pub first-alone : (p : Pass) (s : List ℕ) (n i : ℕ) → i < n → (i + 1 < n → next p (begin (storedAt s (i * SIZE))) (storedAt s ((i + 1) * SIZE)) ≡ none) → First p s n i (i + 1) (storedAt s (i * SIZE))
 first-alone p s n i h f = record {
   later = omega arith;
   inside = omega arith;
-  chain = begin (storedAt s (i * 56));
-  edge = begin-edge (storedAt s (i * 56));
-  chains = ap (chainsOf p) (stored-edges-cons s i n h) ∙ chains-first p _ _ ∙ ends-before p s n (i + 1) (begin (storedAt s (i * 56))) f;
+  chain = begin (storedAt s (i * SIZE));
+  edge = begin-edge (storedAt s (i * SIZE));
+  chains = ap (chainsOf p) (stored-edges-cons s i n h) ∙ chains-first p _ _ ∙ ends-before p s n (i + 1) (begin (storedAt s (i * SIZE))) f;
 }
 
 -- ---- the loop over the list: the edges over k chains are written, and the i-th of n edges is read next

@@ -6,8 +6,9 @@ use mathlib.Core.List.{List, [], _∷_, _++_}
 use Prim.Native.Nat.{ℕ, _+_, _*_}
 use lib.ListN.{drop}
 use Rattle.pass_list.specs.StoredEdge.{StoredEdge}
+use Rattle.pass_list.specs.Layout.{SIZE}
 use Rattle.pass_list.specs.Stored.{storedListAt}
 
 pub record Ended (s : List ℕ) (k i : ℕ) (x : StoredEdge) (t : List ℕ) : Type 0 where
   pub stored : storedListAt t 0 (k + 1) ≡ storedListAt s 0 k ++ (x ∷ [])
-  pub rest : drop (i * 56) t ≡ drop (i * 56) s
+  pub rest : drop (i * SIZE) t ≡ drop (i * SIZE) s

@@ -11,6 +11,7 @@ ghost use lib.ListN.{length};
 ghost use lib.Seq.{sets};
 ghost use Rattle.fields.specs.Part.{part};
 ghost use Rattle.pass_list.specs.StoredEdge.{Small, AllSmall};
+ghost use Rattle.pass_list.specs.Layout.{SIZE};
 ghost use Rattle.pass_list.specs.Stored.{storedAt, storedListAt};
 ghost use Rattle.pass_list.specs.StoredPass.{StoredChain};
 ghost use Rattle.pass_list.specs.Answers.{passOf, PassedIs};
@@ -23,6 +24,7 @@ use pass_rules::chain::Chain;
 use pass_rules::chain::Next;
 use pass_list::run::Pass;
 use pass_list::read::read_edge;
+use pass_list::layout::SIZE;
 use pass_list::run::PassAnswer;
 use pass_list::write::write_edge;
 use text::Place;
@@ -35,22 +37,22 @@ pub enum ChainRun {
 
 // Whether the i-th of n edges is a chain of its own, as far as that is told without reading it.
 fn is_own_chain(s: &[u8], n: usize, i: usize, pass: Pass) -> bool
-    requires { ⌜ (i < n) × (n * 56 ≤ length (now s)) ⌝ }
-    ensures { λ r. ⌜ (r ≡ true → First (passOf pass) (now (s .entry)) n i (i + 1) (storedAt (now (s .entry)) (i * 56))) ⌝ }
+    requires { ⌜ (i < n) × (n * SIZE ≤ length (now s)) ⌝ }
+    ensures { λ r. ⌜ (r ≡ true → First (passOf pass) (now (s .entry)) n i (i + 1) (storedAt (now (s .entry)) (i * SIZE))) ⌝ }
 {
     if i + 1 < n {
-        return !may_join(s, i * 56, (i + 1) * 56, pass);
+        return !may_join(s, i * SIZE, (i + 1) * SIZE, pass);
     }
     true
 }
 
 // The record at an offset is copied to an earlier one.
 fn copy_record(list: &mut [u8], to: usize, from: usize)
-    requires { ⌜ (to + 56 ≤ from) × (from + 56 ≤ length (now list)) ⌝ }
-    ensures { λ _. ⌜ now (list .exit) ≡ sets (now (list .entry)) to (part (now (list .entry)) from 56) ⌝ }
+    requires { ⌜ (to + SIZE ≤ from) × (from + SIZE ≤ length (now list)) ⌝ }
+    ensures { λ _. ⌜ now (list .exit) ≡ sets (now (list .entry)) to (part (now (list .entry)) from SIZE) ⌝ }
 {
     let mut j = 0;
-    while j < 56 {
+    while j < SIZE {
         list[to + j] = list[from + j];
         j += 1;
     }
@@ -58,17 +60,17 @@ fn copy_record(list: &mut [u8], to: usize, from: usize)
 
 // The i-th edge becomes the k-th.
 fn move_record(list: &mut [u8], k: usize, i: usize)
-    requires { ⌜ (k ≤ i) × ((i + 1) * 56 ≤ length (now list)) ⌝ }
-    ensures { λ _. ⌜ Ended (now (list .entry)) k (i + 1) (storedAt (now (list .entry)) (i * 56)) (now (list .exit)) ⌝ }
+    requires { ⌜ (k ≤ i) × ((i + 1) * SIZE ≤ length (now list)) ⌝ }
+    ensures { λ _. ⌜ Ended (now (list .entry)) k (i + 1) (storedAt (now (list .entry)) (i * SIZE)) (now (list .exit)) ⌝ }
 {
     if k < i {
-        copy_record(list, k * 56, i * 56);
+        copy_record(list, k * SIZE, i * SIZE);
     }
 }
 
 // What the edge at an offset does to the chain: it is read where the pass may join it.
 fn next_of_chain(c: Chain, pass: Pass, s: &[u8], at: usize) -> Next
-    requires { ⌜ ((x : StoredChain) × ChainIs c x) × (at + 56 ≤ length (now s)) × Small (storedAt (now s) at) ⌝ }
+    requires { ⌜ ((x : StoredChain) × ChainIs c x) × (at + SIZE ≤ length (now s)) × Small (storedAt (now s) at) ⌝ }
     ensures { λ r. ⌜ ((x : StoredChain) → ChainIs c x → r ≡ answer (passOf pass) x (storedAt (now (s .entry)) at)) ⌝ }
 {
     if may_take(c, s, at, pass) {
@@ -79,14 +81,14 @@ fn next_of_chain(c: Chain, pass: Pass, s: &[u8], at: usize) -> Next
 
 // The chain that the i-th of n edges begins: the edge over it becomes the k-th.
 fn run_chain(list: &mut [u8], n: usize, k: usize, i: usize, pass: Pass) -> ChainRun
-    requires { ⌜ (k ≤ i) × (i < n) × (n * 56 ≤ length (now list)) × AllSmall (storedListAt (now list) i (n - i)) ⌝ }
+    requires { ⌜ (k ≤ i) × (i < n) × (n * SIZE ≤ length (now list)) × AllSmall (storedListAt (now list) i (n - i)) ⌝ }
     ensures { λ r. ⌜ RunIs (passOf pass) (now (list .entry)) n k i (now (list .exit)) r ⌝ }
 {
-    let mut chain = Chain::begin(read_edge(list, i * 56));
+    let mut chain = Chain::begin(read_edge(list, i * SIZE));
     let mut j = i + 1;
     let mut to = n;
     while j < to {
-        match next_of_chain(chain, pass, list, j * 56) {
+        match next_of_chain(chain, pass, list, j * SIZE) {
             Next::Longer(c) => {
                 chain = c;
                 j += 1;
@@ -100,13 +102,13 @@ fn run_chain(list: &mut [u8], n: usize, k: usize, i: usize, pass: Pass) -> Chain
             }
         }
     }
-    write_edge(list, k * 56, chain.edge);
+    write_edge(list, k * SIZE, chain.edge);
     ChainRun::To(j)
 }
 
 // The chain that the i-th of n edges begins, with a look first whether it goes on at all.
 fn step(list: &mut [u8], n: usize, k: usize, i: usize, pass: Pass) -> ChainRun
-    requires { ⌜ (k ≤ i) × (i < n) × (n * 56 ≤ length (now list)) × AllSmall (storedListAt (now list) i (n - i)) ⌝ }
+    requires { ⌜ (k ≤ i) × (i < n) × (n * SIZE ≤ length (now list)) × AllSmall (storedListAt (now list) i (n - i)) ⌝ }
     ensures { λ r. ⌜ RunIs (passOf pass) (now (list .entry)) n k i (now (list .exit)) r ⌝ }
 {
     if is_own_chain(list, n, i, pass) {
@@ -118,7 +120,7 @@ fn step(list: &mut [u8], n: usize, k: usize, i: usize, pass: Pass) -> ChainRun
 
 // A pass over the n edges of the list.
 pub fn run_pass(list: &mut [u8], n: usize, pass: Pass) -> PassAnswer
-    requires { ⌜ (n * 56 ≤ length (now list)) × AllSmall (storedListAt (now list) 0 n) ⌝ }
+    requires { ⌜ (n * SIZE ≤ length (now list)) × AllSmall (storedListAt (now list) 0 n) ⌝ }
     ensures { λ r. ⌜ PassedIs (passOf pass) (storedListAt (now (list .entry)) 0 n) (now (list .exit)) r ⌝ }
 {
     let mut i = 0;

@@ -4,28 +4,30 @@ ghost use mathlib.Core.Path.{_≡_};
 ghost use mathlib.Core.Bool.{true};
 ghost use Prim.Native.Nat.{_+_, _≤_};
 ghost use lib.ListN.{length};
+ghost use Rattle.pass_list.specs.Layout.{SIZE};
 ghost use Rattle.pass_list.specs.Stored.{storedAt};
 ghost use Rattle.pass_list.specs.StoredPass.{begin, joins};
 ghost use Rattle.pass_list.specs.Answers.{passOf};
+use pass_list::layout;
 use pass_list::run::Pass;
 
 // Whether the pass may join the edges at two offsets: where it does, these few fields say so.
 pub fn may_join(s: &[u8], a: usize, b: usize, pass: Pass) -> bool
-    requires { ⌜ (a + 56 ≤ length (now s)) × (b + 56 ≤ length (now s)) ⌝ }
+    requires { ⌜ (a + SIZE ≤ length (now s)) × (b + SIZE ≤ length (now s)) ⌝ }
     ensures { λ r. ⌜ (joins (passOf pass) (begin (storedAt (now (s .entry)) a)) (storedAt (now (s .entry)) b) ≡ true → r ≡ true) ⌝ }
 {
-    if fields::u16_at(s, a + 2) != fields::u16_at(s, b) {
+    if fields::u16_at(s, a + layout::END_AT) != fields::u16_at(s, b) {
         return false;
     }
-    let l = fields::u16_at(s, a + 6);
-    let r = fields::u16_at(s, b + 6);
-    let base = fields::u64_at(s, a + 16);
-    let next = fields::u64_at(s, b + 16);
+    let l = fields::u16_at(s, a + layout::MAP_AT);
+    let r = fields::u16_at(s, b + layout::MAP_AT);
+    let base = fields::u64_at(s, a + layout::BASE_AT);
+    let next = fields::u64_at(s, b + layout::BASE_AT);
     match pass {
-        Pass::D1 => (l / 256 % 2 == 1) & (r / 256 % 2 == 1),
-        Pass::G1 => (base == 1) & (1 < next) & !(r / 64 % 2 == 1),
-        Pass::G2 => !(l / 64 % 2 == 1) & ((next < base) | (r / 512 % 2 == 1)),
-        Pass::G3 => !(l / 64 % 2 == 1) & (r / 64 % 2 == 1),
+        Pass::D1 => (l / layout::DIGIT % 2 == 1) & (r / layout::DIGIT % 2 == 1),
+        Pass::G1 => (base == 1) & (1 < next) & !(r / layout::LARGE_POWER % 2 == 1),
+        Pass::G2 => !(l / layout::LARGE_POWER % 2 == 1) & ((next < base) | (r / layout::GAP % 2 == 1)),
+        Pass::G3 => !(l / layout::LARGE_POWER % 2 == 1) & (r / layout::LARGE_POWER % 2 == 1),
         Pass::G4 => (1000 <= base) | (next < base),
     }
 }

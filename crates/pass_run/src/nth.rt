@@ -3,6 +3,7 @@ ghost use mathlib.Core.Path.{_≡_};
 ghost use Prim.Native.Nat.{_+_, _*_, _≤_, _<_};
 ghost use lib.ListN.{length, take, drop};
 ghost use Rattle.pass_list.specs.StoredEdge.{AllSmall};
+ghost use Rattle.pass_list.specs.Layout.{SIZE};
 ghost use Rattle.pass_list.specs.Stored.{storedListAt};
 ghost use Rattle.pass_list.specs.Answers.{passOf, PassedIs};
 ghost use Rattle.pass_run.specs.Nth.{nth};
@@ -27,7 +28,7 @@ fn pass_of(i: usize) -> Pass
 
 // The i-th pass over the list that stands in the work space from an offset on; what stands before it stays as it is.
 pub fn pass_behind(w: &mut [u8], from: usize, n: usize, i: usize) -> PassAnswer
-    requires { ⌜ (from + n * 56 ≤ length (now w)) × AllSmall (storedListAt (drop from (now w)) 0 n) × (i < 5) ⌝ }
+    requires { ⌜ (from + n * SIZE ≤ length (now w)) × AllSmall (storedListAt (drop from (now w)) 0 n) × (i < 5) ⌝ }
     ensures { λ r. ⌜ (take from (now (w .exit)) ≡ take from (now (w .entry))) × PassedIs (nth i) (storedListAt (drop from (now (w .entry))) 0 n) (drop from (now (w .exit))) r ⌝ }
 {
     run_pass(&mut w[from..], n, pass_of(i))

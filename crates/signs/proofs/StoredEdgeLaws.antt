@@ -15,6 +15,7 @@ use Rattle.pass_list.specs.StoredEdge.{StoredEdge, EdgeIs, cons}
 use Rattle.pass_list.specs.Stored.{storedAt, storedListAt}
 use Rattle.pass_list.specs.Edges.{edgeOf}
 use Rattle.pass_list.proofs.StoredLaws.{stored-edges-cons, stored-edges-none}
+use Rattle.pass_list.specs.Layout.{SIZE}
 use Rattle.edge.specs.Edge.{Edge}
 use Rattle.lattice.specs.declared.Lattice.{Lattice}
 use Rattle.lattice.specs.Lattice.{addAll}
@@ -71,7 +72,7 @@ module _ (t : Table) (w table s : List ℕ) (n : ℕ) where
   rest-start = rw (sub-zero n)
 
   module _ (i : ℕ) where
-    pub rest-next : i < n → rest i ≡ signsOf t w (edgeOf w table (storedAt s (i * 56))) ++ rest (i + 1)
+    pub rest-next : i < n → rest i ≡ signsOf t w (edgeOf w table (storedAt s (i * SIZE))) ++ rest (i + 1)
     unfolding signs signsOf
     rest-next h = rw (stored-edges-cons s i n h)
 
@@ -86,5 +87,5 @@ module _ (w table s : List ℕ) (n : ℕ) where
   pub sounds-start : AllGrounded w table (storedListAt s 0 n) → AllGrounded w table (storedListAt s 0 (n - 0))
   sounds-start h = rw (sub-zero n) h
 
-  pub sounds-next : (i : ℕ) → i < n → AllGrounded w table (storedListAt s i (n - i)) → Grounded w table (storedAt s (i * 56)) × AllGrounded w table (storedListAt s (i + 1) (n - (i + 1)))
+  pub sounds-next : (i : ℕ) → i < n → AllGrounded w table (storedListAt s i (n - i)) → Grounded w table (storedAt s (i * SIZE)) × AllGrounded w table (storedListAt s (i + 1) (n - (i + 1)))
   sounds-next i h k = sounds-parts (rw (stored-edges-cons s i n h) at k)

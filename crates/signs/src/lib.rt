@@ -2,6 +2,7 @@
 pub mod edges; // edges.rt: the edges for the signs before one edge
 
 use lattice::Lattice;
+use pass_list::layout::SIZE;
 use pass_list::record::PassEdge;
 use table::shape::Shape;
 ghost use mathlib.Core.List.{List, map};
@@ -15,6 +16,7 @@ ghost use Rattle.lattice.specs.Kept.{Holds, END, SameBehind};
 ghost use Rattle.pass_list.specs.StoredEdge.{StoredEdge, EdgeIs};
 ghost use Rattle.pass_list.specs.Stored.{storedListAt};
 ghost use Rattle.pass_list.specs.Edges.{edgeOf};
+ghost use Rattle.pass_list.specs.Layout.{SIZE};
 ghost use Rattle.numbers.specs.Ready.{Ready, Offsets};
 ghost use Rattle.pass_edge.specs.Grounded.{AllGrounded, StoredIs};
 ghost use Rattle.numbers.specs.Signs.{signs};
@@ -53,14 +55,14 @@ pub fn add_signs(
     h: Shape,
     n: usize,
 ) -> Lattice
-    requires { ⌜ ((es : List Edge) × Holds (now w) l es) × Offsets (now line) (now offs) × ((m : ℕ) × Ready (now line) (now table) h m) × AllGrounded (chars (now line)) (now table) (storedListAt (drop END (now w)) 0 n) × (END + n * 56 ≤ length (now w)) ⌝ }
+    requires { ⌜ ((es : List Edge) × Holds (now w) l es) × Offsets (now line) (now offs) × ((m : ℕ) × Ready (now line) (now table) h m) × AllGrounded (chars (now line)) (now table) (storedListAt (drop END (now w)) 0 n) × (END + n * SIZE ≤ length (now w)) ⌝ }
     ensures { λ r. ⌜ SameBehind (now (w .entry)) (now (w .exit)) × ((es : List Edge) → Holds (now (w .entry)) l es → Holds (now (w .exit)) r (addAll es (signs (tableOf (now (table .entry)) h) (chars (now (line .entry))) (map (edgeOf (chars (now (line .entry))) (now (table .entry))) (storedListAt (drop END (now (w .entry))) 0 n))))) ⌝ }
 {
     let list = lattice::END;
     let mut grown = l;
     let mut i = 0;
     while i < n {
-        let x = pass_list::read::read_edge(&w[list..], i * 56);
+        let x = pass_list::read::read_edge(&w[list..], i * SIZE);
         grown = add_edge_signs(w, grown, line, offs, table, h, x);
         i += 1;
     }

@@ -15,6 +15,7 @@ use Rattle.table.specs.Index.{FoundAt}
 use Rattle.table.specs.declared.index.RecordRun.{RecordRun}
 use Rattle.pass_list.specs.StoredEdge.{StoredEdge, Fits}
 use Rattle.pass_list.specs.Edges.{edgeOf}
+use Rattle.pass_list.specs.Layout.{SIZE}
 use Rattle.pass_list.specs.Stored.{recordBytes, storedListAt}
 use Rattle.pass_list.proofs.StoredLaws.{stored-edges-put}
 use Rattle.edge.specs.Edge.{Edge}
@@ -43,14 +44,14 @@ behind-sets k s i (b ∷ bs) =
     let e : suc (k + i) ≡ k + suc i = omega arith in
     ap (λ (j : ℕ). drop k (sets (set s (k + i) b) j bs)) e ∙ behind-sets k (set s (k + i) b) (suc i) bs ∙ ap (λ (l : List ℕ). sets l (suc i) bs) (drop-set-add k s i b)
 
-module _ (s v : List ℕ) (n : ℕ) (x : StoredEdge) (stored : v ≡ sets s (END + n * 56) (recordBytes x)) where
+module _ (s v : List ℕ) (n : ℕ) (x : StoredEdge) (stored : v ≡ sets s (END + n * SIZE) (recordBytes x)) where
   pub stored-holds : {l : Lattice} {es : List Edge} → Holds s l es → Holds v l es
-  stored-holds q = holds-front s v (ap (take END) stored ∙ front-sets END s (END + n * 56) (recordBytes x) (omega arith)) (ap length stored ∙ length-sets s (END + n * 56) (recordBytes x)) q
+  stored-holds q = holds-front s v (ap (take END) stored ∙ front-sets END s (END + n * SIZE) (recordBytes x) (omega arith)) (ap length stored ∙ length-sets s (END + n * SIZE) (recordBytes x)) q
 
   -- from v to u what is behind the lattice stayed
-  pub stored-behind : (u : List ℕ) → Fits x → END + n * 56 + 56 ≤ length s → SameBehind v u → behind u (n + 1) ≡ behind s n ++ (x ∷ [])
+  pub stored-behind : (u : List ℕ) → Fits x → END + n * SIZE + SIZE ≤ length s → SameBehind v u → behind u (n + 1) ≡ behind s n ++ (x ∷ [])
   stored-behind u fits room frame =
-      ap (λ (b : List ℕ). storedListAt b 0 (n + 1)) (frame ∙ ap (drop END) stored ∙ behind-sets END s (n * 56) (recordBytes x))
+      ap (λ (b : List ℕ). storedListAt b 0 (n + 1)) (frame ∙ ap (drop END) stored ∙ behind-sets END s (n * SIZE) (recordBytes x))
       ∙ stored-edges-put (drop END s) n x fits (omega (arith, length-drop END s))
 
 -- ---- no character

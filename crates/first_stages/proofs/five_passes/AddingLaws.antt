@@ -18,6 +18,7 @@ use Rattle.pass_list.specs.Stored.{storedOf, storedAt, storedListAt}
 use Rattle.pass_list.specs.Edges.{edgeOf}
 use Rattle.pass_list.proofs.StoredLaws.{stored-edges-snoc}
 use Rattle.pass_list.specs.InTurn.{ofKind}
+use Rattle.pass_list.specs.Layout.{SIZE}
 use Rattle.edge.specs.Edge.{Edge}
 use Rattle.lattice.specs.Lattice.{add, addAll}
 use Rattle.lattice.specs.declared.Lattice.{Lattice}
@@ -30,7 +31,7 @@ use Rattle.pass_edge.specs.Adding.{Added, kindEdges, addIf}
 -- ---- a stored edge behind the lattice
 pub stored-edge-behind-is : (w : List ℕ) (at : ℕ) → storedAt w (END + at) ≡ storedAt (drop END w) at
 unfolding storedAt
-stored-edge-behind-is w at = ap storedOf (sym (part-of-drop w END at 56))
+stored-edge-behind-is w at = ap storedOf (sym (part-of-drop w END at SIZE))
 
 pub stored-edge-behind : (line t : List ℕ) (w : List ℕ) (at : ℕ) (e : PassEdge) → Grounded (chars line) t (storedAt (drop END w) at) → EdgeIs e (storedAt w (END + at)) → StoredIs line t e (storedAt (drop END w) at)
 stored-edge-behind line t w at e s h = record { is = subst (EdgeIs e) (stored-edge-behind-is w at) h; sound = s }
@@ -38,16 +39,16 @@ stored-edge-behind line t w at e s h = record { is = subst (EdgeIs e) (stored-ed
 -- its kind can be read alone
 pub kind-behind : (w : List ℕ) (at : ℕ) → leAt w (END + at + 4) 2 ≡ storedAt (drop END w) at .kind
 unfolding storedAt storedOf
-kind-behind w at = sym (leAt-of-part w (END + at) 56 4 2 (omega arith)) ∙ ap (λ (x : StoredEdge). x .kind) (stored-edge-behind-is w at)
+kind-behind w at = sym (leAt-of-part w (END + at) SIZE 4 2 (omega arith)) ∙ ap (λ (x : StoredEdge). x .kind) (stored-edge-behind-is w at)
 
 -- ---- each stored edge of a list
-every-stored-edges : (P : StoredEdge → Type 0) (s : List ℕ) (i n j : ℕ) → Every P (storedListAt s i n) → j < n → P (storedAt s ((i + j) * 56))
+every-stored-edges : (P : StoredEdge → Type 0) (s : List ℕ) (i n j : ℕ) → Every P (storedListAt s i n) → j < n → P (storedAt s ((i + j) * SIZE))
 unfolding storedListAt
 every-stored-edges P s i zero j e h = absurd (omega arith)
 every-stored-edges P s i (suc n) zero (cons p e) h = let z : i + 0 ≡ i = omega arith in rw z p
 every-stored-edges P s i (suc n) (suc j) (cons p e) h = let z : i + suc j ≡ suc i + j = omega arith in rw z (every-stored-edges P s (suc i) n j e (omega arith))
 
-pub stored-edge-of : (P : StoredEdge → Type 0) (s : List ℕ) (n j : ℕ) → Every P (storedListAt s 0 n) → j < n → P (storedAt s (j * 56))
+pub stored-edge-of : (P : StoredEdge → Type 0) (s : List ℕ) (n j : ℕ) → Every P (storedListAt s 0 n) → j < n → P (storedAt s (j * SIZE))
 stored-edge-of P s n j e h = rw zero-add at (every-stored-edges P s 0 n j e h)
 
 -- ---- one stored edge
@@ -90,15 +91,15 @@ module _ (w t : List ℕ) (k : ℕ) (es : List Edge) where
       go true = refl
       go false = refl
 
-  pub add-more : (s : List ℕ) (i : ℕ) → addAll es (kindEdges w t k (storedListAt s 0 (i + 1))) ≡ addIf w t k (addAll es (kindEdges w t k (storedListAt s 0 i))) (storedAt s (i * 56))
+  pub add-more : (s : List ℕ) (i : ℕ) → addAll es (kindEdges w t k (storedListAt s 0 (i + 1))) ≡ addIf w t k (addAll es (kindEdges w t k (storedListAt s 0 i))) (storedAt s (i * SIZE))
   add-more s i =
       let z : 0 + i ≡ i = omega arith in
-      let x = storedAt s ((0 + i) * 56) in
+      let x = storedAt s ((0 + i) * SIZE) in
       ap (λ (l : List StoredEdge). addAll es (kindEdges w t k l)) (stored-edges-snoc s 0 i)
       ∙ ap (addAll es) (edges-append (storedListAt s 0 i) (x ∷ []))
       ∙ add-all-append es (kindEdges w t k (storedListAt s 0 i)) (kindEdges w t k (x ∷ []))
       ∙ one-edge (addAll es (kindEdges w t k (storedListAt s 0 i))) x
-      ∙ ap (λ (j : ℕ). addIf w t k (addAll es (kindEdges w t k (storedListAt s 0 i))) (storedAt s (j * 56))) z
+      ∙ ap (λ (j : ℕ). addIf w t k (addAll es (kindEdges w t k (storedListAt s 0 i))) (storedAt s (j * SIZE))) z
 
   pub add-none : (s : List ℕ) → es ≡ addAll es (kindEdges w t k (storedListAt s 0 0))
   unfolding storedListAt ofKind addAll
@@ -119,11 +120,11 @@ same-long : (s u : List ℕ) → END ≤ length s → END ≤ length u → SameB
 same-long s u h k e = omega (arith, length-drop END s, length-drop END u, ap length e)
 
 module _ (w t : List ℕ) (k n : ℕ) (s : List ℕ) (l : Lattice) (u : List ℕ) (r : Lattice) (i : ℕ) (a : Adding w t k n s l u r i) where
-  pub stored-edge-sound : Every (Grounded w t) (storedListAt (drop END s) 0 n) → i < n → Grounded w t (storedAt (drop END u) (i * 56))
+  pub stored-edge-sound : Every (Grounded w t) (storedListAt (drop END s) 0 n) → i < n → Grounded w t (storedAt (drop END u) (i * SIZE))
   stored-edge-sound e h = rw (a .frame) (stored-edge-of (Grounded w t) (drop END s) n i e h)
 
   pub adding-more : (v : List ℕ) (m : Lattice) → (es : List Edge) → Holds s l es → i < n → SameBehind u v
-      → ((fs : List Edge) → Holds u r fs → Holds v m (addIf w t k fs (storedAt (drop END u) (i * 56)))) → Adding w t k n s l v m (i + 1)
+      → ((fs : List Edge) → Holds u r fs → Holds v m (addIf w t k fs (storedAt (drop END u) (i * SIZE)))) → Adding w t k n s l v m (i + 1)
   adding-more v m es h j f g =
       let frame : SameBehind s v = f ∙ a .frame in
       let more : (fs : List Edge) → Holds s l fs → Holds v m (addAll fs (kindEdges w t k (storedListAt (drop END s) 0 (i + 1)))) =

@@ -14,59 +14,60 @@ use Rattle.whole.specs.Whole.{ofNat}
 use Rattle.pass_list.specs.declared.record.PassData.{PassData}
 use Rattle.pass_list.specs.declared.record.PassEdge.{PassEdge}
 use Rattle.pass_list.specs.StoredEdge.{StoredEdge, numData, passEdge, Small, Fits}
+use Rattle.pass_list.specs.Layout.{SIZE, endAt, kindAt, mapAt, valueAt, baseAt, multAt, recordAt, scriptAt, scriptLenAt, valueBit, baseBit, multBit, scriptBit, largePowerBit, digitBit, gapBit, cjkBit}
 use Rattle.pass_list.specs.Stored.{bit, storedOf, storedAt}
 
 -- ---- the fields of a record, each at its own offset
 abbrev pub fieldsAt : List ℕ → ℕ → StoredEdge
 fieldsAt s at = record {
   start = leAt s at 2;
-  end = leAt s (at + 2) 2;
-  kind = leAt s (at + 4) 2;
-  record-at = leAt s (at + 32) 8;
-  value = leAt s (at + 8) 8;
-  base = leAt s (at + 16) 8;
-  mult = leAt s (at + 24) 8;
-  script-at = leAt s (at + 40) 8;
-  script-len = leAt s (at + 48) 8;
-  has-value = bit (leAt s (at + 6) 2) 2;
-  has-base = bit (leAt s (at + 6) 2) 8;
-  has-mult = bit (leAt s (at + 6) 2) 16;
-  has-script = bit (leAt s (at + 6) 2) 32;
-  large-power = bit (leAt s (at + 6) 2) 64;
-  digit = bit (leAt s (at + 6) 2) 256;
-  gap = bit (leAt s (at + 6) 2) 512;
-  cjk = bit (leAt s (at + 6) 2) 1024;
+  end = leAt s (at + endAt) 2;
+  kind = leAt s (at + kindAt) 2;
+  record-at = leAt s (at + recordAt) 8;
+  value = leAt s (at + valueAt) 8;
+  base = leAt s (at + baseAt) 8;
+  mult = leAt s (at + multAt) 8;
+  script-at = leAt s (at + scriptAt) 8;
+  script-len = leAt s (at + scriptLenAt) 8;
+  has-value = bit (leAt s (at + mapAt) 2) valueBit;
+  has-base = bit (leAt s (at + mapAt) 2) baseBit;
+  has-mult = bit (leAt s (at + mapAt) 2) multBit;
+  has-script = bit (leAt s (at + mapAt) 2) scriptBit;
+  large-power = bit (leAt s (at + mapAt) 2) largePowerBit;
+  digit = bit (leAt s (at + mapAt) 2) digitBit;
+  gap = bit (leAt s (at + mapAt) 2) gapBit;
+  cjk = bit (leAt s (at + mapAt) 2) cjkBit;
 }
 
 pub storedAt-fields : (s : List ℕ) (at : ℕ) → storedAt s at ≡ fieldsAt s at
 unfolding storedAt storedOf
 storedAt-fields s at =
-    let at-field : (i w : ℕ) → i + w ≤ 56 → leAt (part s at 56) i w ≡ leAt s (at + i) w = λ i w h. leAt-of-part s at 56 i w h in
-    rw (at-field 0 2 (omega arith), add-zero at, at-field 2 2 (omega arith), at-field 4 2 (omega arith), at-field 6 2 (omega arith), at-field 8 8 (omega arith), at-field 16 8 (omega arith), at-field 24 8 (omega arith), at-field 32 8 (omega arith), at-field 40 8 (omega arith), at-field 48 8 (omega arith))
+    let at-field : (i w : ℕ) → i + w ≤ SIZE → leAt (part s at SIZE) i w ≡ leAt s (at + i) w = λ i w h. leAt-of-part s at SIZE i w h in
+    rw (at-field 0 2 (omega arith), add-zero at, at-field endAt 2 (omega arith), at-field kindAt 2 (omega arith), at-field mapAt 2 (omega arith), at-field valueAt 8 (omega arith), at-field baseAt 8 (omega arith), at-field multAt 8 (omega arith), at-field recordAt 8 (omega arith), at-field scriptAt 8 (omega arith), at-field scriptLenAt 8 (omega arith))
 
 pub small-at : (s : List ℕ) (at : ℕ) → Small (storedAt s at) → Small (fieldsAt s at)
 small-at s at small = subst Small (storedAt-fields s at) small
 
 -- the numeric data, read field by field
-pub num-read : (s : List ℕ) (at : ℕ) {v k : Float} {m n b r a l : ℕ} → m ≡ leAt s (at + 6) 2 → n ≡ leAt s (at + 8) 8 → v ≡ ofNat n → r ≡ leAt s (at + 24) 8 → k ≡ ofNat r → b ≡ leAt s (at + 16) 8 → a ≡ leAt s (at + 40) 8 → l ≡ leAt s (at + 48) 8
+pub num-read : (s : List ℕ) (at : ℕ) {v k : Float} {m n b r a l : ℕ} → m ≡ leAt s (at + mapAt) 2 → n ≡ leAt s (at + valueAt) 8 → v ≡ ofNat n → r ≡ leAt s (at + multAt) 8 → k ≡ ofNat r → b ≡ leAt s (at + baseAt) 8 → a ≡ leAt s (at + scriptAt) 8 → l ≡ leAt s (at + scriptLenAt) 8
     → _≡_ {A = PassData} (record {
       value = v;
       «base_multiplier» = k;
       base = b;
-      «has_value» = bit m 2;
-      «has_base» = bit m 8;
-      «has_mult» = bit m 16;
-      «has_script» = bit m 32;
-      «large_power» = bit m 64;
-      digit = bit m 256;
-      gap = bit m 512;
-      cjk = bit m 1024;
+      «has_value» = bit m valueBit;
+      «has_base» = bit m baseBit;
+      «has_mult» = bit m multBit;
+      «has_script» = bit m scriptBit;
+      «large_power» = bit m largePowerBit;
+      digit = bit m digitBit;
+      gap = bit m gapBit;
+      cjk = bit m cjkBit;
       script = record { 0 = a };
       «script_len» = l;
     }) (numData (storedAt s at))
 num-read s at em en ev er ek eb ea el = rw (storedAt-fields s at, ev, ek, em, en, er, eb, ea, el)
 
-pub edge-read : (s : List ℕ) (at : ℕ) {a e k r : ℕ} {n : PassData} → a ≡ leAt s at 2 → e ≡ leAt s (at + 2) 2 → k ≡ leAt s (at + 4) 2 → r ≡ leAt s (at + 32) 8 → n ≡ numData (storedAt s at)
+pub edge-read : (s : List ℕ) (at : ℕ) {a e k r : ℕ} {n : PassData} → a ≡ leAt s at 2 → e ≡ leAt s (at + endAt) 2 → k ≡ leAt s (at + kindAt) 2 → r ≡ leAt s (at + recordAt) 8 → n ≡ numData (storedAt s at)
     → _≡_ {A = PassEdge} (record { start = record { 0 = a }; end = record { 0 = e }; kind = k; «record_at» = record { 0 = r }; num = n }) (passEdge (storedAt s at))
 edge-read s at ea ee ek er en = rw (en, storedAt-fields s at, ea, ee, ek, er)
 
@@ -77,9 +78,9 @@ storedAt-fits s at bytes small =
     (record {
       small = small-at s at small;
       start = leAt-lt s at 2 bytes;
-      end = leAt-lt s (at + 2) 2 bytes;
-      kind = leAt-lt s (at + 4) 2 bytes;
-      record-at = leAt-lt s (at + 32) 8 bytes;
-      script-at = leAt-lt s (at + 40) 8 bytes;
-      script-len = leAt-lt s (at + 48) 8 bytes;
+      end = leAt-lt s (at + endAt) 2 bytes;
+      kind = leAt-lt s (at + kindAt) 2 bytes;
+      record-at = leAt-lt s (at + recordAt) 8 bytes;
+      script-at = leAt-lt s (at + scriptAt) 8 bytes;
+      script-len = leAt-lt s (at + scriptLenAt) 8 bytes;
     })

@@ -6,15 +6,16 @@ use mathlib.Core.Path.{_≡_}
 use lib.ListN.{length, take, length-set}
 use lib.Seq.{sets}
 use Rattle.fields.specs.Part.{part}
+use Rattle.pass_list.specs.Layout.{SIZE}
 use Rattle.pass_run.proofs.RunLaws.{moved-turn, moved-ends}
 use Rattle.pass_run.proofs.copy_record.Statement.{statement}
 use Rattle.pass_run.proofs.copy_record.Tie as tie
 
 abbrev Inv-loop : tie.InvT-loop
-Inv-loop list₀ to from j₀ list j = (j ≤ 56) × (length list ≡ length list₀) × (list ≡ sets list₀ to (take j (part list₀ from 56)))
+Inv-loop list₀ to from j₀ list j = (j ≤ SIZE) × (length list ≡ length list₀) × (list ≡ sets list₀ to (take j (part list₀ from SIZE)))
 
 abbrev μ-loop : tie.MeasureT-loop
-μ-loop list₀ to from j₀ list j = 56 - j
+μ-loop list₀ to from j₀ list j = SIZE - j
 
 loop-holds : tie.Need-loop-holds Inv-loop μ-loop
 loop-holds c = search needs

@@ -10,6 +10,7 @@ use borrow.Rule.Slice.PartMut.{postOf, putMid}
 use Rattle.passes.specs.Passes.{Pass}
 use Rattle.pass_list.specs.declared.run.PassAnswer.{PassAnswer}
 use Rattle.pass_list.specs.StoredEdge.{AllSmall}
+use Rattle.pass_list.specs.Layout.{SIZE}
 use Rattle.pass_list.specs.Stored.{storedListAt}
 use Rattle.pass_list.specs.Answers.{PassedIs}
 
@@ -18,8 +19,8 @@ module _ (a : ℕ) (w : List ℕ) where
   lent-behind : take (length w - a) (drop a w) ≡ drop a w
   lent-behind = take-all (length w - a) (drop a w) (let l = length-drop a w in omega arith)
 
-  pub asked-behind : (n : ℕ) → a + n * 56 ≤ length w → AllSmall (storedListAt (drop a w) 0 n)
-      → (n * 56 ≤ length (take (length w - a) (drop a w))) × AllSmall (storedListAt (take (length w - a) (drop a w)) 0 n)
+  pub asked-behind : (n : ℕ) → a + n * SIZE ≤ length w → AllSmall (storedListAt (drop a w) 0 n)
+      → (n * SIZE ≤ length (take (length w - a) (drop a w))) × AllSmall (storedListAt (take (length w - a) (drop a w)) 0 n)
   asked-behind n h q = rw lent-behind (let l = length-drop a w in omega arith, q)
 
   back-behind : (ys : List ℕ) → a ≤ length w → drop a (putMid a (length w - a) w ys) ≡ ys

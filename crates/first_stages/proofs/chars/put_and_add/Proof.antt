@@ -6,6 +6,7 @@ use native.Mathlib.Omega.{arith}
 use lib.Seq.{sets}
 use Rattle.pass_list.specs.declared.record.PassEdge.{PassEdge}
 use Rattle.pass_list.specs.StoredEdge.{StoredEdge}
+use Rattle.pass_list.specs.Layout.{SIZE}
 use Rattle.pass_list.specs.Stored.{recordBytes}
 use Rattle.pass_edge.specs.Grounded.{StoredIs}
 use Rattle.characters.specs.CharStored.{charStored}
@@ -27,7 +28,7 @@ is e = record { is = e .char-edge .ensures; sound = start e .pre .4 }
 abbrev edge : tie.After-write-edge → tie.After-char-edge
 edge c = c .before .before
 
-stored : (c : tie.After-write-edge) → let a = start (edge c) .args in c .write-edge .last .0 ≡ sets (a .w .now) (END + a .n * 56) (recordBytes (stored-edge (edge c)))
+stored : (c : tie.After-write-edge) → let a = start (edge c) .args in c .write-edge .last .0 ≡ sets (a .w .now) (END + a .n * SIZE) (recordBytes (stored-edge (edge c)))
 stored c = c .write-edge .ensures (stored-edge (edge c)) (edge c .char-edge .ensures)
 
 char-edge-requires : tie.Need-char-edge-requires

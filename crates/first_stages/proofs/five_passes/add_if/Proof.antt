@@ -6,6 +6,7 @@ use lib.ListN.{drop}
 use Rattle.text.specs.Text.{chars}
 use Rattle.pass_list.specs.declared.record.PassEdge.{PassEdge}
 use Rattle.pass_list.specs.StoredEdge.{StoredEdge, Small}
+use Rattle.pass_list.specs.Layout.{SIZE}
 use Rattle.pass_list.specs.Stored.{storedAt}
 use Rattle.lattice.specs.Kept.{Holds, END}
 use Rattle.pass_edge.specs.Grounded.{StoredIs}
@@ -17,17 +18,17 @@ abbrev start : tie.After-u16-at → tie.Start
 start c = c .before .before .before .before .before
 
 abbrev stored-edge : tie.After-u16-at → StoredEdge
-stored-edge c = storedAt (drop END (start c .args .w .now)) (start c .args .i * 56)
+stored-edge c = storedAt (drop END (start c .args .w .now)) (start c .args .i * SIZE)
 
 kind : (c : tie.After-u16-at) → c .u16-at .result ≡ stored-edge c .kind
-kind c = c .u16-at .ensures ∙ kind-behind (start c .args .w .now) (start c .args .i * 56)
+kind c = c .u16-at .ensures ∙ kind-behind (start c .args .w .now) (start c .args .i * SIZE)
 
 -- the stored edge, as it is decoded
 abbrev at-kind : tie.After-read-edge → tie.After-u16-at
 at-kind c = c .before .before .before
 
 is : (c : tie.After-read-edge) → let s = start (at-kind c) in StoredIs (s .args .line .now) (s .args .table .now) (c .read-edge .result) (stored-edge (at-kind c))
-is c = let s = start (at-kind c) in let a = s .args in stored-edge-behind (a .line .now) (a .table .now) (a .w .now) (a .i * 56) (c .read-edge .result) (s .pre .3) (c .read-edge .ensures)
+is c = let s = start (at-kind c) in let a = s .args in stored-edge-behind (a .line .now) (a .table .now) (a .w .now) (a .i * SIZE) (c .read-edge .result) (s .pre .3) (c .read-edge .ensures)
 
 mul-at : tie.Need-mul-at
 mul-at c = omega (arith, c .before .before .before .pre .4)
@@ -53,7 +54,7 @@ returns c =
 read-edge-requires : tie.Need-read-edge-requires
 read-edge-requires c κs =
     let s = start (c .before .before) in
-    (s .pre .4, subst Small (sym (stored-edge-behind-is (s .args .w .now) (s .args .i * 56))) (s .pre .3 .small))
+    (s .pre .4, subst Small (sym (stored-edge-behind-is (s .args .w .now) (s .args .i * SIZE))) (s .pre .3 .small))
 
 add-joined-requires : tie.Need-add-joined-requires
 add-joined-requires c κs =

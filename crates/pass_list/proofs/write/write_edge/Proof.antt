@@ -38,9 +38,6 @@ map-of-requires c κs = search needs
 put-u16-requires-4 : tie.Need-put-u16-requires-4
 put-u16-requires-4 c κs = search needs
 
-add-put-num : tie.Need-add-put-num
-add-put-num c = search needs
-
 put-num-requires : tie.Need-put-num-requires
 put-num-requires c κs = let y = c .before .before .before .before .before .before .before .before .before .before .before .before .before .before .before .before .before .before .before .before .before .pre .1 in (search needs, (y .0, record { is = ap (λ (e : PassEdge). e .num) (y .1 .is); fits = y .1 .fits }))
 
@@ -66,7 +63,6 @@ write-edge-spec =
     add-put-u16-3
     map-of-requires
     put-u16-requires-4
-    add-put-num
     put-num-requires
     same-length
     returns)
