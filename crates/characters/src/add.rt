@@ -6,6 +6,7 @@ ghost use Rattle.pass_edge.specs.Adding.{Addable, Added};
 use lattice::Lattice;
 use pass_edge::Fraction;
 use pass_list::record::PassEdge;
+use table::bits;
 use table::record::known::record_here;
 
 // Its fraction. Only a record that has one is read whole.
@@ -13,7 +14,7 @@ fn fraction_at(table: &[u8], at: usize) -> Fraction
     requires { ⌜ LegalAt (now table) at ⌝ }
     ensures { λ r. ⌜ FractionIs r (storedFraction (now (table .entry)) 0 at) ⌝ }
 {
-    if table[at + 4] / 4 % 2 == 1 {
+    if table[at + 4] / bits::FRACTION % 2 == 1 {
         return crate::fraction::fraction_of(record_here(table, at));
     }
     Fraction {
@@ -38,7 +39,7 @@ pub fn add_char(
     let at = x.record_at.0;
     let f = fraction_at(table, at);
     let ty = pass_edge::type_at(table, at);
-    if table[at + 4] / 1 % 2 == 1 {
+    if table[at + 4] / bits::ROM % 2 == 1 {
         let rom = pass_edge::rom_at(table, at);
         return pass_edge::listed::add_texts(w, l, line, offs, table, x, f, ty, rom);
     }

@@ -3,6 +3,7 @@ ghost use mathlib.Core.Path.{_≡_};
 ghost use Prim.Native.Nat.{_/_, _%_, _<_};
 ghost use Rattle.pass_edge.specs.Fields.{recordFraction, FractionIs};
 use pass_edge::Fraction;
+use table::bits;
 use table::layout::NumProp;
 
 // The fraction of a record, in lowest terms.
@@ -10,7 +11,7 @@ pub fn fraction_of(p: NumProp) -> Fraction
     requires { ⌜ (p .map / 4 % 2 ≡ 1 → 0 < p .numbers .denominator) ⌝ }
     ensures { λ r. ⌜ FractionIs r (recordFraction p) ⌝ }
 {
-    if p.map / 4 % 2 == 1 {
+    if p.map / bits::FRACTION % 2 == 1 {
         let r = passes::ratio::lowest(p.numbers.numerator, p.numbers.denominator);
         return Fraction {
             there: true,

@@ -11,6 +11,7 @@ ghost use Rattle.pass_list.specs.StoredEdge.{numData, Small, EdgeIs};
 ghost use Rattle.characters.specs.CharStored.{numberIf, charStored};
 use pass_list::record::PassData;
 use pass_list::record::PassEdge;
+use table::bits;
 use table::digit::is_digit_type;
 use table::layout::NumProp;
 use table::layout::Part;
@@ -40,10 +41,10 @@ fn char_num(table: &[u8], p: NumProp, record_at: Offset, place: Place, c: u32) -
     let n = p.numbers;
     let num_type = p.num_type;
     let script = p.script;
-    let has_value = p.map / 2 % 2 == 1;
-    let has_base = p.map / 8 % 2 == 1;
-    let has_mult = p.map / 16 % 2 == 1;
-    let has_script = p.map / 32 % 2 == 1;
+    let has_value = p.map / bits::VALUE % 2 == 1;
+    let has_base = p.map / bits::BASE % 2 == 1;
+    let has_mult = p.map / bits::MULT % 2 == 1;
+    let has_script = p.map / bits::SCRIPT % 2 == 1;
     let value = number_if(has_value, n.value);
     PassData {
         value: whole::exact_f64(value),
@@ -53,7 +54,7 @@ fn char_num(table: &[u8], p: NumProp, record_at: Offset, place: Place, c: u32) -
         has_base: has_base,
         has_mult: has_mult,
         has_script: has_script,
-        large_power: p.map / 64 % 2 == 1,
+        large_power: p.map / bits::LARGE_POWER % 2 == 1,
         digit: is_digit_type(table, num_type) & has_value & (value <= 9),
         gap: (c == 0x96F6) | (c == 0x3007),
         cjk: has_script & is_cjk(table, script),

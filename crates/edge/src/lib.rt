@@ -1,5 +1,6 @@
 // Edges in their listing (01, "Listing"; the Rust's edge.rs): what is read of them and written, and the bits of a map. The modules read whatever stands there;
 // `edge_check` refuses, `edge_write` writes.
+pub mod bits; // bits.rt: the bits of an edge's map
 pub mod head; // head.rt: the head of an edge
 pub mod next; // next.rt: where the next edge begins
 pub mod numeric; // numeric.rt: the fields of a numeric edge
@@ -80,5 +81,5 @@ pub fn script_at(map: u16, v: usize) -> usize
     requires { ⌜ v ≤ 10000000000000000000 ⌝ }
     ensures { λ r. ⌜ (r ≡ scriptAt map v) × (r ≤ v + 40) ⌝ }
 {
-    v + 8 * ((map / 2 % 2) + 2 * (map / 4 % 2) + (map / 8 % 2) + (map / 16 % 2)) as usize
+    v + 8 * ((map / bits::VALUE % 2) + 2 * (map / bits::FRACTION % 2) + (map / bits::BASE % 2) + (map / bits::MULT % 2)) as usize
 }

@@ -6,6 +6,7 @@ ghost use lib.ListN.{length};
 ghost use lib.Dec.{eqb};
 ghost use Rattle.fields.specs.Fields.{leAt};
 ghost use Rattle.edge.specs.Layout.{stringEnd, fieldsEnd, nextAt};
+use crate::bits;
 
 // The u16 at an offset; bytes past the end count as 0.
 fn u16_or_zero(s: &[u8], at: usize) -> u16
@@ -46,8 +47,8 @@ fn fields_end(map: u16, s: &[u8], at: usize) -> usize
     ensures { λ r. ⌜ r ≡ fieldsEnd map (now (s .entry)) at ⌝ }
 {
     let script = crate::script_at(map, string_end(s, at));
-    let value_s = string_end_if(map, 32, s, script);
-    string_end_if(map, 256, s, value_s)
+    let value_s = string_end_if(map, bits::SCRIPT, s, script);
+    string_end_if(map, bits::VALUE_S, s, value_s)
 }
 
 // Behind the edge at an offset: past the end where it is cut off.
@@ -57,7 +58,7 @@ pub fn next_at(s: &[u8], at: usize) -> usize
 {
     let map = u16_or_zero(s, at);
     let fields = string_end(s, string_end(s, at + 6));
-    if crate::bit(map, 1) {
+    if crate::bit(map, bits::NUMERIC) {
         fields_end(map, s, fields)
     } else {
         fields

@@ -9,6 +9,7 @@ ghost use Rattle.edge.specs.Layout.{fieldsEnd};
 ghost use Rattle.edge.specs.View.{partAt, noPart, fieldsAt};
 use crate::NumFields;
 use crate::Part;
+use crate::bits;
 
 // A number that is there only if a bit stands.
 fn u64_if(map: u16, p: u16, s: &[u8], at: usize) -> u64
@@ -52,24 +53,24 @@ pub fn fields_at(map: u16, s: &[u8], at: usize) -> NumFields
 {
     let orig = text_at(s, at);
     let value = orig.at + orig.len;
-    let fraction = value + 8 * (map / 2 % 2) as usize;
-    let base = fraction + 16 * (map / 4 % 2) as usize;
-    let multiplier = base + 8 * (map / 8 % 2) as usize;
-    let script_at = multiplier + 8 * (map / 16 % 2) as usize;
-    let script = text_if(map, 32, s, script_at);
+    let fraction = value + 8 * (map / bits::VALUE % 2) as usize;
+    let base = fraction + 16 * (map / bits::FRACTION % 2) as usize;
+    let multiplier = base + 8 * (map / bits::BASE % 2) as usize;
+    let script_at = multiplier + 8 * (map / bits::MULT % 2) as usize;
+    let script = text_if(map, bits::SCRIPT, s, script_at);
     let value_s = text_if(
         map,
-        256,
+        bits::VALUE_S,
         s,
-        script_at + 2 * (map / 32 % 2) as usize + script.len,
+        script_at + 2 * (map / bits::SCRIPT % 2) as usize + script.len,
     );
     NumFields {
         map,
-        value: u64_if(map, 2, s, value),
-        numerator: u64_if(map, 4, s, fraction),
-        denominator: u64_if(map, 4, s, fraction + 8),
-        base: u64_if(map, 8, s, base),
-        base_multiplier: u64_if(map, 16, s, multiplier),
+        value: u64_if(map, bits::VALUE, s, value),
+        numerator: u64_if(map, bits::FRACTION, s, fraction),
+        denominator: u64_if(map, bits::FRACTION, s, fraction + 8),
+        base: u64_if(map, bits::BASE, s, base),
+        base_multiplier: u64_if(map, bits::MULT, s, multiplier),
         orig,
         script,
         value_s,

@@ -10,6 +10,7 @@ ghost use Rattle.edge.specs.Check.{allowed, each, soundNumeric, sound, good};
 ghost use Rattle.edge.specs.View.{textOf, numbersSound, fieldsSound, Inside};
 use edge::NumFields;
 use edge::Part;
+use edge::bits;
 
 // The largest number of a listing.
 const TOP: u64 = 9007199254740991;
@@ -21,7 +22,7 @@ fn allowed(given: bool, map: u16) -> bool
     if given {
         return map == 0;
     }
-    if edge::bit(map, 1) {
+    if edge::bit(map, bits::NUMERIC) {
         map < 512
     } else {
         map == 0
@@ -53,7 +54,7 @@ fn numbers_sound(d: NumFields) -> bool
     ensures { λ r. ⌜ r ≡ numbersSound d ⌝ }
 {
     let fraction = (d.numerator <= TOP) & (d.denominator <= TOP) & (0 < d.denominator);
-    (!edge::bit(d.map, 4) | fraction) & (!edge::bit(d.map, 8) | (d.base <= TOP))
+    (!edge::bit(d.map, bits::FRACTION) | fraction) & (!edge::bit(d.map, bits::BASE) | (d.base <= TOP))
 }
 
 // Whether the fields of a numeric edge may stand.
@@ -62,8 +63,8 @@ fn fields_sound(s: &[u8], d: NumFields) -> bool
     ensures { λ r. ⌜ r ≡ fieldsSound (now (s .entry)) d ⌝ }
 {
     let orig = text_sound(s, d.orig);
-    let script = text_sound_if(d.map, 32, s, d.script);
-    let value_s = text_sound_if(d.map, 256, s, d.value_s);
+    let script = text_sound_if(d.map, bits::SCRIPT, s, d.script);
+    let value_s = text_sound_if(d.map, bits::VALUE_S, s, d.value_s);
     numbers_sound(d) & orig & script & value_s
 }
 
@@ -72,7 +73,7 @@ fn fields_sound_at(map: u16, s: &[u8], at: usize) -> bool
     requires { ⌜ (stands 0 map ≡ true → fieldsEnd map (now s) at ≤ length (now s)) ⌝ }
     ensures { λ r. ⌜ r ≡ each soundNumeric (only (stands 0 map) (numericAt map (now (s .entry)) at)) ⌝ }
 {
-    if edge::bit(map, 1) {
+    if edge::bit(map, bits::NUMERIC) {
         fields_sound(s, edge::numeric::fields_at(map, s, at))
     } else {
         true

@@ -12,6 +12,7 @@ ghost use Rattle.edge.specs.View.{numericOf, textOf};
 use edge::NumFields;
 use edge::Part;
 use edge::Written;
+use edge::bits;
 use text::Place;
 
 // A string that is a part of a slice.
@@ -57,11 +58,11 @@ fn put_numbers(out: &mut [u8], at: usize, d: NumFields) -> usize
     ensures { λ r. ⌜ (r ≡ scriptAt (d .map) at) × Put (now (out .entry)) (now (out .exit)) at r (numbersBytes d) ⌝ }
 {
     let map = d.map;
-    let numerator = put_u64_if(map, 2, out, at, d.value);
-    let denominator = put_u64_if(map, 4, out, numerator, d.numerator);
-    let base = put_u64_if(map, 4, out, denominator, d.denominator);
-    let multiplier = put_u64_if(map, 8, out, base, d.base);
-    put_u64_if(map, 16, out, multiplier, d.base_multiplier)
+    let numerator = put_u64_if(map, bits::VALUE, out, at, d.value);
+    let denominator = put_u64_if(map, bits::FRACTION, out, numerator, d.numerator);
+    let base = put_u64_if(map, bits::FRACTION, out, denominator, d.denominator);
+    let multiplier = put_u64_if(map, bits::BASE, out, base, d.base);
+    put_u64_if(map, bits::MULT, out, multiplier, d.base_multiplier)
 }
 
 // The fields of a numeric edge, their texts in three slices.
@@ -71,8 +72,8 @@ fn put_fields(out: &mut [u8], at: usize, d: NumFields, o: &[u8], c: &[u8], v: &[
 {
     let value = put_part(out, at, o, d.orig);
     let script = put_numbers(out, value, d);
-    let value_s = put_part_if(d.map, 32, out, script, c, d.script);
-    put_part_if(d.map, 256, out, value_s, v, d.value_s)
+    let value_s = put_part_if(d.map, bits::SCRIPT, out, script, c, d.script);
+    put_part_if(d.map, bits::VALUE_S, out, value_s, v, d.value_s)
 }
 
 // Behind a text that is there only if a bit stands.
@@ -89,8 +90,8 @@ fn fields_past(d: NumFields, at: usize) -> usize
     ensures { λ r. ⌜ r ≡ fieldsPast d at ⌝ }
 {
     let script = edge::script_at(d.map, at + 2 + d.orig.len);
-    let value_s = text_past_if(d.map, 32, d.script.len, script);
-    text_past_if(d.map, 256, d.value_s.len, value_s)
+    let value_s = text_past_if(d.map, bits::SCRIPT, d.script.len, script);
+    text_past_if(d.map, bits::VALUE_S, d.value_s.len, value_s)
 }
 
 // Writes a numeric edge. The texts of its fields are parts of o (orig_txt), c (script) and v (value_s).

@@ -12,6 +12,7 @@ ghost use Rattle.markers.specs.Marks.{markerOf};
 ghost use Rattle.fraction_choices.specs.Choice.{outcomeOf, Valid, codeOf, formOf};
 ghost use Rattle.fraction_choices.specs.Around.{HoldsLine, HoldsNeighbors};
 ghost use Rattle.fraction_choices.specs.Decision.{sizeOf, choice, optionOf, WholeValued, otherwiseOf, bothOf, withValuesOf, betweenOf};
+use edge::bits;
 use lattice::Lattice;
 use markers::Marker;
 use text::Place;
@@ -75,10 +76,10 @@ fn whole_value_at(w: &[u8], at: usize) -> WholeValue
     ensures { λ r. ⌜ optionOf r ≡ wholeValue (edgeAt (now (w .entry)) at) ⌝ }
 {
     let e = edge::head::edge_at(w, at);
-    if !edge::bit(e.map, 1) {
+    if !edge::bit(e.map, bits::NUMERIC) {
         return WholeValue::Nothing;
     }
-    if !edge::bit(e.map, 2) {
+    if !edge::bit(e.map, bits::VALUE) {
         return WholeValue::Nothing;
     }
     let d = edge::numeric::fields_at(e.map, w, e.fields);
@@ -100,7 +101,7 @@ fn is_numeric(w: &[u8], l: Lattice, i: usize) -> bool
     ensures { λ r. ⌜ ((es : List Edge) → HoldsLine (now (w .entry)) l es → r ≡ isNumeric (getD es i noEdge)) ⌝ }
 {
     let at = lattice::offset_at(w, l, i);
-    edge::bit(fields::u16_at(w, at), 1)
+    edge::bit(fields::u16_at(w, at), bits::NUMERIC)
 }
 
 // "Otherwise a percentage marker with a numeric right neighbour": right is one more than its index, 0 for none.

@@ -15,7 +15,7 @@ use lattice::Lattice;
 // Two edges turn inactive.
 fn turn_off_both(w: &mut [u8], l: Lattice, left: usize, right: usize)
     requires { ⌜ ((es : List Edge) × Holds (now w) l es) × (l .len ≡ 0 → ⊥) × (left < l .count) × (right < l .count) ⌝ }
-    ensures { λ _. ⌜ (drop 39424 (now (w .exit)) ≡ drop 39424 (now (w .entry))) × ((es : List Edge) → Holds (now (w .entry)) l es → Holds (now (w .exit)) l (turnOffAt (turnOffAt es left) right)) ⌝ }
+    ensures { λ _. ⌜ SameBehind (now (w .entry)) (now (w .exit)) × ((es : List Edge) → Holds (now (w .entry)) l es → Holds (now (w .exit)) l (turnOffAt (turnOffAt es left) right)) ⌝ }
 {
     lattice::turn_off(w, l, left);
     lattice::turn_off(w, l, right);

@@ -15,6 +15,7 @@ ghost use Rattle.fractions.specs.MadeParts.{HeadIs, scriptFrom, scriptLe
 use edge::EdgeView;
 use edge::NumFields;
 use edge::Part;
+use edge::bits;
 use lattice::Lattice;
 use passes::ratio::Ratio;
 use text::Place;
@@ -33,7 +34,7 @@ pub fn copy_script(buf: &mut [u8; 300], w: &[u8], map: u16, at: usize) -> Script
     ensures { λ r. ⌜ (scriptFrom (now (buf .exit)) r ≡ numericAt map (now (w .entry)) at .script) × (scriptLen r ≤ 60) ⌝ }
 {
     let d = edge::numeric::fields_at(map, w, at);
-    if !edge::bit(map, 32) {
+    if !edge::bit(map, bits::SCRIPT) {
         return Script::Absent;
     }
     let from = d.script.at;

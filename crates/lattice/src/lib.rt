@@ -11,6 +11,7 @@ ghost use Prim.Native.Nat.{_<_};
 ghost use Rattle.edge.specs.Edge.{Edge};
 ghost use Rattle.lattice.specs.Lattice.{turnOffAt};
 ghost use Rattle.lattice.specs.Kept.{offset, inactiveMap, Holds, SameBehind};
+use edge::bits;
 
 // The layout of the work space: where the offset of each edge, the last earlier edge of its bucket, and the last edge of each bucket stand (edges count
 // from 1 there), and where the lattice ends.
@@ -53,7 +54,7 @@ pub fn offset_at(w: &[u8], l: Lattice, i: usize) -> usize
 fn inactive_map(map: u16) -> u16
     ensures { λ r. ⌜ r ≡ inactiveMap map ⌝ }
 {
-    if edge::bit(map, 128) { map - 128 } else { map }
+    if edge::bit(map, bits::ACTIVE) { map - bits::ACTIVE } else { map }
 }
 
 // The i-th edge turns inactive.

@@ -13,6 +13,7 @@ ghost use Rattle.paths.specs.Reading.{Spanned};
 ghost use Rattle.numbers.specs.CallEdge.{Legals};
 ghost use Rattle.numbers.specs.Marks.{anyAt};
 ghost use Rattle.marks.specs.Marked.{onePlace, asks, placeBy};
+use edge::bits;
 use lattice::Lattice;
 
 // Which edges set a mark: those whose txt ends with a digit, at their end; numeric ones of one place, at their start.
@@ -45,7 +46,7 @@ fn mark_place(s: &[u8], at: usize, marks: &mut [bool; 257])
     let map = fields::u16_at(s, at);
     let start = fields::u16_at(s, at + 2) as usize;
     let end = fields::u16_at(s, at + 4) as usize;
-    if edge::bit(map, 1) & (end == start + 1) {
+    if edge::bit(map, bits::NUMERIC) & (end == start + 1) {
         marks[start] = true;
     }
 }

@@ -17,6 +17,7 @@ use crate::Fraction;
 use edge::NumData;
 use edge::NumFields;
 use edge::Part;
+use edge::bits;
 use lattice::Lattice;
 use pass_list::record::PassEdge;
 
@@ -31,14 +32,15 @@ fn bit_if(b: bool, of: u16) -> u16
 fn map_of(x: PassEdge, fraction: bool) -> u16
     ensures { λ r. ⌜ r ≡ storedMap x fraction ⌝ }
 {
-    129
-        + bit_if(x.num.has_value, 2)
-        + bit_if(fraction, 4)
-        + bit_if(x.num.has_base, 8)
-        + bit_if(x.num.has_mult, 16)
-        + bit_if(x.num.has_script, 32)
-        + bit_if(x.num.large_power, 64)
-        + bit_if(x.kind == 1, 256)
+    bits::NUMERIC
+        + bits::ACTIVE
+        + bit_if(x.num.has_value, bits::VALUE)
+        + bit_if(fraction, bits::FRACTION)
+        + bit_if(x.num.has_base, bits::BASE)
+        + bit_if(x.num.has_mult, bits::MULT)
+        + bit_if(x.num.has_script, bits::SCRIPT)
+        + bit_if(x.num.large_power, bits::LARGE_POWER)
+        + bit_if(x.kind == 1, bits::VALUE_S)
 }
 
 // A part that is there, or none.

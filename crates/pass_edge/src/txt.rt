@@ -8,6 +8,7 @@ ghost use Rattle.numbers.specs.Ready.{Offsets};
 ghost use Rattle.pass_edge.specs.Grounded.{LegalAt, StoredIs};
 ghost use Rattle.pass_edge.specs.Texts.{charTxt, Front};
 use pass_list::record::PassEdge;
+use table::bits;
 use text::Place;
 
 // The txt of a character whose record was checked: rom, or else the character.
@@ -23,7 +24,7 @@ fn char_txt(
     requires { ⌜ Offsets (now line) (now offs) × (start .0 ≤ end .0) × (end .0 ≤ length (chars (now line))) × (length (chars (now line)) ≤ 256) × (length (charTxt (chars (now line)) (now table) at (start .0) (end .0)) ≤ length (now buf)) × LegalAt (now table) at ⌝ }
     ensures { λ r. ⌜ Front (now (buf .entry)) (now (buf .exit)) r (charTxt (chars (now (line .entry))) (now (table .entry)) at (start .0) (end .0)) ⌝ }
 {
-    if table[at + 4] / 1 % 2 == 1 {
+    if table[at + 4] / bits::ROM % 2 == 1 {
         return crate::put_text(buf, crate::rom_at(table, at));
     }
     crate::put_text(buf, crate::line_part(line, offs, start, end))

@@ -7,6 +7,7 @@ ghost use Rattle.edge.specs.View.{textOf};
 ghost use Rattle.paths.specs.Best.{startsWith, regularClass, class, asked, score};
 use crate::Query;
 use edge::Part;
+use edge::bits;
 use text::Place;
 
 // Whether a text of s begins with a prefix.
@@ -45,13 +46,13 @@ fn class_at(s: &[u8], at: usize, skip: bool) -> usize
     ensures { λ r. ⌜ r ≡ class skip (edgeAt (now (s .entry)) at) ⌝ }
 {
     let e = edge::head::edge_at(s, at);
-    if !edge::bit(e.map, 1) {
+    if !edge::bit(e.map, bits::NUMERIC) {
         return regular_class(s, e.ty);
     }
     if skip {
         return 0;
     }
-    if edge::bit(e.map, 128) { 5 } else { 1 }
+    if edge::bit(e.map, bits::ACTIVE) { 5 } else { 1 }
 }
 
 // Whether an edge from start to end is one of those asked for.

@@ -15,6 +15,7 @@ ghost use Rattle.record_check.specs.Step.{StepIs};
 use crate::code_point::legal_code_point;
 use crate::number::Look;
 use crate::number_fields::numbers_look;
+use table::bits;
 use table::digit::legal_digit;
 use table::layout::Part;
 use table::layout::TextAt;
@@ -45,10 +46,10 @@ fn legal_texts(s: &[u8], map: u8, kind: Part, rom: Part, script: Part) -> bool
     if !crate::texts::well_formed(s, kind) {
         return false;
     }
-    if !well_formed_if(s, rom, map / 1 % 2 == 1) {
+    if !well_formed_if(s, rom, map / bits::ROM % 2 == 1) {
         return false;
     }
-    well_formed_if(s, script, map / 32 % 2 == 1)
+    well_formed_if(s, script, map / bits::SCRIPT % 2 == 1)
 }
 
 // What the fields hold beside code point and numbers, where those are legal: the digit rule, whose value stands at an offset, and the strings.
@@ -85,13 +86,13 @@ fn fields_look(s: &[u8], code: u32, map: u8, at: usize, least: u64) -> Look
     let TextAt::Text(kind, rom_at) = text_at(s, at) else {
         return Look::Fault;
     };
-    let TextAt::Text(rom, value_at) = opt_text_at(s, rom_at, map / 1 % 2 == 1) else {
+    let TextAt::Text(rom, value_at) = opt_text_at(s, rom_at, map / bits::ROM % 2 == 1) else {
         return Look::Fault;
     };
     let Look::Field(numbers, script_at) = numbers_look(s, map, value_at) else {
         return Look::Fault;
     };
-    let TextAt::Text(script, next) = opt_text_at(s, script_at, map / 32 % 2 == 1) else {
+    let TextAt::Text(script, next) = opt_text_at(s, script_at, map / bits::SCRIPT % 2 == 1) else {
         return Look::Fault;
     };
     let head = numbers & legal_code_point(code, least);

@@ -14,6 +14,7 @@ ghost use Rattle.rows.specs.Rows.{rowBytes, viewMark, viewRow};
 use edge::EdgeView;
 use edge::Part;
 use edge::Written;
+use edge::bits;
 
 // A part of a slice and the byte that ends it.
 fn put_part(out: &mut [u8], at: usize, s: &[u8], t: Part, by: u8) -> usize
@@ -29,10 +30,10 @@ fn put_part(out: &mut [u8], at: usize, s: &[u8], t: Part, by: u8) -> usize
 fn mark(map: u16) -> u8
     ensures { λ r. ⌜ r ≡ viewMark map ⌝ }
 {
-    if !edge::bit(map, 1) {
+    if !edge::bit(map, bits::NUMERIC) {
         return b'-';
     }
-    if edge::bit(map, 128) { b'1' } else { b'0' }
+    if edge::bit(map, bits::ACTIVE) { b'1' } else { b'0' }
 }
 
 // The row of an edge, for which there is room.

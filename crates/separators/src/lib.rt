@@ -14,6 +14,7 @@ ghost use Rattle.lattice_add.specs.Copy.{Source};
 ghost use Rattle.numbers.specs.CallEdge.{CallEdge, CallEdges};
 ghost use Rattle.numbers.specs.Separators.{copyOf, separate};
 ghost use Rattle.separators.specs.Marks.{apartBy, setApart, allApart};
+use edge::bits;
 use lattice::Lattice;
 use marks::Asked;
 
@@ -28,7 +29,7 @@ fn is_apart(s: &[u8], at: usize, marks: &[bool; 257]) -> bool
     let from = txt.at;
     let to = from + txt.len;
     let place = start.0;
-    if !(edge::bit(e.map, 1) & marks[place]) {
+    if !(edge::bit(e.map, bits::NUMERIC) & marks[place]) {
         return false;
     }
     digits::ends::begins_with_digit(&s[from..to])
@@ -40,7 +41,7 @@ fn add_separated(w: &mut [u8], l: Lattice, at: usize, next: usize) -> Lattice
     ensures { λ r. ⌜ SameBehind (now (w .entry)) (now (w .exit)) × ((es : List Edge) (e : Edge) → Holds (now (w .entry)) l es → Source (now (w .entry)) (l .len) at next 2 e → Holds (now (w .exit)) r (add es (copyOf e))) ⌝ }
 {
     let map = fields::u16_at(w, at);
-    if edge::bit(map, 4) {
+    if edge::bit(map, bits::FRACTION) {
         return lattice_add::copy::add_copy(w, l, at, next, b" ");
     }
     lattice_add::copy::add_copy(w, l, at, next, b"\xC2\xB7")

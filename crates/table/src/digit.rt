@@ -8,6 +8,7 @@ ghost use Rattle.table.specs.Layout.{bit};
 ghost use Rattle.table.specs.Check.{isDigitType};
 ghost use Rattle.table.specs.Answers.{partOf, Within};
 ghost use Rattle.table.specs.Digit.{digitFine};
+use crate::bits;
 use crate::layout::Part;
 
 // Whether a part is "digit": its first four bytes are looked at as one number.
@@ -29,7 +30,7 @@ pub fn legal_digit(s: &[u8], map: u8, at: usize, kind: Part, rom: Part) -> bool
     requires within { ⌜ Within (now s) kind × Within (now s) rom ⌝ }
     ensures { λ r. ⌜ r ≡ digitFine map (leAt (now (s .entry)) at 8) (partOf (now (s .entry)) kind) (partOf (now (s .entry)) rom) ⌝ }
 {
-    if map / 2 % 2 != 1 {
+    if map / bits::VALUE % 2 != 1 {
         return true;
     }
     let value = fields::u64_at(s, at);
@@ -39,7 +40,7 @@ pub fn legal_digit(s: &[u8], map: u8, at: usize, kind: Part, rom: Part) -> bool
     if !is_digit_type(s, kind) {
         return true;
     }
-    if map / 1 % 2 != 1 {
+    if map / bits::ROM % 2 != 1 {
         return false;
     }
     if rom.len != 1 {

@@ -6,6 +6,7 @@ ghost use lib.ListN.{length};
 ghost use Rattle.table.specs.Layout.{Is, readNumbers, readRecord};
 ghost use Rattle.table.specs.Answers.{numberIf, numbersOf, recordOf, Inside};
 ghost use Rattle.table.specs.Walk.{partIf, Stands};
+use crate::bits;
 use crate::layout::NumProp;
 use crate::layout::Numbers;
 use crate::layout::Part;
@@ -39,18 +40,18 @@ fn numbers_here(s: &[u8], map: u8, at: usize) -> Numbers
     requires { ⌜ at + 8 * (map / 2 % 2 + 2 * (map / 4 % 2) + map / 8 % 2 + map / 16 % 2) ≤ length (now s) ⌝ }
     ensures { λ r. ⌜ Is (numbersOf map r) (r .next) ≡ readNumbers map (now (s .entry)) at ⌝ }
 {
-    let ratio = map / 4 % 2;
-    let numerator_at = at + 8 * (map / 2 % 2) as usize;
+    let ratio = map / bits::FRACTION % 2;
+    let numerator_at = at + 8 * (map / bits::VALUE % 2) as usize;
     let denominator_at = numerator_at + 8 * ratio as usize;
     let base_at = denominator_at + 8 * ratio as usize;
-    let mult_at = base_at + 8 * (map / 8 % 2) as usize;
+    let mult_at = base_at + 8 * (map / bits::BASE % 2) as usize;
     Numbers {
-        value: number_if(s, at, map / 2 % 2 == 1),
+        value: number_if(s, at, map / bits::VALUE % 2 == 1),
         numerator: number_if(s, numerator_at, ratio == 1),
         denominator: number_if(s, denominator_at, ratio == 1),
-        base: number_if(s, base_at, map / 8 % 2 == 1),
-        mult: number_if(s, mult_at, map / 16 % 2 == 1),
-        next: mult_at + 8 * (map / 16 % 2) as usize,
+        base: number_if(s, base_at, map / bits::BASE % 2 == 1),
+        mult: number_if(s, mult_at, map / bits::MULT % 2 == 1),
+        next: mult_at + 8 * (map / bits::MULT % 2) as usize,
     }
 }
 
@@ -62,10 +63,10 @@ pub fn record_here(s: &[u8], at: usize) -> NumProp
     let map = s[at + 4];
     let num_type = part_if(s, at + 5, true);
     let rom_at = num_type.at + num_type.len;
-    let rom = part_if(s, rom_at, map / 1 % 2 == 1);
-    let numbers = numbers_here(s, map, end_if(s, rom_at, map / 1 % 2 == 1));
+    let rom = part_if(s, rom_at, map / bits::ROM % 2 == 1);
+    let numbers = numbers_here(s, map, end_if(s, rom_at, map / bits::ROM % 2 == 1));
     let script_at = numbers.next;
-    let script = part_if(s, script_at, map / 32 % 2 == 1);
+    let script = part_if(s, script_at, map / bits::SCRIPT % 2 == 1);
     NumProp {
         code_point: fields::u32_at(s, at),
         map: map,
@@ -73,6 +74,6 @@ pub fn record_here(s: &[u8], at: usize) -> NumProp
         rom: rom,
         numbers: numbers,
         script: script,
-        next: end_if(s, script_at, map / 32 % 2 == 1),
+        next: end_if(s, script_at, map / bits::SCRIPT % 2 == 1),
     }
 }

@@ -4,6 +4,7 @@ ghost use mathlib.Core.Bool.{true};
 ghost use Prim.Native.Nat.{ℕ, _<_};
 ghost use lib.ListN.{length};
 ghost use Rattle.table.specs.Walk.{endIf, Stands};
+use crate::bits;
 
 // Behind a string that is there or absent.
 pub fn end_if(s: &[u8], at: usize, there: bool) -> usize
@@ -19,7 +20,7 @@ pub fn record_end(s: &[u8], at: usize) -> usize
 {
     let map = s[at + 4];
     let rom_at = end_if(s, at + 5, true);
-    let numbers_at = end_if(s, rom_at, map / 1 % 2 == 1);
-    let numbers = (map / 2 % 4 + map / 8 % 2 + map / 16 % 2) as usize;
-    end_if(s, numbers_at + 8 * numbers, map / 32 % 2 == 1)
+    let numbers_at = end_if(s, rom_at, map / bits::ROM % 2 == 1);
+    let numbers = (map / bits::VALUE % 4 + map / bits::BASE % 2 + map / bits::MULT % 2) as usize;
+    end_if(s, numbers_at + 8 * numbers, map / bits::SCRIPT % 2 == 1)
 }
