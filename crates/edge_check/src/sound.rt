@@ -11,9 +11,7 @@ ghost use Rattle.edge.specs.View.{textOf, numbersSound, fieldsSound, Inside};
 use edge::NumFields;
 use edge::Part;
 use edge::bits;
-
-// The largest number of a listing.
-const TOP: u64 = 9007199254740991;
+use whole::TOP;
 
 // Whether a map may stand.
 fn allowed(given: bool, map: u16) -> bool

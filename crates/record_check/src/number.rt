@@ -3,8 +3,7 @@ ghost use mathlib.Core.Path.{_≡_};
 ghost use Rattle.table.specs.Layout.{mapField, number, fraction, optional};
 ghost use Rattle.table.specs.Check.{allOf, legalRatio};
 ghost use Rattle.record_check.specs.Look.{lookField, fromLeast};
-
-const TOP: u64 = 9007199254740991;
+use whole::TOP;
 
 // What a look at a field gives: whether what it holds is legal, and the offset behind it; or that its layout is at fault.
 pub enum Look {

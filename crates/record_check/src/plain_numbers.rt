@@ -6,8 +6,7 @@ ghost use lib.ListN.{length, getD};
 ghost use lib.Dec.{leb, ltb, eqb};
 ghost use Rattle.fields.specs.Fields.{leAt};
 ghost use Rattle.record_check.specs.PlainContent.{Head, Digit, Numbers};
-
-const TOP: u64 = 9007199254740991;
+use whole::TOP;
 
 // The map says which fields there are, and the code point is not below the least.
 fn map_fits(map: u8, least: u64, code: u32) -> bool

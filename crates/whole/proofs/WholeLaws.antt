@@ -124,11 +124,6 @@ ofNat-lt {m} n h = go (decLt m n)
         ∙ sym (lt-ltb m n l)
     go (no l) = is-false _ (not-lt _ _ m n (ofNat-value m (omega arith)) (ofNat-value n (omega arith)) (omega arith)) ∙ sym (le-ltb m n (omega arith))
 
--- TOP as the source writes it
-pub ofNat-top : ofBits binary64 0x433F_FFFF_FFFF_FFFF ≡ ofNat TOP
-unfolding ofBits ofNat ofInt
-ofNat-top = refl
-
 -- ---- casts and bits
 pub ofNat-in-float : {n : ℕ} → n ≤ TOP → T (inFloat binary64 (pos n))
 unfolding inFloat

@@ -6,6 +6,9 @@ ghost use Prim.Native.Nat.{ℕ, _+_, _*_, _≤_};
 ghost use Rattle.whole.specs.Whole.{TOP, ofNat};
 ghost use Rattle.whole.specs.Answers.{value};
 
+// 01's TOP, 2 ^ 53 - 1: every whole number up to it is an f64.
+pub const TOP: u64 = 9007199254740991;
+
 // A product or a sum: the f64 itself, or the answer that it is above TOP (refusal 7).
 pub enum Bounded {
     Fits(f64),
@@ -16,7 +19,7 @@ pub enum Bounded {
 fn fit(x: f64) -> Bounded
     ensures { λ r. ⌜ ((k : ℕ) → x ≡ ofNat k → r ≡ value k) ⌝ }
 {
-    if x > 9007199254740991.0 {
+    if x > exact_f64(TOP) {
         Bounded::Above
     } else {
         Bounded::Fits(x)
