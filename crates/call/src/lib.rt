@@ -6,7 +6,7 @@ pub mod ending; // ending.rt: the listing in the output, or refusal 8
 ghost use mathlib.Core.Path.{_≡_};
 ghost use Prim.Native.Nat.{ℕ, _≤_};
 ghost use lib.ListN.{length};
-ghost use Rattle.numbers.specs.Ready.{Offsets};
+ghost use Rattle.numbers.specs.Ready.{Offsets, workSize};
 ghost use Rattle.text.specs.Text.{chars};
 ghost use Rattle.table.specs.Answers.{tableOf};
 ghost use Rattle.edge.specs.Layout.{listed};
@@ -35,7 +35,7 @@ fn checked_call(
     work: &mut [u8],
     out: &mut [u8],
 ) -> Answer
-    requires { ⌜ Offsets (now line) (now offs) × (65536 ≤ length (now work)) × Accepted (now line) (now table) (now edges) n h count × RecordIndex (now table) h (now index) entries ⌝ }
+    requires { ⌜ Offsets (now line) (now offs) × (workSize ≤ length (now work)) × Accepted (now line) (now table) (now edges) n h count × RecordIndex (now table) h (now index) entries ⌝ }
     ensures { λ r. ⌜ AnswerIs (now (out .entry)) (now (out .exit)) r (afterChecks (tableOf (now (table .entry)) h) (chars (now (line .entry))) (length (now (out .entry))) (listed (now (edges .entry)))) ⌝ }
 {
     match first_stages::run_first_stages(work, line, offs, table, h, edges, count, index, entries) {

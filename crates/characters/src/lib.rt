@@ -9,6 +9,7 @@ ghost use Rattle.table.specs.Answers.{partOf, Within, Inside};
 ghost use Rattle.passes.specs.Passes.{cjk};
 ghost use Rattle.pass_list.specs.StoredEdge.{numData, Small, EdgeIs};
 ghost use Rattle.characters.specs.CharStored.{numberIf, charStored};
+ghost use Rattle.fields.specs.Fields.{u16Limit};
 use pass_list::record::PassData;
 use pass_list::record::PassEdge;
 use table::bits;
@@ -65,7 +66,7 @@ fn char_num(table: &[u8], p: NumProp, record_at: Offset, place: Place, c: u32) -
 
 // The edge of the code point c at a place of the line; its record p stands at record_at in the table.
 pub fn char_edge(table: &[u8], p: NumProp, record_at: Offset, place: Place, c: u32) -> PassEdge
-    requires { ⌜ Inside (now table) p × Small (charStored (now table) p («record_at» .0) (place .0) c) × (place .0 + 1 < 65536) ⌝ }
+    requires { ⌜ Inside (now table) p × Small (charStored (now table) p («record_at» .0) (place .0) c) × (place .0 + 1 < u16Limit) ⌝ }
     ensures { λ r. ⌜ EdgeIs r (charStored (now (table .entry)) p («record_at» .0) (place .0) c) ⌝ }
 {
     PassEdge {

@@ -16,7 +16,7 @@ use lib.Dec.{leb}
 use lib.ListN.{length}
 use lib.Seq.{sets}
 use lib.Ieee.{binary64, toBits}
-use Rattle.fields.specs.Fields.{bytesOf}
+use Rattle.fields.specs.Fields.{bytesOf, u16Limit}
 use Rattle.edge.specs.declared.NumFields.{NumFields}
 use Rattle.edge.specs.declared.NumData.{NumData}
 use Rattle.edge.specs.declared.Written.{Written}
@@ -61,9 +61,9 @@ pub record Writable (o c v : List ℕ) (d : NumFields) : Type 0 where
   pub orig : d .orig .at + d .orig .len ≤ length o
   pub script : stands 5 (d .map) ≡ true → d .script .at + d .script .len ≤ length c
   pub value-s : stands 8 (d .map) ≡ true → d .«value_s» .at + d .«value_s» .len ≤ length v
-  pub orig-len : d .orig .len < 65536
-  pub script-len : d .script .len < 65536
-  pub value-s-len : d .«value_s» .len < 65536
+  pub orig-len : d .orig .len < u16Limit
+  pub script-len : d .script .len < u16Limit
+  pub value-s-len : d .«value_s» .len < u16Limit
 
 -- ---- floats
 -- the fields of numeric data

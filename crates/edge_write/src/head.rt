@@ -4,11 +4,12 @@ ghost use Prim.Native.Nat.{_+_, _≤_, _<_};
 ghost use lib.ListN.{length};
 ghost use Rattle.edge.specs.Edge.{str, headBytes};
 ghost use Rattle.edge.specs.Write.{Put};
+ghost use Rattle.fields.specs.Fields.{u16Limit};
 use text::Place;
 
 // A string: its u16 length and its bytes.
 fn put_text(out: &mut [u8], at: usize, t: &[u8]) -> usize
-    requires { ⌜ (at + 2 + length (now t) ≤ length (now out)) × (length (now t) < 65536) ⌝ }
+    requires { ⌜ (at + 2 + length (now t) ≤ length (now out)) × (length (now t) < u16Limit) ⌝ }
     ensures { λ r. ⌜ (r ≡ at + 2 + length (now (t .entry))) × Put (now (out .entry)) (now (out .exit)) at r (str (now (t .entry))) ⌝ }
 {
     fields::write::put_u16(out, at, t.len() as u16);
@@ -26,7 +27,7 @@ pub fn put_head(
     ty: &[u8],
     txt: &[u8],
 ) -> usize
-    requires { ⌜ (at + 10 + length (now ty) + length (now txt) ≤ length (now out)) × (length (now ty) < 65536) × (length (now txt) < 65536) × (start .0 < 65536) × (end .0 < 65536) ⌝ }
+    requires { ⌜ (at + 10 + length (now ty) + length (now txt) ≤ length (now out)) × (length (now ty) < u16Limit) × (length (now txt) < u16Limit) × (start .0 < u16Limit) × (end .0 < u16Limit) ⌝ }
     ensures { λ r. ⌜ (r ≡ at + 10 + length (now (ty .entry)) + length (now (txt .entry))) × Put (now (out .entry)) (now (out .exit)) at r (headBytes map (start .0) (end .0) (now (ty .entry)) (now (txt .entry))) ⌝ }
 {
     fields::write::put_u16(out, at, map);

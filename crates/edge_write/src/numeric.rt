@@ -4,7 +4,7 @@ ghost use mathlib.Core.Bool.{true};
 ghost use Prim.Native.Nat.{_+_, _*_, _/_, _%_, _≤_, _<_};
 ghost use lib.ListN.{length};
 ghost use lib.Dec.{eqb};
-ghost use Rattle.fields.specs.Fields.{bytesOf};
+ghost use Rattle.fields.specs.Fields.{bytesOf, u16Limit};
 ghost use Rattle.edge.specs.Edge.{str, opt, numericBytes, edgeBytes};
 ghost use Rattle.edge.specs.Layout.{scriptAt, only};
 ghost use Rattle.edge.specs.Write.{written, writtenTo, Put, numeric, numbersBytes, textPastIf, fieldsPast, Writable};
@@ -17,7 +17,7 @@ use text::Place;
 
 // A string that is a part of a slice.
 fn put_part(out: &mut [u8], at: usize, s: &[u8], t: Part) -> usize
-    requires { ⌜ (at + 2 + t .len ≤ length (now out)) × (t .len < 65536) × (t .at + t .len ≤ length (now s)) ⌝ }
+    requires { ⌜ (at + 2 + t .len ≤ length (now out)) × (t .len < u16Limit) × (t .at + t .len ≤ length (now s)) ⌝ }
     ensures { λ r. ⌜ (r ≡ at + 2 + t .len) × Put (now (out .entry)) (now (out .exit)) at r (str (textOf (now (s .entry)) t)) ⌝ }
 {
     let from = t.at;
@@ -29,7 +29,7 @@ fn put_part(out: &mut [u8], at: usize, s: &[u8], t: Part) -> usize
 
 // The same, only if a bit stands.
 fn put_part_if(map: u16, p: u16, out: &mut [u8], at: usize, s: &[u8], t: Part) -> usize
-    requires { ⌜ (0 < p) × (textPastIf (eqb (map / p % 2) 1) (t .len) at ≤ length (now out)) × (t .len < 65536) × (eqb (map / p % 2) 1 ≡ true → t .at + t .len ≤ length (now s)) ⌝ }
+    requires { ⌜ (0 < p) × (textPastIf (eqb (map / p % 2) 1) (t .len) at ≤ length (now out)) × (t .len < u16Limit) × (eqb (map / p % 2) 1 ≡ true → t .at + t .len ≤ length (now s)) ⌝ }
     ensures { λ r. ⌜ (r ≡ textPastIf (eqb (map / p % 2) 1) (t .len) at) × Put (now (out .entry)) (now (out .exit)) at r (opt str (only (eqb (map / p % 2) 1) (textOf (now (s .entry)) t))) ⌝ }
 {
     if edge::bit(map, p) {
@@ -78,7 +78,7 @@ fn put_fields(out: &mut [u8], at: usize, d: NumFields, o: &[u8], c: &[u8], v: &[
 
 // Behind a text that is there only if a bit stands.
 fn text_past_if(map: u16, p: u16, len: usize, at: usize) -> usize
-    requires { ⌜ (0 < p) × (len < 65536) × (at ≤ 10000000000000000000) ⌝ }
+    requires { ⌜ (0 < p) × (len < u16Limit) × (at ≤ 10000000000000000000) ⌝ }
     ensures { λ r. ⌜ (r ≡ textPastIf (eqb (map / p % 2) 1) len at) × (r ≤ at + 65537) ⌝ }
 {
     if edge::bit(map, p) { at + 2 + len } else { at }
@@ -86,7 +86,7 @@ fn text_past_if(map: u16, p: u16, len: usize, at: usize) -> usize
 
 // Where fields end that are written from an offset on.
 fn fields_past(d: NumFields, at: usize) -> usize
-    requires { ⌜ (d .orig .len < 65536) × (d .script .len < 65536) × (d .«value_s» .len < 65536) × (at ≤ 9500000000000000000) ⌝ }
+    requires { ⌜ (d .orig .len < u16Limit) × (d .script .len < u16Limit) × (d .«value_s» .len < u16Limit) × (at ≤ 9500000000000000000) ⌝ }
     ensures { λ r. ⌜ r ≡ fieldsPast d at ⌝ }
 {
     let script = edge::script_at(d.map, at + 2 + d.orig.len);
@@ -107,7 +107,7 @@ pub fn write_numeric(
     c: &[u8],
     v: &[u8],
 ) -> Written
-    requires { ⌜ (at ≤ length (now out)) × (length (now ty) < 65536) × (length (now txt) < 65536) × (start .0 < 65536) × (end .0 < 65536) × Writable (now o) (now c) (now v) d ⌝ }
+    requires { ⌜ (at ≤ length (now out)) × (length (now ty) < u16Limit) × (length (now txt) < u16Limit) × (start .0 < u16Limit) × (end .0 < u16Limit) × Writable (now o) (now c) (now v) d ⌝ }
     ensures answer { λ r. ⌜ r ≡ written (now (out .entry)) at (edgeBytes (numeric (start .0) (end .0) (now (ty .entry)) (now (txt .entry)) (now (o .entry)) (now (c .entry)) (now (v .entry)) d)) ⌝ }
     ensures bytes { λ _. ⌜ now (out .exit) ≡ writtenTo (now (out .entry)) at (edgeBytes (numeric (start .0) (end .0) (now (ty .entry)) (now (txt .entry)) (now (o .entry)) (now (c .entry)) (now (v .entry)) d)) ⌝ }
 {

@@ -4,6 +4,7 @@ ghost use Prim.Native.Nat.{_≤_, _<_};
 ghost use lib.ListN.{length};
 ghost use Rattle.edge.specs.Edge.{edgeBytes};
 ghost use Rattle.edge.specs.Write.{written, writtenTo, regular};
+ghost use Rattle.fields.specs.Fields.{u16Limit};
 use edge::Written;
 use text::Place;
 
@@ -16,7 +17,7 @@ pub fn write_regular(
     ty: &[u8],
     txt: &[u8],
 ) -> Written
-    requires { ⌜ (at ≤ length (now out)) × (length (now ty) < 65536) × (length (now txt) < 65536) × (start .0 < 65536) × (end .0 < 65536) ⌝ }
+    requires { ⌜ (at ≤ length (now out)) × (length (now ty) < u16Limit) × (length (now txt) < u16Limit) × (start .0 < u16Limit) × (end .0 < u16Limit) ⌝ }
     ensures answer { λ r. ⌜ r ≡ written (now (out .entry)) at (edgeBytes (regular (start .0) (end .0) (now (ty .entry)) (now (txt .entry)))) ⌝ }
     ensures bytes { λ _. ⌜ now (out .exit) ≡ writtenTo (now (out .entry)) at (edgeBytes (regular (start .0) (end .0) (now (ty .entry)) (now (txt .entry)))) ⌝ }
 {

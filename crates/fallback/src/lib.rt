@@ -4,6 +4,7 @@ ghost use mathlib.Core.List.{List};
 ghost use Prim.Native.Nat.{_≤_, _<_};
 ghost use lib.ListN.{length};
 ghost use Rattle.text.specs.Text.{chars};
+ghost use Rattle.text.specs.Line.{maxChars};
 ghost use Rattle.edge.specs.Edge.{Edge};
 ghost use Rattle.lattice.specs.Lattice.{addAll};
 ghost use Rattle.lattice.specs.Kept.{Holds, SameBehind};
@@ -17,7 +18,7 @@ use text::Place;
 
 // The edge of a character at a place, by its first byte, if it is a digit whose place has no mark.
 fn add_digit(w: &mut [u8], l: Lattice, b: u8, place: Place, marked: bool) -> Lattice
-    requires { ⌜ ((es : List Edge) × Holds (now w) l es) × (place .0 < 256) ⌝ }
+    requires { ⌜ ((es : List Edge) × Holds (now w) l es) × (place .0 < maxChars) ⌝ }
     ensures { λ r. ⌜ SameBehind (now (w .entry)) (now (w .exit)) × ((es : List Edge) → Holds (now (w .entry)) l es → Holds (now (w .exit)) r (addAll es (digitEdge b (place .0) marked))) ⌝ }
 {
     if marked | (b < 48) | (57 < b) {
@@ -36,7 +37,7 @@ fn add_unmarked(
     n: usize,
     marks: &[bool; 257],
 ) -> Lattice
-    requires { ⌜ ((es : List Edge) × Holds (now w) l es) × Offsets (now line) (now offs) × (length (chars (now line)) ≡ n) × (n ≤ 256) ⌝ }
+    requires { ⌜ ((es : List Edge) × Holds (now w) l es) × Offsets (now line) (now offs) × (length (chars (now line)) ≡ n) × (n ≤ maxChars) ⌝ }
     ensures { λ r. ⌜ SameBehind (now (w .entry)) (now (w .exit)) × ((es : List Edge) → Holds (now (w .entry)) l es → Holds (now (w .exit)) r (addAll es (unmarked (now (marks .entry)) 0 (chars (now (line .entry)))))) ⌝ }
 {
     let mut grown = l;
@@ -65,7 +66,7 @@ pub fn any_digit(line: &[u8]) -> bool
 
 // The fallback's edges are added, for a line of n characters. The marks are those of the lattice before the first of them.
 pub fn fallback(w: &mut [u8], l: Lattice, line: &[u8], offs: &[usize; 257], n: usize) -> Lattice
-    requires { ⌜ Offsets (now line) (now offs) × (length (chars (now line)) ≡ n) × (n ≤ 256) × ((es : List Edge) × Holds (now w) l es × Legals n es) ⌝ }
+    requires { ⌜ Offsets (now line) (now offs) × (length (chars (now line)) ≡ n) × (n ≤ maxChars) × ((es : List Edge) × Holds (now w) l es × Legals n es) ⌝ }
     ensures { λ r. ⌜ SameBehind (now (w .entry)) (now (w .exit)) × ((es : List Edge) → Holds (now (w .entry)) l es → Legals n es → Holds (now (w .exit)) r (addAll es (fallback es 0 (chars (now (line .entry)))))) ⌝ }
 {
     if l.len == 0 {

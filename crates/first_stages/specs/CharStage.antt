@@ -8,13 +8,14 @@ use mathlib.Core.List.{List}
 use Prim.Native.Nat.{ℕ, _≤_}
 use lib.ListN.{length, drop}
 use Rattle.text.specs.Text.{chars}
+use Rattle.text.specs.Line.{maxChars}
 use Rattle.table.specs.Table.{Record}
 use Rattle.table.specs.declared.shape.Shape.{Shape}
 use Rattle.edge.specs.Edge.{Edge}
 use Rattle.lattice.specs.declared.Lattice.{Lattice}
 use Rattle.lattice.specs.Lattice.{addAll}
 use Rattle.lattice.specs.Kept.{Holds, END}
-use Rattle.numbers.specs.Ready.{Offsets}
+use Rattle.numbers.specs.Ready.{Offsets, workSize}
 use Rattle.characters.specs.Initial.{SoFar, Initial}
 use Rattle.first_stages.specs.Five.{listedStored, behind, PassList}
 use Rattle.first_stages.specs.declared.chars.CharsAnswer.{CharsAnswer}
@@ -22,8 +23,8 @@ use Rattle.first_stages.specs.declared.chars.CharsAnswer.{CharsAnswer}
 pub record Room (s : List ℕ) (l : Lattice) (line offs : List ℕ) : Type 0 where
   pub holds : (es : List Edge) × Holds s l es
   pub offsets : Offsets line offs
-  pub few : length (chars line) ≤ 256
-  pub long : 65536 ≤ length s
+  pub few : length (chars line) ≤ maxChars
+  pub long : workSize ≤ length s
 
 -- the lattice l and the edges of the stored edges behind it
 abbrev pub Grown : List ℕ → List ℕ → List ℕ → Lattice → List ℕ → CharsAnswer → Type 0

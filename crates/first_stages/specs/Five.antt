@@ -23,6 +23,7 @@ use Rattle.pass_edge.specs.Grounded.{AllGrounded}
 use Rattle.numbers.specs.Listed.{listedEdge}
 use Rattle.first_stages.specs.declared.five_passes.PassesAnswer.{PassesAnswer}
 use Rattle.first_stages.specs.declared.five_passes.PassesAnswer.the-variants.{Added, Above}
+use Rattle.text.specs.Line.{maxChars}
 
 abbrev pub listedStored : List ℕ → List ℕ → List StoredEdge → List Edge
 listedStored w t l = map listedEdge (map (edgeOf w t) l)
@@ -34,7 +35,7 @@ behind s n = storedListAt (drop END s) 0 n
 pub record PassList (w t : List ℕ) (k : ℕ) (s : List ℕ) (n : ℕ) : Type 0 where
   pub sounds : AllGrounded w t (behind s n)
   pub kinds : Every (λ x. x .kind < k) (behind s n)
-  pub few : n ≤ 256
+  pub few : n ≤ maxChars
 
 pub record OneDone (w t : List ℕ) (i : ℕ) (s : List ℕ) (l : Lattice) (n : ℕ) (u : List ℕ) (m : Lattice) (k : ℕ) : Type 0 where
   pub below : firstAbove (added (nth i) (behind s n)) ≡ none
@@ -51,7 +52,7 @@ pub record FiveDone (w t s : List ℕ) (l : Lattice) (n : ℕ) (u : List ℕ) (m
   pub below : firstAbove (addedBy five (behind s n)) ≡ none
   pub list : behind u k ≡ through five (behind s n)
   pub sounds : AllGrounded w t (behind u k)
-  pub few : k ≤ 256
+  pub few : k ≤ maxChars
   pub joined : AllGrounded w t (addedBy five (behind s n))
   pub holds : (es : List Edge) → Holds s l es → Holds u m (addAll es (listedStored w t (addedBy five (behind s n))))
 

@@ -8,6 +8,7 @@ use mathlib.Core.Option.{none, some}
 use Prim.Native.Nat.{ℕ, _≤_}
 use lib.ListN.{length}
 use Rattle.text.specs.Text.{chars}
+use Rattle.text.specs.Line.{maxChars}
 use Rattle.table.specs.Answers.{tableOf}
 use Rattle.table.specs.declared.shape.Shape.{Shape}
 use Rattle.passes.specs.Passes.{fifthList, aboveAt}
@@ -28,7 +29,7 @@ pub record CallDone (line t : List ℕ) (h : Shape) (given u : List ℕ) (m : La
   pub call : CallEdges (length (chars line)) (afterPasses (tableOf t h) (chars line) (listed given))
   pub fifth : map (edgeOf (chars line) t) (behind u k) ≡ fifthList (tableOf t h) (chars line)
   pub sounds : AllGrounded (chars line) t (behind u k)
-  pub few : k ≤ 256
+  pub few : k ≤ maxChars
 
 unfoldable pub CallPassed : List ℕ → List ℕ → Shape → List ℕ → List ℕ → PassesAnswer → Type 0
 CallPassed line t h given u (Above p) = aboveAt (tableOf t h) (chars line) ≡ some (p .0)

@@ -6,6 +6,7 @@ ghost use mathlib.Core.List.{List, [], _∷_, _++_};
 ghost use Prim.Native.Nat.{ℕ, _+_, _<_, _≤_};
 ghost use lib.ListN.{length, getD};
 ghost use Rattle.text.specs.Text.{chars, wellFormed};
+ghost use Rattle.text.specs.Line.{maxChars};
 ghost use Rattle.table.specs.Answers.{Inside};
 ghost use Rattle.table.specs.Index.{Indexed};
 ghost use Rattle.edge.specs.Edge.{Edge};
@@ -14,7 +15,7 @@ ghost use Rattle.lattice.specs.Kept.{Holds};
 ghost use Rattle.pass_list.specs.Edges.{edgeOf};
 ghost use Rattle.table_check.specs.Indexed.{RecordIndex};
 ghost use Rattle.numbers.specs.Listed.{listedEdge};
-ghost use Rattle.numbers.specs.Ready.{Ready, Offsets};
+ghost use Rattle.numbers.specs.Ready.{Ready, Offsets, workSize};
 ghost use Rattle.pass_edge.specs.Grounded.{Grounded};
 ghost use Rattle.characters.specs.CharStored.{charStored};
 ghost use Rattle.characters.specs.Initial.{recordsIn, Records};
@@ -51,7 +52,7 @@ fn put_and_add(
     place: Place,
     c: u32,
 ) -> Lattice
-    requires { ⌜ Room (now w) l (now line) (now offs) × (n < 256) × (place .0 < 256) × Inside (now table) p × Grounded (chars (now line)) (now table) (charStored (now table) p («record_at» .0) (place .0) c) ⌝ }
+    requires { ⌜ Room (now w) l (now line) (now offs) × (n < maxChars) × (place .0 < maxChars) × Inside (now table) p × Grounded (chars (now line)) (now table) (charStored (now table) p («record_at» .0) (place .0) c) ⌝ }
     ensures { λ r. ⌜ (behind (now (w .exit)) (n + 1) ≡ behind (now (w .entry)) n ++ (charStored (now (table .entry)) p («record_at» .0) (place .0) c ∷ [])) × ((es : List Edge) → Holds (now (w .entry)) l es → Holds (now (w .exit)) r (add es (listedEdge (edgeOf (chars (now (line .entry))) (now (table .entry)) (charStored (now (table .entry)) p («record_at» .0) (place .0) c))))) ⌝ }
 {
     let e = char_edge(table, p, record_at, place, c);
@@ -137,7 +138,7 @@ pub fn initialize_num_edges(
     index: &[u32; 256],
     entries: usize,
 ) -> CharsAnswer
-    requires { ⌜ ((es : List Edge) × Holds (now w) l es) × Offsets (now line) (now offs) × (65536 ≤ length (now w)) × ((n : ℕ) × Ready (now line) (now table) h n) × RecordIndex (now table) h (now index) entries ⌝ }
+    requires { ⌜ ((es : List Edge) × Holds (now w) l es) × Offsets (now line) (now offs) × (workSize ≤ length (now w)) × ((n : ℕ) × Ready (now line) (now table) h n) × RecordIndex (now table) h (now index) entries ⌝ }
     ensures { λ r. ⌜ FirstDone (now (line .entry)) (now (table .entry)) h (now (w .entry)) l (now (w .exit)) r ⌝ }
 {
     // the table begins with the count of its records

@@ -10,7 +10,7 @@ ghost use lib.ListN.{length};
 ghost use Rattle.edge.specs.Check.{checkListing};
 ghost use Rattle.edge.specs.declared.ListingCheck.the-variants.{Edges};
 ghost use Rattle.table_check.specs.Indexed.{RecordIndex};
-ghost use Rattle.numbers.specs.Ready.{Ready, Offsets};
+ghost use Rattle.numbers.specs.Ready.{Ready, Offsets, workSize};
 ghost use Rattle.first_stages.specs.Stages.{CallPassed};
 use crate::five_passes::PassesAnswer;
 use table::shape::Shape;
@@ -27,7 +27,7 @@ pub fn run_first_stages(
     index: &[u32; 256],
     entries: usize,
 ) -> PassesAnswer
-    requires { ⌜ Offsets (now line) (now offs) × (65536 ≤ length (now w)) × ((n : ℕ) × Ready (now line) (now table) h n × (checkListing true n (now edges) ≡ Edges count)) × RecordIndex (now table) h (now index) entries ⌝ }
+    requires { ⌜ Offsets (now line) (now offs) × (workSize ≤ length (now w)) × ((n : ℕ) × Ready (now line) (now table) h n × (checkListing true n (now edges) ≡ Edges count)) × RecordIndex (now table) h (now index) entries ⌝ }
     ensures { λ r. ⌜ CallPassed (now (line .entry)) (now (table .entry)) h (now (edges .entry)) (now (w .exit)) r ⌝ }
 {
     let none = lattice::ends::empty(w);

@@ -19,10 +19,11 @@ use Rattle.paths.specs.declared.Query.{Query}
 use Rattle.paths.specs.declared.Query.the-variants.{Right, Left}
 use Rattle.paths.specs.Best.{Best, best, numbered}
 use Rattle.numbers.specs.CallEdge.{CallEdges}
+use Rattle.text.specs.Line.{maxChars}
 
 pub record HoldsLine (w : List ℕ) (l : Lattice) (es : List Edge) : Type 0 where
   pub chars : ℕ
-  pub few : chars ≤ 256
+  pub few : chars ≤ maxChars
   pub not-full : (l .len ≡ 0 → ⊥)
   pub holds : Holds w l es
   pub edges : CallEdges chars es
@@ -41,7 +42,7 @@ keptOf es zero = none
 keptOf es (suc i) = some (i, getD es i noEdge)
 
 pub record Neighbors (right : Bool) (es : List Edge) (table : List ℕ) : Type 0 where
-  pub at : (p : ℕ) → p ≤ 256 → keptOf es (getD table p 0) ≡ best false (sideOf right p) (numbered 0 es)
+  pub at : (p : ℕ) → p ≤ maxChars → keptOf es (getD table p 0) ≡ best false (sideOf right p) (numbered 0 es)
 
 pub record HoldsNeighbors (w : List ℕ) (l : Lattice) (lefts rights : List ℕ) (es : List Edge) : Type 0 where
   pub keeps : HoldsLine w l es

@@ -12,6 +12,7 @@ ghost use Rattle.markers.specs.Marks.{markerOf};
 ghost use Rattle.fraction_choices.specs.Choice.{outcomeOf, Valid, codeOf, formOf};
 ghost use Rattle.fraction_choices.specs.Around.{HoldsLine, HoldsNeighbors};
 ghost use Rattle.fraction_choices.specs.Decision.{sizeOf, choice, optionOf, WholeValued, otherwiseOf, bothOf, withValuesOf, betweenOf};
+ghost use Rattle.text.specs.Line.{maxChars};
 use edge::bits;
 use lattice::Lattice;
 use markers::Marker;
@@ -210,7 +211,7 @@ fn marked(
     place: Place,
     n: usize,
 ) -> Choice
-    requires { ⌜ ((es : List Edge) × HoldsNeighbors (now w) l (now lefts) (now rights) es) × (place .0 + n ≤ 256) ⌝ }
+    requires { ⌜ ((es : List Edge) × HoldsNeighbors (now w) l (now lefts) (now rights) es) × (place .0 + n ≤ maxChars) ⌝ }
     ensures { λ r. ⌜ ((es : List Edge) → HoldsNeighbors (now (w .entry)) l (now (lefts .entry)) (now (rights .entry)) es → (outcomeOf es (place .0) r ≡ marked percent es (place .0) n) × Valid es r) ⌝ }
 {
     let p = place.0;
@@ -229,7 +230,7 @@ pub fn outcome_at(
     marker: Marker,
     p: Place,
 ) -> Choice
-    requires { ⌜ ((es : List Edge) × HoldsNeighbors (now w) l (now lefts) (now rights) es) × (p .0 + sizeOf (markerOf marker) ≤ 256) ⌝ }
+    requires { ⌜ ((es : List Edge) × HoldsNeighbors (now w) l (now lefts) (now rights) es) × (p .0 + sizeOf (markerOf marker) ≤ maxChars) ⌝ }
     ensures { λ r. ⌜ ((es : List Edge) → HoldsNeighbors (now (w .entry)) l (now (lefts .entry)) (now (rights .entry)) es → (outcomeOf es (p .0) r ≡ byMarker es (p .0) (markerOf marker)) × Valid es r) ⌝ }
 {
     match marker {

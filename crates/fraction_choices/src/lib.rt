@@ -7,6 +7,7 @@ ghost use mathlib.Core.List.{List};
 ghost use Prim.Native.Nat.{ℕ, _<_};
 ghost use lib.ListN.{length};
 ghost use Rattle.text.specs.Text.{chars};
+ghost use Rattle.text.specs.Line.{maxChars};
 ghost use Rattle.table.specs.Answers.{tableOf};
 ghost use Rattle.edge.specs.Edge.{Edge};
 ghost use Rattle.numbers.specs.Ready.{Ready, Offsets};
@@ -53,7 +54,7 @@ fn choose_all(
     lefts: &mut [usize; 256],
     rights: &mut [usize; 256],
 )
-    requires { ⌜ Ready (now line) (now table) h n × Offsets (now line) (now offs) × ((es : List Edge) × HoldsNeighbors (now w) l (now before) (now behind) es) × (length (now forms) ≡ 256) × (length (now lefts) ≡ 256) × (length (now rights) ≡ 256) ⌝ }
+    requires { ⌜ Ready (now line) (now table) h n × Offsets (now line) (now offs) × ((es : List Edge) × HoldsNeighbors (now w) l (now before) (now behind) es) × (length (now forms) ≡ maxChars) × (length (now lefts) ≡ maxChars) × (length (now rights) ≡ maxChars) ⌝ }
     ensures { λ _. ⌜ ((es : List Edge) → HoldsNeighbors (now (w .entry)) l (now (before .entry)) (now (behind .entry)) es → Decided (tableOf (now (table .entry)) h) (chars (now (line .entry))) es (now (forms .exit)) (now (lefts .exit)) (now (rights .exit)) n) ⌝ }
 {
     let mut p = 0;
@@ -80,7 +81,7 @@ pub fn choose(
     lefts: &mut [usize; 256],
     rights: &mut [usize; 256],
 )
-    requires { ⌜ Ready (now line) (now table) h n × Offsets (now line) (now offs) × ((es : List Edge) × HoldsLine (now w) l es) × (length (now forms) ≡ 256) × (length (now lefts) ≡ 256) × (length (now rights) ≡ 256) ⌝ }
+    requires { ⌜ Ready (now line) (now table) h n × Offsets (now line) (now offs) × ((es : List Edge) × HoldsLine (now w) l es) × (length (now forms) ≡ maxChars) × (length (now lefts) ≡ maxChars) × (length (now rights) ≡ maxChars) ⌝ }
     ensures { λ _. ⌜ ((es : List Edge) → HoldsLine (now (w .entry)) l es → Decided (tableOf (now (table .entry)) h) (chars (now (line .entry))) es (now (forms .exit)) (now (lefts .exit)) (now (rights .exit)) n) ⌝ }
 {
     let mut before = [0usize; 257];

@@ -6,6 +6,7 @@ ghost use lib.ListN.{length, replicate};
 ghost use Rattle.edge.specs.Edge.{Edge};
 ghost use Rattle.edge.specs.Layout.{edgeAt};
 ghost use Rattle.fraction_choices.specs.Around.{HoldsLine, sideOf, placeOf, Neighbors};
+ghost use Rattle.text.specs.Line.{PLACES};
 use lattice::Lattice;
 use paths::Query;
 use text::Place;
@@ -41,7 +42,7 @@ fn scored_neighbors(
     tops: &mut [usize; 257],
     table: &mut [usize; 257],
 )
-    requires { ⌜ ((es : List Edge) × HoldsLine (now w) l es) × (now tops ≡ replicate 257 0) × (now table ≡ replicate 257 0) ⌝ }
+    requires { ⌜ ((es : List Edge) × HoldsLine (now w) l es) × (now tops ≡ replicate PLACES 0) × (now table ≡ replicate PLACES 0) ⌝ }
     ensures { λ _. ⌜ ((es : List Edge) → HoldsLine (now (w .entry)) l es → Neighbors right es (now (table .exit))) ⌝ }
 {
     let mut at = 2;
@@ -57,7 +58,7 @@ fn scored_neighbors(
 
 // The right or the left neighbours of all places: one more than their indices, 0 for none.
 pub fn neighbors(w: &[u8], l: Lattice, right: bool, table: &mut [usize; 257])
-    requires { ⌜ ((es : List Edge) × HoldsLine (now w) l es) × (now table ≡ replicate 257 0) ⌝ }
+    requires { ⌜ ((es : List Edge) × HoldsLine (now w) l es) × (now table ≡ replicate PLACES 0) ⌝ }
     ensures { λ _. ⌜ ((es : List Edge) → HoldsLine (now (w .entry)) l es → Neighbors right es (now (table .exit))) ⌝ }
 {
     let mut tops = [0usize; 257];

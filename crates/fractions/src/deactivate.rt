@@ -8,6 +8,7 @@ ghost use Rattle.lattice.specs.Kept.{Holds, SameBehind};
 ghost use Rattle.numbers.specs.Fractions.{usedEdges};
 ghost use Rattle.fraction_choices.specs.Choice.{Valid};
 ghost use Rattle.fractions.specs.Outcomes.{outcomesOf, usedBy, AllValid};
+ghost use Rattle.text.specs.Line.{maxChars};
 use fraction_choices::decision::Choice;
 use fraction_choices::decision::Form;
 use lattice::Lattice;
@@ -46,7 +47,7 @@ pub fn turn_off_all(
     rights: &[usize; 256],
     n: usize,
 )
-    requires { ⌜ ((es : List Edge) × Holds (now w) l es × AllValid es (now forms) (now lefts) (now rights) n) × (l .len ≡ 0 → ⊥) × (n ≤ 256) ⌝ }
+    requires { ⌜ ((es : List Edge) × Holds (now w) l es × AllValid es (now forms) (now lefts) (now rights) n) × (l .len ≡ 0 → ⊥) × (n ≤ maxChars) ⌝ }
     ensures { λ _. ⌜ SameBehind (now (w .entry)) (now (w .exit)) × ((es : List Edge) → Holds (now (w .entry)) l es → AllValid es (now (forms .entry)) (now (lefts .entry)) (now (rights .entry)) n → Holds (now (w .exit)) l (turnOff es (usedEdges (outcomesOf es (now (forms .entry)) (now (lefts .entry)) (now (rights .entry)) 0 n)))) ⌝ }
 {
     let mut p = 0;

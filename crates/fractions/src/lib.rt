@@ -8,6 +8,7 @@ pub mod new_edge; // new_edge.rt: the edge of a choice, added
 ghost use mathlib.Core.List.{List};
 ghost use Prim.Native.Nat.{_≤_, _<_};
 ghost use Rattle.text.specs.Text.{chars};
+ghost use Rattle.text.specs.Line.{maxChars};
 ghost use Rattle.table.specs.Answers.{tableOf};
 ghost use Rattle.edge.specs.Edge.{Edge};
 ghost use Rattle.lattice.specs.Lattice.{addAll};
@@ -30,7 +31,7 @@ fn add_all(
     rights: &[usize; 256],
     n: usize,
 ) -> Lattice
-    requires { ⌜ ((es : List Edge) × Planned n (now w) l es (now forms) (now lefts) (now rights)) × (n ≤ 256) ⌝ }
+    requires { ⌜ ((es : List Edge) × Planned n (now w) l es (now forms) (now lefts) (now rights)) × (n ≤ maxChars) ⌝ }
     ensures { λ r. ⌜ SameBehind (now (w .entry)) (now (w .exit)) × ((es : List Edge) → Planned n (now (w .entry)) l es (now (forms .entry)) (now (lefts .entry)) (now (rights .entry)) → Holds (now (w .exit)) r (addAll es (newEdges (outcomesOf es (now (forms .entry)) (now (lefts .entry)) (now (rights .entry)) 0 n)))) ⌝ }
 {
     let mut grown = l;

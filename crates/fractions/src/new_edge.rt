@@ -9,6 +9,7 @@ ghost use Rattle.lattice.specs.Kept.{noEdge, Holds, SameBehind};
 ghost use Rattle.fraction_choices.specs.Choice.{outcomeOf, valueOr, Two};
 ghost use Rattle.fractions.specs.MadeParts.{HoldsCall};
 ghost use Rattle.fractions.specs.NewEdge.{percentOf, fractionOf, HoldsChoice, addOutcome};
+ghost use Rattle.fields.specs.Fields.{u16Limit};
 use fraction_choices::decision::Choice;
 use fraction_choices::decision::Form;
 use lattice::Lattice;
@@ -46,7 +47,7 @@ fn add_fraction(w: &mut [u8], l: Lattice, left: usize, right: usize) -> Lattice
 
 // The edge that the choice at a place makes is added; a lattice that is full stays as it is.
 pub fn add_choice(w: &mut [u8], l: Lattice, p: Place, c: Choice) -> Lattice
-    requires { ⌜ ((n : ℕ) × ((es : List Edge) × HoldsChoice n (now w) l es c)) × (p .0 < 65536) ⌝ }
+    requires { ⌜ ((n : ℕ) × ((es : List Edge) × HoldsChoice n (now w) l es c)) × (p .0 < u16Limit) ⌝ }
     ensures { λ r. ⌜ SameBehind (now (w .entry)) (now (w .exit)) × ((n : ℕ) (es : List Edge) → HoldsChoice n (now (w .entry)) l es c → Holds (now (w .exit)) r (addOutcome es (outcomeOf es (p .0) c))) ⌝ }
 {
     if l.len == 0 {

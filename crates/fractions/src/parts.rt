@@ -12,6 +12,9 @@ ghost use Rattle.lattice.specs.Lattice.{add};
 ghost use Rattle.lattice.specs.Kept.{noEdge, Holds, SameBehind};
 ghost use Rattle.fraction_choices.specs.Choice.{valueOr, HasValue, One};
 ghost use Rattle.fractions.specs.MadeParts.{HeadIs, scriptFrom, scriptLen, fractionFields, HoldsCall, fractionWith, txtPercentOf};
+ghost use Rattle.fractions.specs.MadeTexts.{textRoom};
+ghost use Rattle.table.specs.Layout.{maxString};
+ghost use Rattle.fields.specs.Fields.{u16Limit};
 use edge::EdgeView;
 use edge::NumFields;
 use edge::Part;
@@ -30,8 +33,8 @@ pub enum Script {
 
 // The script of a numeric edge with this map, whose fields stand at an offset.
 pub fn copy_script(buf: &mut [u8; 300], w: &[u8], map: u16, at: usize) -> Script
-    requires { ⌜ (fieldsEnd map (now w) at ≤ length (now w)) × ((t : Text) → numericAt map (now w) at .script ≡ some t → length t ≤ 60) ⌝ }
-    ensures { λ r. ⌜ (scriptFrom (now (buf .exit)) r ≡ numericAt map (now (w .entry)) at .script) × (scriptLen r ≤ 60) ⌝ }
+    requires { ⌜ (fieldsEnd map (now w) at ≤ length (now w)) × ((t : Text) → numericAt map (now w) at .script ≡ some t → length t ≤ maxString) ⌝ }
+    ensures { λ r. ⌜ (scriptFrom (now (buf .exit)) r ≡ numericAt map (now (w .entry)) at .script) × (scriptLen r ≤ maxString) ⌝ }
 {
     let d = edge::numeric::fields_at(map, w, at);
     if !edge::bit(map, bits::SCRIPT) {
@@ -99,7 +102,7 @@ pub fn value_of(w: &[u8], l: Lattice, i: usize) -> u64
 
 // The right edge's txt and "%", from a place on.
 pub fn add_txt_percent(w: &mut [u8], l: Lattice, p: Place, right: usize) -> Lattice
-    requires { ⌜ ((n : ℕ) × ((es : List Edge) × HoldsCall n (now w) l es × One es right)) × (l .len ≡ 0 → ⊥) × (p .0 < 65536) ⌝ }
+    requires { ⌜ ((n : ℕ) × ((es : List Edge) × HoldsCall n (now w) l es × One es right)) × (l .len ≡ 0 → ⊥) × (p .0 < u16Limit) ⌝ }
     ensures { λ r. ⌜ SameBehind (now (w .entry)) (now (w .exit)) × ((n : ℕ) (es : List Edge) → HoldsCall n (now (w .entry)) l es → One es right → Holds (now (w .exit)) r (add es (txtPercentOf es (p .0) right))) ⌝ }
 {
     let b = head_of(w, l, right);
@@ -119,7 +122,7 @@ pub fn add_composed(
     s: Script,
     script: &[u8; 300],
 ) -> Lattice
-    requires { ⌜ ((es : List Edge) × Holds (now w) l es) × (start .0 < 65536) × (end .0 < 65536) × (length (now txt) ≤ 300) × (scriptLen s ≤ 60) ⌝ }
+    requires { ⌜ ((es : List Edge) × Holds (now w) l es) × (start .0 < u16Limit) × (end .0 < u16Limit) × (length (now txt) ≤ textRoom) × (scriptLen s ≤ maxString) ⌝ }
     ensures { λ r. ⌜ SameBehind (now (w .entry)) (now (w .exit)) × ((es : List Edge) → Holds (now (w .entry)) l es → Holds (now (w .exit)) r (add es (fractionWith (start .0) (end .0) (now (txt .entry)) (q .numerator, q .denominator) (scriptFrom (now (script .entry)) s)))) ⌝ }
 {
     let d = fraction_fields(txt.len(), q, s);

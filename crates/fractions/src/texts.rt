@@ -6,6 +6,7 @@ ghost use lib.ListN.{length};
 ghost use Rattle.whole.specs.Decimal.{decimal};
 ghost use Rattle.edge.specs.View.{textOf};
 ghost use Rattle.fractions.specs.MadeTexts.{TextIs};
+ghost use Rattle.text.specs.Line.{maxChars};
 use edge::Part;
 
 // A number and "%".
@@ -28,7 +29,7 @@ pub fn put_fraction(buf: &mut [u8; 300], right: u64, left: u64) -> usize
 
 // A text of the lattice and "%".
 pub fn put_txt_percent(buf: &mut [u8; 300], w: &[u8], t: Part) -> usize
-    requires { ⌜ (t .at + t .len ≤ length (now w)) × (t .len ≤ 256) ⌝ }
+    requires { ⌜ (t .at + t .len ≤ length (now w)) × (t .len ≤ maxChars) ⌝ }
     ensures { λ r. ⌜ TextIs (now (buf .exit)) r (textOf (now (w .entry)) t ++ (37 ∷ [])) ⌝ }
 {
     let from = t.at;

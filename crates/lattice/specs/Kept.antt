@@ -29,7 +29,7 @@ use Prim.Native.Nat.{ℕ, zero, suc, _+_, _*_, _/_, _%_, _-_, _≤_, _<_}
 use lib.ListN.{length, take, drop, getD}
 use lib.Dec.{eqb, ltb}
 use lib.Seq.{sets}
-use Rattle.fields.specs.Fields.{leAt, bytesOf}
+use Rattle.fields.specs.Fields.{leAt, bytesOf, u16Limit}
 use Rattle.fields.specs.Part.{part}
 use Rattle.edge.specs.Edge.{Edge, str, edgeBytes, edgesBytes, listingBytes}
 use Rattle.edge.specs.Layout.{stands}
@@ -38,7 +38,7 @@ use Rattle.lattice.specs.declared.Finished.{Finished}
 use Rattle.lattice.specs.declared.Finished.the-variants.{Listing, TooLong}
 use Rattle.lattice.specs.declared.Adding.{Adding}
 use Rattle.lattice.specs.declared.Adding.the-variants.{Nothing, TooMuch, Into}
-use Rattle.lattice.specs.Lattice.{has, overfull}
+use Rattle.lattice.specs.Lattice.{has, overfull, mostEdges, mostBytes}
 
 -- ---- the layout
 abbrev pub OFFSETS : ℕ
@@ -56,6 +56,13 @@ END = 39424
 -- what stands behind the lattice in the work space s is in u as it was
 abbrev pub SameBehind : List ℕ → List ℕ → Type 0
 SameBehind s u = drop END u ≡ drop END s
+
+-- an edge may be composed in so many bytes behind the listing, before it is added
+abbrev pub SLACK : ℕ
+SLACK = 2048
+
+abbrev pub BUCKETS : ℕ
+BUCKETS = 256
 
 abbrev pub cell : List ℕ → ℕ → ℕ → ℕ
 cell s base i = leAt s (base + 2 * i) 2
@@ -98,22 +105,22 @@ unfoldable pub offset : List Edge → ℕ → ℕ
 offset es i = 2 + length (edgesBytes (take i es))
 
 pub record Fits (e : Edge) : Type 0 where
-  pub start : e .start < 65536
-  pub end : e .end < 65536
-  pub type : length (e .type) < 65536
-  pub txt : length (e .txt) < 65536
+  pub start : e .start < u16Limit
+  pub end : e .end < u16Limit
+  pub type : length (e .type) < u16Limit
+  pub txt : length (e .txt) < u16Limit
 
 pub record Kept (w : List ℕ) (n len : ℕ) (es : List Edge) : Type 0 where
   pub room : END ≤ length w
   pub count : length es ≡ n
-  pub few : n ≤ 1024
-  pub short : len ≤ 32768
+  pub few : n ≤ mostEdges
+  pub short : len ≤ mostBytes
   pub size : len ≡ length (listingBytes es)
   pub listing : part w 0 len ≡ listingBytes es
   pub fits : (i : ℕ) → i < n → Fits (getD es i noEdge)
   pub offsets : (i : ℕ) → i < n → cell w OFFSETS i ≡ offset es i
   pub nexts : (i : ℕ) → i < n → cell w NEXTS i ≡ lastIn es (bucket (getD es i noEdge)) i
-  pub heads : (b : ℕ) → b < 256 → cell w HEADS b ≡ lastIn es b n
+  pub heads : (b : ℕ) → b < BUCKETS → cell w HEADS b ≡ lastIn es b n
 
 pub record Keyed (s : List ℕ) (at n : ℕ) (e : Edge) : Type 0 where
   pub fits : Fits e
@@ -131,7 +138,7 @@ pub record Stands (s : List ℕ) (at n to : ℕ) (e : Edge) : Type 0 where
 -- edges that are too many or too long for a listing are not kept: the length is 0 then, which no listing has
 pub record Holds (w : List ℕ) (l : Lattice) (es : List Edge) : Type 0 where
   pub room : END ≤ length w
-  pub short : l .len ≤ 32768
+  pub short : l .len ≤ mostBytes
   pub state : ((l .len ≡ 0) × (overfull es ≡ true)) ⊎ ((l .len ≡ 0 → ⊥) × Kept w (l .count) (l .len) es)
 
 -- a lattice, and a key in s of bucket b
@@ -148,7 +155,7 @@ pub record Search (w s : List ℕ) (at n b : ℕ) : Type 0 where
 unfoldable pub AddingIs : Lattice → List Edge → Edge → Adding → Type 0
 AddingIs l es e Nothing = (l .len ≡ 0) ⊎ (has es e ≡ true)
 AddingIs l es e TooMuch = (l .len ≡ 0 → ⊥) × (has es e ≡ false) × (overfull (es ++ (e ∷ [])) ≡ true)
-AddingIs l es e (Into b) = (l .len ≡ 0 → ⊥) × (has es e ≡ false) × (l .count < 1024) × (l .len + length (edgeBytes e) ≤ 32768) × (b ≡ bucket e)
+AddingIs l es e (Into b) = (l .len ≡ 0 → ⊥) × (has es e ≡ false) × (l .count < mostEdges) × (l .len + length (edgeBytes e) ≤ mostBytes) × (b ≡ bucket e)
 
 -- ---- the end: "over 1,024 edges, over 32,768 bytes, or longer than the output"
 unfoldable pub tooLong : ℕ → List Edge → Bool

@@ -4,6 +4,7 @@
 --     add es e         es with e behind it, unless it has one equal to it; addAll es cs: with each of cs in turn
 --     inactive e       the edge e, not active; a regular edge stays as it is
 --     turnOff es is    es with the edges whose indices are in the list `is` inactive
+--     mostEdges, mostBytes    what a finished listing may hold
 --     overfull es      es is more than a finished listing may hold: 1,024 edges or 32,768 bytes
 --     Assumes nothing.
 use Prim.Native.Nat.{ℕ, zero, suc}
@@ -56,5 +57,12 @@ unfoldable pub turnOff : List Edge → List ℕ → List Edge
 turnOff es [] = es
 turnOff es (i ∷ is) = turnOff (turnOffAt es i) is
 
+-- what a finished listing may hold
+abbrev pub mostEdges : ℕ
+mostEdges = 1024
+
+abbrev pub mostBytes : ℕ
+mostBytes = 32768
+
 unfoldable pub overfull : List Edge → Bool
-overfull es = ltb 1024 (length es) || ltb 32768 (length (listingBytes es))
+overfull es = ltb mostEdges (length es) || ltb mostBytes (length (listingBytes es))

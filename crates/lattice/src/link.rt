@@ -3,15 +3,16 @@ ghost use mathlib.Core.Path.{_≡_};
 ghost use Prim.Native.Nat.{_+_, _*_, _≤_, _<_};
 ghost use lib.ListN.{length};
 ghost use lib.Seq.{sets};
-ghost use Rattle.fields.specs.Fields.{bytesOf};
-ghost use Rattle.lattice.specs.Kept.{linked, END};
+ghost use Rattle.fields.specs.Fields.{bytesOf, u16Limit};
+ghost use Rattle.lattice.specs.Kept.{linked, END, BUCKETS};
+ghost use Rattle.lattice.specs.Lattice.{mostEdges, mostBytes};
 use crate::HEADS;
 use crate::NEXTS;
 use crate::OFFSETS;
 
 // The i-th cell from base on is v.
 fn put_cell(w: &mut [u8], base: usize, i: usize, v: usize)
-    requires { ⌜ (base + 2 * i + 2 ≤ length (now w)) × (v < 65536) ⌝ }
+    requires { ⌜ (base + 2 * i + 2 ≤ length (now w)) × (v < u16Limit) ⌝ }
     ensures { λ _. ⌜ now (w .exit) ≡ sets (now (w .entry)) (base + 2 * i) (bytesOf 2 v) ⌝ }
 {
     fields::write::put_u16(w, base + 2 * i, v as u16);
@@ -19,7 +20,7 @@ fn put_cell(w: &mut [u8], base: usize, i: usize, v: usize)
 
 // The cells and the count with one edge more, the n-th, at offset len.
 pub fn link(w: &mut [u8], n: usize, len: usize, bucket: usize)
-    requires { ⌜ (END ≤ length (now w)) × (n < 1024) × (len ≤ 32768) × (bucket < 256) ⌝ }
+    requires { ⌜ (END ≤ length (now w)) × (n < mostEdges) × (len ≤ mostBytes) × (bucket < BUCKETS) ⌝ }
     ensures { λ _. ⌜ now (w .exit) ≡ linked (now (w .entry)) n len bucket ⌝ }
 {
     let head = fields::u16_at(w, HEADS + 2 * bucket) as usize;

@@ -10,6 +10,7 @@ use lib.ListN.{length}
 use Rattle.fields.specs.Fields.{bytesOf}
 use Rattle.fields.specs.Part.{part}
 use Rattle.edge.specs.Edge.{Text, Edge, edgeBytes, EdgeFits}
+use Rattle.lattice.specs.Kept.{SLACK}
 
 unfoldable pub prefixed : Text → Edge → Edge
 prefixed x e = record { start = e .start; end = e .end; type = e .type; txt = x ++ e .txt; num = e .num }
@@ -23,4 +24,4 @@ pub record Source (w : List ℕ) (len at to k : ℕ) (e : Edge) : Type 0 where
   pub there : part w at (length (edgeBytes e)) ≡ edgeBytes e
   pub ends : to ≡ at + length (edgeBytes e)
   pub inside : to ≤ len
-  pub short : length (edgeBytes e) + k ≤ 2048
+  pub short : length (edgeBytes e) + k ≤ SLACK

@@ -5,6 +5,7 @@ ghost use Prim.Native.Nat.{_+_, _-_, _*_, _≤_, _<_};
 ghost use lib.ListN.{length};
 ghost use lib.Seq.{sets};
 ghost use Rattle.fields.specs.Part.{part};
+ghost use Rattle.fields.specs.Fields.{u16Limit};
 ghost use Rattle.edge.specs.Edge.{Edge};
 ghost use Rattle.edge.specs.Write.{Put};
 ghost use Rattle.lattice.specs.Lattice.{add};
@@ -86,7 +87,7 @@ fn compose(
     to: usize,
     sep: &[u8],
 ) -> usize
-    requires { ⌜ (at + 2 ≤ txt) × (txt ≤ to) × (to ≤ len) × (len + (to - at) + length (now sep) ≤ length (now w)) × (length (now sep) + n < 65536) ⌝ }
+    requires { ⌜ (at + 2 ≤ txt) × (txt ≤ to) × (to ≤ len) × (len + (to - at) + length (now sep) ≤ length (now w)) × (length (now sep) + n < u16Limit) ⌝ }
     ensures { λ r. ⌜ (r ≡ len + (to - at) + length (now (sep .entry))) × Put (now (w .entry)) (now (w .exit)) len r (prefixedBytes (now (w .entry)) at txt n to (now (sep .entry))) ⌝ }
 {
     let head = txt - 2 - at;

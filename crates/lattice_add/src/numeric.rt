@@ -6,6 +6,7 @@ ghost use Rattle.edge.specs.Edge.{Edge};
 ghost use Rattle.edge.specs.Write.{numeric, Writable};
 ghost use Rattle.lattice.specs.Lattice.{add};
 ghost use Rattle.lattice.specs.Kept.{Holds, SameBehind};
+ghost use Rattle.fields.specs.Fields.{u16Limit};
 use edge::NumFields;
 use edge::Written;
 use lattice::Lattice;
@@ -24,7 +25,7 @@ pub fn add_numeric(
     c: &[u8],
     v: &[u8],
 ) -> Lattice
-    requires { ⌜ ((es : List Edge) × Holds (now w) l es) × (start .0 < 65536) × (end .0 < 65536) × Writable (now o) (now c) (now v) d × (length (now ty) + length (now txt) + d .orig .len + d .script .len + d .«value_s» .len ≤ 1990) ⌝ }
+    requires { ⌜ ((es : List Edge) × Holds (now w) l es) × (start .0 < u16Limit) × (end .0 < u16Limit) × Writable (now o) (now c) (now v) d × (length (now ty) + length (now txt) + d .orig .len + d .script .len + d .«value_s» .len ≤ 1990) ⌝ }
     ensures { λ r. ⌜ SameBehind (now (w .entry)) (now (w .exit)) × ((es : List Edge) → Holds (now (w .entry)) l es → Holds (now (w .exit)) r (add es (numeric (start .0) (end .0) (now (ty .entry)) (now (txt .entry)) (now (o .entry)) (now (c .entry)) (now (v .entry)) d))) ⌝ }
 {
     let len = l.len;

@@ -6,6 +6,7 @@ ghost use Rattle.edge.specs.Edge.{Edge};
 ghost use Rattle.edge.specs.Write.{regular};
 ghost use Rattle.lattice.specs.Lattice.{add};
 ghost use Rattle.lattice.specs.Kept.{Holds, SameBehind};
+ghost use Rattle.fields.specs.Fields.{u16Limit};
 use edge::Written;
 use lattice::Lattice;
 use text::Place;
@@ -19,7 +20,7 @@ pub fn add_regular(
     ty: &[u8],
     txt: &[u8],
 ) -> Lattice
-    requires { ⌜ ((es : List Edge) × Holds (now w) l es) × (start .0 < 65536) × (end .0 < 65536) × (length (now ty) + length (now txt) ≤ 2000) ⌝ }
+    requires { ⌜ ((es : List Edge) × Holds (now w) l es) × (start .0 < u16Limit) × (end .0 < u16Limit) × (length (now ty) + length (now txt) ≤ 2000) ⌝ }
     ensures { λ r. ⌜ SameBehind (now (w .entry)) (now (w .exit)) × ((es : List Edge) → Holds (now (w .entry)) l es → Holds (now (w .exit)) r (add es (regular (start .0) (end .0) (now (ty .entry)) (now (txt .entry))))) ⌝ }
 {
     let len = l.len;

@@ -8,6 +8,7 @@ ghost use mathlib.Core.Bool.{true};
 ghost use Prim.Native.Nat.{_≤_};
 ghost use lib.ListN.{length};
 ghost use Rattle.text.specs.Text.{chars, wellFormed};
+ghost use Rattle.text.specs.Line.{maxChars};
 ghost use Rattle.table.specs.Layout.{listAt};
 ghost use Rattle.table.specs.Answers.{partOf, Within, tableOf};
 ghost use Rattle.numbers.specs.Ready.{Ready, Offsets};
@@ -15,7 +16,7 @@ ghost use Rattle.markers.specs.Marks.{Formed, standsFrom, anyStands, mar
 
 // Whether the bytes m stand at one of the n places of the line.
 fn stands_somewhere(line: &[u8], offs: &[usize; 257], n: usize, m: &[u8]) -> bool
-    requires { ⌜ Offsets (now line) (now offs) × (length (chars (now line)) ≡ n) × (n ≤ 256) × (wellFormed (now m) ≡ true) ⌝ }
+    requires { ⌜ Offsets (now line) (now offs) × (length (chars (now line)) ≡ n) × (n ≤ maxChars) × (wellFormed (now m) ≡ true) ⌝ }
     ensures { λ r. ⌜ r ≡ standsFrom (chars (now (line .entry))) 0 n (now (m .entry)) ⌝ }
 {
     let mut p = 0;
@@ -31,7 +32,7 @@ fn stands_somewhere(line: &[u8], offs: &[usize; 257], n: usize, m: &[u8]) -> boo
 
 // The same of a text of the table.
 fn text_somewhere(line: &[u8], offs: &[usize; 257], n: usize, table: &[u8], m: Part) -> bool
-    requires { ⌜ Offsets (now line) (now offs) × (length (chars (now line)) ≡ n) × (n ≤ 256) × Within (now table) m × (wellFormed (partOf (now table) m) ≡ true) ⌝ }
+    requires { ⌜ Offsets (now line) (now offs) × (length (chars (now line)) ≡ n) × (n ≤ maxChars) × Within (now table) m × (wellFormed (partOf (now table) m) ≡ true) ⌝ }
     ensures { λ r. ⌜ r ≡ standsFrom (chars (now (line .entry))) 0 n (partOf (now (table .entry)) m) ⌝ }
 {
     let from = m.at;
@@ -41,7 +42,7 @@ fn text_somewhere(line: &[u8], offs: &[usize; 257], n: usize, table: &[u8], m: P
 
 // Whether a text of a list of the table stands at one of the n places.
 fn any_of(line: &[u8], offs: &[usize; 257], n: usize, table: &[u8], list: usize) -> bool
-    requires { ⌜ Offsets (now line) (now offs) × (length (chars (now line)) ≡ n) × (n ≤ 256) × Formed (listAt (now table) list) ⌝ }
+    requires { ⌜ Offsets (now line) (now offs) × (length (chars (now line)) ≡ n) × (n ≤ maxChars) × Formed (listAt (now table) list) ⌝ }
     ensures { λ r. ⌜ r ≡ anyStands (chars (now (line .entry))) 0 n (listAt (now (table .entry)) list) ⌝ }
 {
     if table.len() <= list {

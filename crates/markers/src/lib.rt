@@ -8,6 +8,7 @@ ghost use mathlib.Core.Bool.{true};
 ghost use Prim.Native.Nat.{_≤_};
 ghost use lib.ListN.{length};
 ghost use Rattle.text.specs.Text.{chars, wellFormed};
+ghost use Rattle.text.specs.Line.{maxChars};
 ghost use Rattle.numbers.specs.Ready.{Offsets};
 ghost use Rattle.markers.specs.Marks.{bytesAt, NotBefore, signOf};
 
@@ -55,7 +56,7 @@ pub fn stands(line: &[u8], at: usize, m: &[u8]) -> bool
 
 // By the sign's characters, counted back from the place.
 fn counted_back(line: &[u8], offs: &[usize; 257], p: Place, m: &[u8]) -> Sign
-    requires { ⌜ (length (chars (now line)) ≤ 256) × Offsets (now line) (now offs) × (p .0 ≤ length (chars (now line))) × (wellFormed (now m) ≡ true) ⌝ }
+    requires { ⌜ (length (chars (now line)) ≤ maxChars) × Offsets (now line) (now offs) × (p .0 ≤ length (chars (now line))) × (wellFormed (now m) ≡ true) ⌝ }
     ensures { λ r. ⌜ r ≡ signOf (chars (now (line .entry))) (p .0) (now (m .entry)) ⌝ }
 {
     let place = p.0;
@@ -74,7 +75,7 @@ fn counted_back(line: &[u8], offs: &[usize; 257], p: Place, m: &[u8]) -> Sign
 
 // The sign m of the table directly before a place of the line. Its characters are counted only where its last byte stands there.
 pub fn sign_before(line: &[u8], offs: &[usize; 257], p: Place, m: &[u8]) -> Sign
-    requires { ⌜ (length (chars (now line)) ≤ 256) × Offsets (now line) (now offs) × (p .0 ≤ length (chars (now line))) × (wellFormed (now m) ≡ true) ⌝ }
+    requires { ⌜ (length (chars (now line)) ≤ maxChars) × Offsets (now line) (now offs) × (p .0 ≤ length (chars (now line))) × (wellFormed (now m) ≡ true) ⌝ }
     ensures { λ r. ⌜ r ≡ signOf (chars (now (line .entry))) (p .0) (now (m .entry)) ⌝ }
 {
     let place = p.0;

@@ -30,6 +30,7 @@ use Rattle.numbers.specs.Fractions.{fractions}
 use Rattle.numbers.specs.Signs.{signs}
 use Rattle.numbers.specs.Separators.{separate}
 use Rattle.numbers.specs.Fallback.{fallback}
+use Rattle.numbers.specs.Ready.{workSize}
 
 -- "order of first addition, given edges first": then characters, the joined edges of D1 to G4
 unfoldable pub afterPasses : Table → List ℕ → List Edge → List Edge
@@ -80,7 +81,7 @@ afterLineCheck line table given out (Chars n) = afterTableCheck (chars line) out
 
 -- 1: "work space under 65,536 bytes"
 unfoldable pub addNumbers : List ℕ → List ℕ → List ℕ → ℕ → ℕ → Answer
-addNumbers line table given work out = cond (ltb work 65536) (refused 1 0) (afterLineCheck line table given out (lineCheck line))
+addNumbers line table given work out = cond (ltb work workSize) (refused 1 0) (afterLineCheck line table given out (lineCheck line))
 
 -- "the output buffer holds what it held before"; behind a listing too
 abbrev pub outAfter : List ℕ → Answer → List ℕ

@@ -8,22 +8,24 @@ use mathlib.Core.Path.{_≡_}
 use mathlib.Core.Bool.{false}
 use mathlib.Core.List.{List}
 use mathlib.Core.Option.{some}
-use Prim.Native.Nat.{ℕ, _≤_}
+use Prim.Native.Nat.{ℕ, _*_, _≤_}
 use lib.ListN.{length}
 use Rattle.whole.specs.Whole.{TOP}
 use Rattle.edge.specs.Edge.{Text, Edge, Numeric, f64Bits}
 use Rattle.edge.specs.Legal.{Legal}
 use Rattle.pass_list.specs.StoredEdge.{Every}
+use Rattle.table.specs.Layout.{maxString}
+use Rattle.text.specs.Line.{maxChars}
 
 abbrev pub Legals : ℕ → List Edge → Type 0
 Legals n = Every (Legal false n)
 
 pub record Short (e : Edge) (x : Numeric) : Type 0 where
-  pub type : length (e .type) ≤ 60
-  pub txt : length (e .txt) ≤ 256
-  pub orig : length (x .orig) ≤ 1024
-  pub script : (t : Text) → x .script ≡ some t → length t ≤ 60
-  pub value-s : (t : Text) → x .value-s ≡ some t → length t ≤ 256
+  pub type : length (e .type) ≤ maxString
+  pub txt : length (e .txt) ≤ maxChars
+  pub orig : length (x .orig) ≤ 4 * maxChars
+  pub script : (t : Text) → x .script ≡ some t → length t ≤ maxString
+  pub value-s : (t : Text) → x .value-s ≡ some t → length t ≤ maxChars
 
 pub record CallEdge (n : ℕ) (e : Edge) : Type 0 where
   pub legal : Legal false n e

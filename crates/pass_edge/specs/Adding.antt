@@ -10,6 +10,7 @@ use Prim.Native.Nat.{ℕ, _≤_}
 use lib.Dec.{eqb}
 use lib.ListN.{length}
 use Rattle.text.specs.Text.{chars}
+use Rattle.text.specs.Line.{maxChars}
 use Rattle.pass_list.specs.declared.record.PassEdge.{PassEdge}
 use Rattle.pass_list.specs.StoredEdge.{StoredEdge}
 use Rattle.pass_list.specs.Edges.{edgeOf}
@@ -26,7 +27,7 @@ pub record Addable (s : List ℕ) (l : Lattice) (line offs t : List ℕ) (e : Pa
   pub holds : (es : List Edge) × Holds s l es
   pub offsets : Offsets line offs
   pub stored-edge : (x : StoredEdge) × StoredIs line t e x
-  pub few : length (chars line) ≤ 256
+  pub few : length (chars line) ≤ maxChars
 
 pub record Added (line t : List ℕ) (e : PassEdge) (s : List ℕ) (l : Lattice) (u : List ℕ) (r : Lattice) : Type 0 where
   pub frame : SameBehind s u

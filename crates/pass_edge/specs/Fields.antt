@@ -26,6 +26,7 @@ use Rattle.edge.specs.Edge.{flag}
 use Rattle.edge.specs.View.{noPart}
 use Rattle.edge.specs.Write.{fieldsOf}
 use Rattle.pass_edge.specs.declared.Fraction.{Fraction}
+use Rattle.text.specs.Line.{maxChars}
 
 -- as `edgeOf` has it
 unfoldable pub storedFraction : List ℕ → ℕ → ℕ → Option (ℕ × ℕ)
@@ -38,8 +39,8 @@ abbrev pub FractionIs : Fraction → Option (ℕ × ℕ) → Type 0
 FractionIs f o = optionally (f .there) (f .numerator, f .denominator) ≡ o
 
 pub record Listable (offs : List ℕ) (e : PassEdge) : Type 0 where
-  pub starts : e .start .0 ≤ 256
-  pub ends : e .end .0 ≤ 256
+  pub starts : e .start .0 ≤ maxChars
+  pub ends : e .end .0 ≤ maxChars
   pub rises : getD offs (e .start .0) 0 ≤ getD offs (e .end .0) 0
   pub value : T (not (isNan (e .num .value)))
   pub mult : T (not (isNan (e .num .«base_multiplier»)))

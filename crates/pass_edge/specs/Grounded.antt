@@ -14,7 +14,7 @@ use lib.ListN.{length}
 use Rattle.fields.specs.Part.{part}
 use Rattle.text.specs.Text.{chars, wellFormed}
 use Rattle.table.specs.Table.{Record}
-use Rattle.table.specs.Layout.{Is, readRecord, numbersIn}
+use Rattle.table.specs.Layout.{Is, readRecord, numbersIn, maxString}
 use Rattle.table.specs.Check.{legalTexts, legalNumbers}
 use Rattle.pass_list.specs.declared.record.PassEdge.{PassEdge}
 use Rattle.pass_list.specs.StoredEdge.{StoredEdge, Small, Every, EdgeIs}
@@ -29,7 +29,7 @@ pub record LegalAt (t : List ℕ) (at : ℕ) : Type 0 where
 
 pub record ScriptAt (t : List ℕ) (at n : ℕ) : Type 0 where
   pub within : at + n ≤ length t
-  pub short : n ≤ 60
+  pub short : n ≤ maxString
   pub formed : wellFormed (part t at n) ≡ true
 
 pub record Rooted (t : List ℕ) (x : StoredEdge) : Type 0 where

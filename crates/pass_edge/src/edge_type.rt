@@ -6,6 +6,7 @@ ghost use Rattle.pass_list.specs.StoredEdge.{StoredEdge, EdgeIs};
 ghost use Rattle.pass_list.specs.Edges.{kindName};
 ghost use Rattle.pass_edge.specs.Grounded.{Rooted};
 ghost use Rattle.pass_edge.specs.Texts.{typeOf, Front};
+ghost use Rattle.table.specs.Layout.{maxString};
 use pass_list::record::PassEdge;
 
 // Two letters go to the front of a buffer.
@@ -40,7 +41,7 @@ fn put_kind(buf: &mut [u8], kind: u16) -> usize
 
 // The type of a stored edge goes to the front of a buffer: how many bytes.
 pub fn type_of(buf: &mut [u8], table: &[u8], x: PassEdge) -> usize
-    requires { ⌜ ((i : StoredEdge) × EdgeIs x i × Rooted (now table) i) × (60 ≤ length (now buf)) ⌝ }
+    requires { ⌜ ((i : StoredEdge) × EdgeIs x i × Rooted (now table) i) × (maxString ≤ length (now buf)) ⌝ }
     ensures { λ r. ⌜ ((i : StoredEdge) → EdgeIs x i → Front (now (buf .entry)) (now (buf .exit)) r (typeOf (now (table .entry)) i)) ⌝ }
 {
     if x.kind == 0 {

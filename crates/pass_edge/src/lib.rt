@@ -11,6 +11,7 @@ ghost use Prim.Native.Nat.{ℕ, _+_, _/_, _%_, _≤_};
 ghost use mathlib.Core.List.{List};
 ghost use lib.ListN.{length, getD};
 ghost use Rattle.text.specs.Text.{chars};
+ghost use Rattle.text.specs.Line.{maxChars};
 ghost use Rattle.pass_list.specs.Edges.{between};
 ghost use Rattle.numbers.specs.Ready.{Offsets};
 ghost use Rattle.pass_edge.specs.Grounded.{LegalAt};
@@ -40,7 +41,7 @@ pub fn rom_at(table: &[u8], at: usize) -> &[u8]
 
 // The bytes of the line between two places.
 pub fn line_part<'a>(line: &'a [u8], offs: &[usize; 257], start: Place, end: Place) -> &'a [u8]
-    requires { ⌜ Offsets (now line) (now offs) × (start .0 ≤ end .0) × (end .0 ≤ length (chars (now line))) × (length (chars (now line)) ≤ 256) ⌝ }
+    requires { ⌜ Offsets (now line) (now offs) × (start .0 ≤ end .0) × (end .0 ≤ length (chars (now line))) × (length (chars (now line)) ≤ maxChars) ⌝ }
     ensures { λ r. ⌜ now r ≡ between (chars (now (line .entry))) (start .0) (end .0) ⌝ }
 {
     let first = start.0;

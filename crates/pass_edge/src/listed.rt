@@ -4,6 +4,7 @@ ghost use Prim.Native.Nat.{_*_, _≤_};
 ghost use mathlib.Core.List.{List};
 ghost use lib.ListN.{length};
 ghost use Rattle.text.specs.Text.{chars};
+ghost use Rattle.text.specs.Line.{maxChars};
 ghost use Rattle.pass_list.specs.StoredEdge.{StoredEdge};
 ghost use Rattle.pass_list.specs.Edges.{edgeOf};
 ghost use Rattle.numbers.specs.Ready.{Offsets};
@@ -94,7 +95,7 @@ pub fn add_texts(
     ty: &[u8],
     txt: &[u8],
 ) -> Lattice
-    requires { ⌜ ((es : List Edge) × Holds (now w) l es) × Offsets (now line) (now offs) × ((i : StoredEdge) × TextsAre (now line) (now table) x (now ty) (now txt) i) × (length (chars (now line)) ≤ 256) × FractionIs f (storedFraction (now table) (x .kind) (x .«record_at» .0)) ⌝ }
+    requires { ⌜ ((es : List Edge) × Holds (now w) l es) × Offsets (now line) (now offs) × ((i : StoredEdge) × TextsAre (now line) (now table) x (now ty) (now txt) i) × (length (chars (now line)) ≤ maxChars) × FractionIs f (storedFraction (now table) (x .kind) (x .«record_at» .0)) ⌝ }
     ensures { λ r. ⌜ SameBehind (now (w .entry)) (now (w .exit)) × ((es : List Edge) (i : StoredEdge) → Holds (now (w .entry)) l es → TextsAre (now (line .entry)) (now (table .entry)) x (now (ty .entry)) (now (txt .entry)) i → Holds (now (w .exit)) r (add es (listedEdge (edgeOf (chars (now (line .entry))) (now (table .entry)) i)))) ⌝ }
 {
     let d = fields_of(offs, x, f, txt.len());

@@ -5,11 +5,12 @@ ghost use mathlib.Core.Bool.{true};
 ghost use Prim.Native.Nat.{_≤_};
 ghost use lib.ListN.{length};
 ghost use Rattle.text.specs.Text.{chars, wellFormed};
+ghost use Rattle.text.specs.Line.{maxChars, PLACES};
 ghost use Rattle.numbers.specs.Ready.{Offsets};
 
 // The offset of each place of a well-formed line of at most 256 characters, its end included; the rest of offs stays as it was.
 pub fn place_offsets(line: &[u8], offs: &mut [usize; 257])
-    requires { ⌜ (wellFormed (now line) ≡ true) × (length (chars (now line)) ≤ 256) × (length (now offs) ≡ 257) ⌝ }
+    requires { ⌜ (wellFormed (now line) ≡ true) × (length (chars (now line)) ≤ maxChars) × (length (now offs) ≡ PLACES) ⌝ }
     ensures { λ _. ⌜ Offsets (now (line .entry)) (now (offs .exit)) ⌝ }
 {
     let mut count = 0;

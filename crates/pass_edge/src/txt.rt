@@ -2,6 +2,7 @@
 ghost use Prim.Native.Nat.{_≤_};
 ghost use lib.ListN.{length};
 ghost use Rattle.text.specs.Text.{chars};
+ghost use Rattle.text.specs.Line.{maxChars};
 ghost use Rattle.pass_list.specs.StoredEdge.{StoredEdge, EdgeIs};
 ghost use Rattle.pass_list.specs.Edges.{txtOf};
 ghost use Rattle.numbers.specs.Ready.{Offsets};
@@ -21,7 +22,7 @@ fn char_txt(
     start: Place,
     end: Place,
 ) -> usize
-    requires { ⌜ Offsets (now line) (now offs) × (start .0 ≤ end .0) × (end .0 ≤ length (chars (now line))) × (length (chars (now line)) ≤ 256) × (length (charTxt (chars (now line)) (now table) at (start .0) (end .0)) ≤ length (now buf)) × LegalAt (now table) at ⌝ }
+    requires { ⌜ Offsets (now line) (now offs) × (start .0 ≤ end .0) × (end .0 ≤ length (chars (now line))) × (length (chars (now line)) ≤ maxChars) × (length (charTxt (chars (now line)) (now table) at (start .0) (end .0)) ≤ length (now buf)) × LegalAt (now table) at ⌝ }
     ensures { λ r. ⌜ Front (now (buf .entry)) (now (buf .exit)) r (charTxt (chars (now (line .entry))) (now (table .entry)) at (start .0) (end .0)) ⌝ }
 {
     if table[at + 4] / bits::ROM % 2 == 1 {
@@ -32,7 +33,7 @@ fn char_txt(
 
 // The txt of a stored edge goes to the front of a buffer: how many bytes. D1 keeps leading zeros, the other joined txt is the value.
 pub fn txt_of(buf: &mut [u8], line: &[u8], offs: &[usize; 257], table: &[u8], x: PassEdge) -> usize
-    requires { ⌜ Offsets (now line) (now offs) × ((i : StoredEdge) × StoredIs (now line) (now table) x i) × (length (chars (now line)) ≤ 256) × (256 ≤ length (now buf)) ⌝ }
+    requires { ⌜ Offsets (now line) (now offs) × ((i : StoredEdge) × StoredIs (now line) (now table) x i) × (length (chars (now line)) ≤ maxChars) × (maxChars ≤ length (now buf)) ⌝ }
     ensures { λ r. ⌜ ((i : StoredEdge) → EdgeIs x i → Front (now (buf .entry)) (now (buf .exit)) r (txtOf (chars (now (line .entry))) (now (table .entry)) i)) ⌝ }
 {
     if x.kind == 0 {

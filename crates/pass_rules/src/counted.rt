@@ -7,6 +7,7 @@ ghost use Rattle.passes.specs.Passes.{powerOfTen};
 ghost use Rattle.pass_list.specs.StoredEdge.{StoredEdge, passEdge, EdgeIs};
 ghost use Rattle.pass_list.specs.StoredPass.{retags, retagged, counted};
 ghost use Rattle.pass_list.specs.Answers.{passOf};
+ghost use Rattle.fields.specs.Fields.{u16Limit};
 use pass_list::run::Pass;
 use pass_list::record::PassEdge;
 
@@ -25,7 +26,7 @@ fn is_power_of_10(n: u64) -> bool
 
 // G4: whether e counts as a tenth of the last one's base.
 fn retags(last: PassEdge, e: PassEdge, right: u64) -> bool
-    requires { ⌜ e .start .0 < 65536 ⌝ }
+    requires { ⌜ e .start .0 < u16Limit ⌝ }
     ensures { λ r. ⌜ ((x y : StoredEdge) → last ≡ passEdge x → e ≡ passEdge y → right ≡ y .value → r ≡ retags x y) ⌝ }
 {
     let one_place = e.end.0 == e.start.0 + 1;

@@ -20,12 +20,13 @@ use Rattle.paths.specs.declared.Size.{Size}
 use Rattle.paths.specs.declared.Size.the-variants.{Fits, Over}
 use Rattle.paths.specs.Best.{Best, kept}
 use Rattle.paths.specs.Path.{rights, pathListing}
+use Rattle.text.specs.Line.{maxChars}
 
 abbrev pub byTable : List ℕ → List ℕ → List ℕ → ℕ → Best
 byTable s tops ats p = kept s (getD tops p 0) (getD ats p 0)
 
 abbrev pub Rights : Bool → List ℕ → ℕ → List ℕ → List ℕ → Type 0
-Rights skip s k tops ats = (p : ℕ) → p < 256 → byTable s tops ats p ≡ rights skip s k p
+Rights skip s k tops ats = (p : ℕ) → p < maxChars → byTable s tops ats p ≡ rights skip s k p
 
 -- an edge that starts at place p
 pub record Step (s : List ℕ) (p o : ℕ) : Type 0 where
@@ -33,7 +34,7 @@ pub record Step (s : List ℕ) (p o : ℕ) : Type 0 where
   pub leads-on : p < edgeAt s o .end
 
 abbrev pub Steps : List ℕ → List ℕ → List ℕ → Type 0
-Steps s tops ats = (p : ℕ) → p < 256 → 0 < getD tops p 0 → Step s p (getD ats p 0)
+Steps s tops ats = (p : ℕ) → p < maxChars → 0 < getD tops p 0 → Step s p (getD ats p 0)
 
 unfoldable pub hopOf : List ℕ → Best → Hop
 hopOf s none = Pass

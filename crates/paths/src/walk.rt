@@ -5,6 +5,7 @@ ghost use lib.ListN.{length};
 ghost use lib.Seq.{sets};
 ghost use Rattle.paths.specs.Path.{path, edgeParts};
 ghost use Rattle.paths.specs.Table.{byTable, Steps, hopOf, sizeOf};
+ghost use Rattle.text.specs.Line.{maxChars};
 use crate::Hop;
 use crate::Size;
 use text::Offset;
@@ -12,7 +13,7 @@ use text::Place;
 
 // The step of the path from a place.
 fn hop_from(s: &[u8], tops: &[usize; 256], ats: &[usize; 256], place: Place) -> Hop
-    requires { ⌜ Steps (now s) (now tops) (now ats) × (place .0 < 256) ⌝ }
+    requires { ⌜ Steps (now s) (now tops) (now ats) × (place .0 < maxChars) ⌝ }
     ensures { λ r. ⌜ r ≡ hopOf (now (s .entry)) (byTable (now (s .entry)) (now (tops .entry)) (now (ats .entry)) (place .0)) ⌝ }
 {
     let p = place.0;
@@ -36,7 +37,7 @@ pub fn path_size(
     end: Place,
     room: usize,
 ) -> Size
-    requires { ⌜ Steps (now s) (now tops) (now ats) × (end .0 ≤ 256) ⌝ }
+    requires { ⌜ Steps (now s) (now tops) (now ats) × (end .0 ≤ maxChars) ⌝ }
     ensures { λ r. ⌜ r ≡ sizeOf (now (s .entry)) (path (byTable (now (s .entry)) (now (tops .entry)) (now (ats .entry))) (start .0) (end .0)) room ⌝ }
 {
     if room < 2 {
@@ -74,7 +75,7 @@ pub fn write_path(
     end: Place,
     out: &mut [u8],
 )
-    requires { ⌜ Steps (now s) (now tops) (now ats) × (end .0 ≤ 256) × (2 + length (edgeParts (now s) (path (byTable (now s) (now tops) (now ats)) (start .0) (end .0))) ≤ length (now out)) ⌝ }
+    requires { ⌜ Steps (now s) (now tops) (now ats) × (end .0 ≤ maxChars) × (2 + length (edgeParts (now s) (path (byTable (now s) (now tops) (now ats)) (start .0) (end .0))) ≤ length (now out)) ⌝ }
     ensures { λ _. ⌜ now (out .exit) ≡ sets (now (out .entry)) 2 (edgeParts (now (s .entry)) (path (byTable (now (s .entry)) (now (tops .entry)) (now (ats .entry))) (start .0) (end .0))) ⌝ }
 {
     let last = end.0;

@@ -6,6 +6,8 @@ use mathlib.Core.List.{List}
 use Prim.Native.Nat.{ℕ}
 use Rattle.grammar.specs.PlainBytes.{plainBytes}
 use Rattle.numbers.specs.Call.{Answer, addNumbers, noEdges}
+use Rattle.numbers.specs.Ready.{workSize}
+use Rattle.lattice.specs.Lattice.{mostBytes}
 
 abbrev pub plainAnswer : List ℕ → Answer
-plainAnswer line = addNumbers line plainBytes noEdges 65536 32768
+plainAnswer line = addNumbers line plainBytes noEdges workSize mostBytes

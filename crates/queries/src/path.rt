@@ -5,6 +5,7 @@ ghost use lib.ListN.{length, replicate};
 ghost use Rattle.paths.specs.Reading.{Spans};
 ghost use Rattle.paths.specs.Path.{rights, path, pathListing, fitting, pathOut, written, after};
 ghost use Rattle.paths.specs.Table.{Rights};
+ghost use Rattle.text.specs.Line.{maxChars};
 use paths::PathAnswer;
 use paths::Query;
 use paths::ReadCheck;
@@ -24,7 +25,7 @@ fn right_neighbors(
     tops: &mut [usize; 256],
     ats: &mut [usize; 256],
 )
-    requires { ⌜ Spans 256 count (now s) 2 × (now tops ≡ replicate 256 0) × (now ats ≡ replicate 256 0) ⌝ }
+    requires { ⌜ Spans maxChars count (now s) 2 × (now tops ≡ replicate maxChars 0) × (now ats ≡ replicate maxChars 0) ⌝ }
     ensures { λ _. ⌜ Rights skip (now (s .entry)) count (now (tops .exit)) (now (ats .exit)) ⌝ }
 {
     let mut at = 2;
@@ -47,7 +48,7 @@ fn path_in(
     skip: bool,
     out: &mut [u8],
 ) -> PathAnswer
-    requires { ⌜ Spans 256 count (now listing) 2 × (end .0 ≤ 256) ⌝ }
+    requires { ⌜ Spans maxChars count (now listing) 2 × (end .0 ≤ maxChars) ⌝ }
     ensures answer { λ r. ⌜ r ≡ written (fitting (length (now (out .entry))) (pathListing (now (listing .entry)) (path (rights skip (now (listing .entry)) count) (start .0) (end .0)))) ⌝ }
     ensures output { λ _. ⌜ now (out .exit) ≡ after (now (out .entry)) (fitting (length (now (out .entry))) (pathListing (now (listing .entry)) (path (rights skip (now (listing .entry)) count) (start .0) (end .0)))) ⌝ }
 {

@@ -14,13 +14,14 @@ ghost use Rattle.lattice_add.specs.Copy.{Source};
 ghost use Rattle.numbers.specs.CallEdge.{CallEdge, CallEdges};
 ghost use Rattle.numbers.specs.Separators.{copyOf, separate};
 ghost use Rattle.separators.specs.Marks.{apartBy, setApart, allApart};
+ghost use Rattle.text.specs.Line.{maxChars};
 use edge::bits;
 use lattice::Lattice;
 use marks::Asked;
 
 // Whether an edge is numeric, starts at a place that has a mark, and begins with a digit: few of them have to be asked for the last.
 fn is_apart(s: &[u8], at: usize, marks: &[bool; 257]) -> bool
-    requires { ⌜ Spanned 256 (now s) at ⌝ }
+    requires { ⌜ Spanned maxChars (now s) at ⌝ }
     ensures { λ r. ⌜ r ≡ apartBy (now (marks .entry)) (edgeAt (now (s .entry)) at) ⌝ }
 {
     let e = edge::head::edge_at(s, at);
@@ -60,8 +61,8 @@ fn end_of(w: &[u8], l: Lattice, i: usize) -> usize
 
 // The i-th edge is set apart, if the marks say so. The copy is made before its original turns inactive: it is active as that was.
 fn set_apart(w: &mut [u8], l: Lattice, i: usize, marks: &[bool; 257]) -> Lattice
-    requires { ⌜ ((n : ℕ) × (n ≤ 256) × ((es : List Edge) × Holds (now w) l es × (i < length es) × CallEdge n (getD es i noEdge))) ⌝ }
-    ensures { λ r. ⌜ SameBehind (now (w .entry)) (now (w .exit)) × ((n : ℕ) (es : List Edge) → n ≤ 256 → Holds (now (w .entry)) l es → i < length es → CallEdge n (getD es i noEdge) → Holds (now (w .exit)) r (setApart (now (marks .entry)) es i)) ⌝ }
+    requires { ⌜ ((n : ℕ) × (n ≤ maxChars) × ((es : List Edge) × Holds (now w) l es × (i < length es) × CallEdge n (getD es i noEdge))) ⌝ }
+    ensures { λ r. ⌜ SameBehind (now (w .entry)) (now (w .exit)) × ((n : ℕ) (es : List Edge) → n ≤ maxChars → Holds (now (w .entry)) l es → i < length es → CallEdge n (getD es i noEdge) → Holds (now (w .exit)) r (setApart (now (marks .entry)) es i)) ⌝ }
 {
     if l.len == 0 {
         return l;
@@ -81,8 +82,8 @@ fn set_apart(w: &mut [u8], l: Lattice, i: usize, marks: &[bool; 257]) -> Lattice
 
 // All edges that are there are set apart in turn, if the marks say so. The copies are not looked at.
 fn set_all_apart(w: &mut [u8], l: Lattice, marks: &[bool; 257]) -> Lattice
-    requires { ⌜ ((n : ℕ) × (n ≤ 256) × ((es : List Edge) × Holds (now w) l es × (length es ≡ l .count) × CallEdges n es)) ⌝ }
-    ensures { λ r. ⌜ SameBehind (now (w .entry)) (now (w .exit)) × ((n : ℕ) (es : List Edge) → n ≤ 256 → Holds (now (w .entry)) l es → length es ≡ l .count → CallEdges n es → Holds (now (w .exit)) r (allApart (now (marks .entry)) es 0 (length es))) ⌝ }
+    requires { ⌜ ((n : ℕ) × (n ≤ maxChars) × ((es : List Edge) × Holds (now w) l es × (length es ≡ l .count) × CallEdges n es)) ⌝ }
+    ensures { λ r. ⌜ SameBehind (now (w .entry)) (now (w .exit)) × ((n : ℕ) (es : List Edge) → n ≤ maxChars → Holds (now (w .entry)) l es → length es ≡ l .count → CallEdges n es → Holds (now (w .exit)) r (allApart (now (marks .entry)) es 0 (length es))) ⌝ }
 {
     let count = l.count;
     let mut grown = l;
@@ -96,8 +97,8 @@ fn set_all_apart(w: &mut [u8], l: Lattice, marks: &[bool; 257]) -> Lattice
 
 // F1: numbers that follow a digit are set apart.
 pub fn separate(w: &mut [u8], l: Lattice) -> Lattice
-    requires { ⌜ ((n : ℕ) × (n ≤ 256) × ((es : List Edge) × Holds (now w) l es × CallEdges n es)) ⌝ }
-    ensures { λ r. ⌜ SameBehind (now (w .entry)) (now (w .exit)) × ((n : ℕ) (es : List Edge) → n ≤ 256 → Holds (now (w .entry)) l es → CallEdges n es → Holds (now (w .exit)) r (separate es)) ⌝ }
+    requires { ⌜ ((n : ℕ) × (n ≤ maxChars) × ((es : List Edge) × Holds (now w) l es × CallEdges n es)) ⌝ }
+    ensures { λ r. ⌜ SameBehind (now (w .entry)) (now (w .exit)) × ((n : ℕ) (es : List Edge) → n ≤ maxChars → Holds (now (w .entry)) l es → CallEdges n es → Holds (now (w .exit)) r (separate es)) ⌝ }
 {
     if l.len == 0 {
         return l;

@@ -11,7 +11,8 @@ ghost use mathlib.Core.List.{List, _∷_, [], _++_};
 ghost use Prim.Native.Nat.{_+_, _≤_};
 ghost use lib.ListN.{length};
 ghost use Rattle.text.specs.Text.{chars, wellFormed};
-ghost use Rattle.table.specs.Layout.{listAt};
+ghost use Rattle.text.specs.Line.{maxChars};
+ghost use Rattle.table.specs.Layout.{listAt, maxString};
 ghost use Rattle.table.specs.Answers.{partOf, Within};
 ghost use Rattle.edge.specs.Edge.{Edge};
 ghost use Rattle.lattice.specs.Lattice.{add};
@@ -28,7 +29,7 @@ ghost use Rattle.signs.specs.SignEdges.{Signs, Begins};
 
 // The type of a sign's edge goes to the front of a buffer: the stored edge's, a space and the sign.
 fn sign_type(buf: &mut [u8], table: &[u8], x: PassEdge, sign: u8) -> usize
-    requires { ⌜ (62 ≤ length (now buf)) × ((i : StoredEdge) × EdgeIs x i × (length (typeOf (now table) i) ≤ 60) × Rooted (now table) i) ⌝ }
+    requires { ⌜ (2 + maxString ≤ length (now buf)) × ((i : StoredEdge) × EdgeIs x i × (length (typeOf (now table) i) ≤ maxString) × Rooted (now table) i) ⌝ }
     ensures { λ r. ⌜ ((i : StoredEdge) → EdgeIs x i → Begins (now (buf .exit)) r (typeOf (now (table .entry)) i ++ (32 ∷ sign ∷ []))) ⌝ }
 {
     let n = pass_edge::edge_type::type_of(buf, table, x);
@@ -46,7 +47,7 @@ fn sign_txt(
     x: PassEdge,
     sign: u8,
 ) -> usize
-    requires { ⌜ Offsets (now line) (now offs) × ((i : StoredEdge) × StoredIs (now line) (now table) x i) × (length (chars (now line)) ≤ 256) × (257 ≤ length (now buf)) ⌝ }
+    requires { ⌜ Offsets (now line) (now offs) × ((i : StoredEdge) × StoredIs (now line) (now table) x i) × (length (chars (now line)) ≤ maxChars) × (1 + maxChars ≤ length (now buf)) ⌝ }
     ensures { λ r. ⌜ ((i : StoredEdge) → EdgeIs x i → Begins (now (buf .exit)) r (sign ∷ txtOf (chars (now (line .entry))) (now (table .entry)) i)) ⌝ }
 {
     buf[0] = sign;
@@ -65,7 +66,7 @@ fn add_signed(
     sign: u8,
     start: Place,
 ) -> Lattice
-    requires { ⌜ Addable (now w) l (now line) (now offs) (now table) x × (start .0 ≤ 256) ⌝ }
+    requires { ⌜ Addable (now w) l (now line) (now offs) (now table) x × (start .0 ≤ maxChars) ⌝ }
     ensures { λ r. ⌜ SameBehind (now (w .entry)) (now (w .exit)) × ((es : List Edge) (i : StoredEdge) → Holds (now (w .entry)) l es → EdgeIs x i → Holds (now (w .exit)) r (add es (signEdge (start .0) sign (edgeOf (chars (now (line .entry))) (now (table .entry)) i)))) ⌝ }
 {
     let mut ty = [0u8; 62];

@@ -54,12 +54,16 @@ pub record Entry (t : List ℕ) (rs : List Record) (at left : ℕ) : Type 0 wher
   pub there : at + 4 ≤ length t
   pub low : least ≤ leAt t at 4
 
+-- the most entries of an index
+abbrev pub indexSize : ℕ
+indexSize = 256
+
 unfoldable pub strideOf : ℕ → ℕ
-strideOf all = 1 + all / 256
+strideOf all = 1 + all / indexSize
 
 pub record Indexed (t : List ℕ) (rs : List Record) (os : List ℕ) (all n : ℕ) : Type 0 where
-  pub few : n ≤ 256
-  pub long : length os ≡ 256
+  pub few : n ≤ indexSize
+  pub long : length os ≡ indexSize
   pub inner : (i : ℕ) → i < n → i * strideOf all < all
   pub entries : (i : ℕ) → i < n → Entry t rs (getD os i 0) (all - i * strideOf all)
 

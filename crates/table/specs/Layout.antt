@@ -1,6 +1,7 @@
 -- The table's bytes as 01 lays them out ("Table", "Record"): fields, strings and records at an offset. Definitions only.
 --     Field A          what reading a field gives: its value with the offset behind it, or Fault where its layout is at fault
 --     number w s at    a number of w bytes
+--     maxString       the most bytes of a string
 --     text s at        a string: a length byte of at most 60, and as many bytes
 --     optional b p     the field that p reads where b holds; otherwise no bytes and no value
 --     bit m i          bit i of the map m
@@ -36,9 +37,13 @@ mapField f Fault = Fault
 unfoldable pub number : ℕ → List ℕ → ℕ → Field ℕ
 number w s at = cond (leb (at + w) (length s)) (Is (leAt s at w) (at + w)) Fault
 
+-- "a u8 length (0 to 60)"
+abbrev pub maxString : ℕ
+maxString = 60
+
 -- the n bytes of a string
 unfoldable pub textOf : List ℕ → ℕ → ℕ → Field Text
-textOf s at n = cond (leb n 60) (cond (leb (at + n) (length s)) (Is (part s at n) (at + n)) Fault) Fault
+textOf s at n = cond (leb n maxString) (cond (leb (at + n) (length s)) (Is (part s at n) (at + n)) Fault) Fault
 
 unfoldable pub text : List ℕ → ℕ → Field Text
 text s at = thenField (number 1 s at) (λ n next. textOf s next n)

@@ -12,9 +12,10 @@ use mathlib.Core.List.{List, [], _∷_, _++_}
 use mathlib.Core.Option.{Option, none, some}
 use lib.ListN.{length}
 use lib.Dec.{leb, ltb}
-use Rattle.fields.specs.Fields.{bytesOf}
+use Rattle.fields.specs.Fields.{bytesOf, u16Limit}
 use Rattle.table.specs.Table.{Text, Record, Table}
 use Rattle.table.specs.Check.{allOf, legalMark, legalRecord}
+use Rattle.table.specs.Layout.{maxString}
 
 -- ---- bytes
 unfoldable pub string : Text → List ℕ
@@ -64,7 +65,7 @@ tableBytes t =
 -- ---- legal tables: what has bytes of this form, and content without fault 5
 -- "a u8 length (0 to 60)"
 unfoldable pub short : Text → Bool
-short t = leb (length t) 60
+short t = leb (length t) maxString
 
 unfoldable pub shortTexts : Record → Bool
 shortTexts r = short (r .type) && allOf short (r .rom) && allOf short (r .script)
@@ -85,5 +86,5 @@ legalRecords least (r ∷ rs) = shortTexts r && legalRecord least r && legalReco
 -- the count of records fits a u16
 unfoldable pub legal : Table → Bool
 legal t =
-    ltb (length (t .records)) 65536 && legalList (t .percentage-markers) && legalList (t .fraction-connectors) && legalList (t .plus-signs)
+    ltb (length (t .records)) u16Limit && legalList (t .percentage-markers) && legalList (t .fraction-connectors) && legalList (t .plus-signs)
     && legalList (t .minus-signs) && legalRecords 0 (t .records)

@@ -7,7 +7,7 @@ ghost use Prim.Native.Nat.{ℕ, _-_, _*_, _<_};
 ghost use lib.ListN.{length};
 ghost use Rattle.table.specs.Table.{Record};
 ghost use Rattle.table.specs.Layout.{recordsAt};
-ghost use Rattle.table.specs.Index.{FoundIs, Entry, strideOf, Indexed, IndexGrowing, Whole, RecordsAhead};
+ghost use Rattle.table.specs.Index.{FoundIs, Entry, strideOf, Indexed, IndexGrowing, Whole, RecordsAhead, indexSize};
 use crate::layout::NumProp;
 use crate::record::known::record_here;
 use crate::record::walk::record_end;
@@ -72,7 +72,7 @@ fn wide(x: u32) -> usize
 
 // Takes a record into the index over so many records, where it is its turn. An offset that takes more than 32 bits ends the index.
 pub fn index_record(offs: &mut [u32], index: Index, all: usize, here: RecordRun) -> Index
-    requires { ⌜ (index .due ≡ all - index .n * strideOf all) × (0 < here .left) × (length (now offs) ≡ 256) ⌝ }
+    requires { ⌜ (index .due ≡ all - index .n * strideOf all) × (0 < here .left) × (length (now offs) ≡ indexSize) ⌝ }
     ensures next { λ r. ⌜ r .due ≡ all - r .n * strideOf all ⌝ }
     ensures grows { λ r. ⌜ ((t : List ℕ) (rs : List Record) → Entry t rs (here .at) (here .left) → IndexGrowing t rs (now (offs .entry)) all index → IndexGrowing t rs (now (offs .exit)) all r) ⌝ }
 {

@@ -4,7 +4,7 @@ ghost use Rattle.table.specs.Layout.{text};
 ghost use Rattle.table.specs.Check.{item, legalMark, readTexts, readList, readRecords};
 ghost use Rattle.table.specs.Answers.{endOf};
 ghost use lib.ListN.{length};
-ghost use Rattle.table.specs.Index.{IndexIf};
+ghost use Rattle.table.specs.Index.{IndexIf, indexSize};
 ghost use Rattle.record_check.specs.Step.{StepIs};
 use record_check::plain::Plain;
 use record_check::plain::plain_at;
@@ -82,7 +82,7 @@ pub fn records_end(
     offs: &mut [u32],
     entries: &mut usize,
 ) -> ItemsCheck
-    requires { ⌜ length (now offs) ≡ 256 ⌝ }
+    requires { ⌜ length (now offs) ≡ indexSize ⌝ }
     ensures { λ r. ⌜ r ≡ endOf (readRecords n 0 (now (s .entry)) from) ⌝ }
     ensures indexed { λ _. ⌜ IndexIf (now (s .entry)) from n (now (offs .exit)) (now (entries .exit)) ⌝ }
 {

@@ -2,6 +2,7 @@
 --     walked s p      the first characters of s, at most p: how many they are, and their length in bytes
 --     maxChars        the most characters that a line may have
 --     lineNumber s, linePlace s  what 01's table says of the line s: the number of its refusal, 0 where it is accepted; the offset, or the count of characters
+--     PLACES          the most places that a line may have, its end included
 --     lineCheck s     refusal 2, then refusal 3, or the count of characters
 --     lineRefusal r, lineAt r    01's number of an answer, 0 where the line is accepted; its offset, or the count
 --     LineAnswer s r  r is the answer for the line s, and says its number and its offset or count
@@ -29,6 +30,10 @@ lineNumber s = cond (wellFormed s) (cond (leb (length (chars s)) maxChars) 0 3) 
 -- "offset of the first ill-formed sequence"; "offset of the 257th"
 abbrev pub linePlace : List ℕ → ℕ
 linePlace s = cond (wellFormed s) (cond (leb (length (chars s)) maxChars) (length (chars s)) (offsetOf s maxChars)) (illAt s)
+
+-- the places of the longest line, its end included
+abbrev pub PLACES : ℕ
+PLACES = 257
 
 abbrev pub lineCheck : List ℕ → LineCheck
 lineCheck s =
