@@ -21,7 +21,7 @@ use Rattle.text.specs.Sequence.{scalar, encode}
 use Rattle.text.specs.Text.{encodes, Scalars}
 use Rattle.text.proofs.BytesLaws.{same-refl, same-true}
 use Rattle.text.proofs.RowLaws.{and-true, or-true}
-use Rattle.text.proofs.TextLaws.{encodes-injective, scalars-at}
+use Rattle.text.proofs.TextLaws.{encodes-injective, scalars-at, encodes-one}
 use Rattle.table.specs.Table.{Text, Record}
 use Rattle.table.specs.Layout.{Is, bit, numbersIn, readRecord}
 use Rattle.table.specs.Check.{isDigitType, allOf, small, positive, legalDigit, digitRule, legalNumbers, legalTexts, legalCodePoint, legalRecord}
@@ -36,10 +36,6 @@ use Rattle.pass_list.specs.Edges.{between, edgeOf, WellMade}
 use Rattle.characters.specs.CharStored.{numberIf, charStored}
 
 -- ---- texts of one character
-encodes-one : (c : ℕ) → encodes (c ∷ []) ≡ encode c
-unfolding encodes
-encodes-one c = append-nil (encode c)
-
 between-one : (w : List ℕ) (i : ℕ) → i < length w → between w i (i + 1) ≡ encode (getD w i 0)
 unfolding between
 between-one w i h = let e : i + 1 - i ≡ 1 = omega arith in rw (e, drop-cons w i 0 h) (encodes-one (getD w i 0))

@@ -15,10 +15,12 @@ use Rattle.fields.specs.Fields.{bytesOf}
 use Rattle.fields.specs.Part.{part}
 use Rattle.fields.proofs.FieldsLaws.{length-bytesOf}
 use Rattle.fields.proofs.PartLaws.{length-part}
+use Rattle.fields.specs.Flag.{there, flag, bytesIf}
+use Rattle.fields.proofs.FlagLaws.{flag-is}
 use Rattle.edge.specs.declared.Part.{Part}
 use Rattle.edge.specs.declared.NumFields.{NumFields}
 use Rattle.edge.specs.declared.Written.the-variants.{To, NoRoom}
-use Rattle.edge.specs.Edge.{Text, there, flag, numericMap, str, opt, fractionBytes, numericBytes, headBytes, edgeBytes}
+use Rattle.edge.specs.Edge.{Text, numericMap, str, fractionBytes, numericBytes, headBytes, edgeBytes}
 use Rattle.edge.specs.Layout.{bit, stands, only, scriptAt}
 use Rattle.edge.specs.View.{textOf, numericOf}
 use Rattle.edge.specs.Write.{written, writtenTo, Put, regular, numeric, numbersBytes, textPastIf, fieldsPast, Writable}
@@ -55,10 +57,10 @@ put-part s p w at h a b =
 
 -- ---- one field
 module _ (b : Bool) (s : List ℕ) (x : Text) (n at : ℕ) where
-  pub put-text-on : {t : List ℕ} {r : ℕ} → b ≡ true → (r ≡ at + 2 + n) × Put s t at r (str x) → (r ≡ textPastIf b n at) × Put s t at r (opt str (only b x))
+  pub put-text-on : {t : List ℕ} {r : ℕ} → b ≡ true → (r ≡ at + 2 + n) × Put s t at r (str x) → (r ≡ textPastIf b n at) × Put s t at r (bytesIf str (only b x))
   put-text-on on q = rw on q
 
-  pub put-text-off : b ≡ false → (at ≡ textPastIf b n at) × Put s s at at (opt str (only b x))
+  pub put-text-off : b ≡ false → (at ≡ textPastIf b n at) × Put s s at at (bytesIf str (only b x))
   put-text-off off = rw off (refl, put-nothing s at)
 
 pub number-on-room : (k at n : ℕ) → eqb k 1 ≡ true → at + 8 * k ≤ n → at + 8 ≤ n
@@ -68,20 +70,20 @@ pub text-on-room : (b : Bool) (n at m : ℕ) → b ≡ true → textPastIf b n a
 text-on-room b n at m on h = rw on at h
 
 pub put-number-on : (k v : ℕ) (s : List ℕ) {t : List ℕ} (at : ℕ) → eqb k 1 ≡ true → t ≡ sets s at (bytesOf 8 v)
-    → (at + 8 ≡ at + 8 * k) × Put s t at (at + 8) (opt (bytesOf 8) (only (eqb k 1) v))
+    → (at + 8 ≡ at + 8 * k) × Put s t at (at + 8) (bytesIf (bytesOf 8) (only (eqb k 1) v))
 put-number-on k v s at on e = (omega (arith, eqb-true k 1 on), rw on (put-number 8 v s at e))
 
-pub put-number-off : (k v : ℕ) (s : List ℕ) (at : ℕ) → k < 2 → eqb k 1 ≡ false → (at ≡ at + 8 * k) × Put s s at at (opt (bytesOf 8) (only (eqb k 1) v))
+pub put-number-off : (k v : ℕ) (s : List ℕ) (at : ℕ) → k < 2 → eqb k 1 ≡ false → (at ≡ at + 8 * k) × Put s s at at (bytesIf (bytesOf 8) (only (eqb k 1) v))
 put-number-off k v s at l off = (let d = eqb-false k 1 off in omega arith, rw off (put-nothing s at))
 
 -- ---- the numbers
-pub fraction-bytes : (on : Bool) (a b : ℕ) → opt (bytesOf 8) (only on a) ++ opt (bytesOf 8) (only on b) ≡ opt fractionBytes (only on (a, b))
+pub fraction-bytes : (on : Bool) (a b : ℕ) → bytesIf (bytesOf 8) (only on a) ++ bytesIf (bytesOf 8) (only on b) ≡ bytesIf fractionBytes (only on (a, b))
 fraction-bytes true a b = refl
 fraction-bytes false a b = refl
 
-pub put-all-numbers : (d : NumFields) {s t u v w x : List ℕ} {at a b c e r : ℕ} → Put s t at a (opt (bytesOf 8) (only (stands 1 (d .map)) (d .value)))
-    → Put t u a b (opt (bytesOf 8) (only (stands 2 (d .map)) (d .numerator))) → Put u v b c (opt (bytesOf 8) (only (stands 2 (d .map)) (d .denominator)))
-    → Put v w c e (opt (bytesOf 8) (only (stands 3 (d .map)) (d .base))) → Put w x e r (opt (bytesOf 8) (only (stands 4 (d .map)) (d .«base_multiplier»)))
+pub put-all-numbers : (d : NumFields) {s t u v w x : List ℕ} {at a b c e r : ℕ} → Put s t at a (bytesIf (bytesOf 8) (only (stands 1 (d .map)) (d .value)))
+    → Put t u a b (bytesIf (bytesOf 8) (only (stands 2 (d .map)) (d .numerator))) → Put u v b c (bytesIf (bytesOf 8) (only (stands 2 (d .map)) (d .denominator)))
+    → Put v w c e (bytesIf (bytesOf 8) (only (stands 3 (d .map)) (d .base))) → Put w x e r (bytesIf (bytesOf 8) (only (stands 4 (d .map)) (d .«base_multiplier»)))
     → Put s x at r (numbersBytes d)
 unfolding numbersBytes
 put-all-numbers d p q r a b =
@@ -110,13 +112,13 @@ past-within d at n h =
     let s = le-trans c h in
     record { orig = le-trans a (le-trans b s); numbers = le-trans b s; script = s }
 
-fields-bytes : (o c v : List ℕ) (d : NumFields) → str (textOf o (d .orig)) ++ (numbersBytes d ++ (opt str (only (stands 5 (d .map)) (textOf c (d .script))) ++ opt str (only (stands 8 (d .map)) (textOf v (d .«value_s»)))))
+fields-bytes : (o c v : List ℕ) (d : NumFields) → str (textOf o (d .orig)) ++ (numbersBytes d ++ (bytesIf str (only (stands 5 (d .map)) (textOf c (d .script))) ++ bytesIf str (only (stands 8 (d .map)) (textOf v (d .«value_s»)))))
     ≡ numericBytes (numericOf o c v d)
 unfolding numericBytes numericOf numbersBytes
 fields-bytes o c v d = simp append-assoc
 
 pub put-all-fields : (o c v : List ℕ) (d : NumFields) {s t u w x : List ℕ} {at a b e r : ℕ} → Put s t at a (str (textOf o (d .orig))) → Put t u a b (numbersBytes d)
-    → Put u w b e (opt str (only (stands 5 (d .map)) (textOf c (d .script)))) → Put w x e r (opt str (only (stands 8 (d .map)) (textOf v (d .«value_s»))))
+    → Put u w b e (bytesIf str (only (stands 5 (d .map)) (textOf c (d .script)))) → Put w x e r (bytesIf str (only (stands 8 (d .map)) (textOf v (d .«value_s»))))
     → Put s x at r (numericBytes (numericOf o c v d))
 put-all-fields o c v d p q a b = rw (fields-bytes o c v d) at (put-then p (put-then q (put-then a b)))
 
@@ -141,13 +143,6 @@ there-only : {A : Type 0} (k : ℕ) (a : A) → k < 2 → there (only (eqb k 1) 
 there-only k a h = go (eqb k 1) refl
   where
     go : (b : Bool) → eqb k 1 ≡ b → there (only b a) ≡ k
-    go true e = sym (eqb-true k 1 e)
-    go false e = let d = eqb-false k 1 e in omega arith
-
-flag-is : (k : ℕ) → k < 2 → flag (eqb k 1) ≡ k
-flag-is k h = go (eqb k 1) refl
-  where
-    go : (b : Bool) → eqb k 1 ≡ b → flag b ≡ k
     go true e = sym (eqb-true k 1 e)
     go false e = let d = eqb-false k 1 e in omega arith
 
@@ -205,14 +200,14 @@ unfolding edgeBytes
 regular-bytes a z ty tx = append-nil (headBytes 0 a z ty tx)
 
 -- ---- the fields' length
-length-number : (k v : ℕ) → k < 2 → length (opt (bytesOf 8) (only (eqb k 1) v)) ≡ 8 * k
+length-number : (k v : ℕ) → k < 2 → length (bytesIf (bytesOf 8) (only (eqb k 1) v)) ≡ 8 * k
 length-number k v h = go (eqb k 1) refl
   where
-    go : (b : Bool) → eqb k 1 ≡ b → length (opt (bytesOf 8) (only b v)) ≡ 8 * k
+    go : (b : Bool) → eqb k 1 ≡ b → length (bytesIf (bytesOf 8) (only b v)) ≡ 8 * k
     go true e = length-bytesOf 8 v ∙ (let i = eqb-true k 1 e in omega arith)
     go false e = let i = eqb-false k 1 e in omega arith
 
-length-text : (b : Bool) (s : List ℕ) (p : Part) (at : ℕ) → (b ≡ true → p .at + p .len ≤ length s) → at + length (opt str (only b (textOf s p))) ≡ textPastIf b (p .len) at
+length-text : (b : Bool) (s : List ℕ) (p : Part) (at : ℕ) → (b ≡ true → p .at + p .len ≤ length s) → at + length (bytesIf str (only b (textOf s p))) ≡ textPastIf b (p .len) at
 length-text true s p at h = let l = length-str (textOf s p) in let k = length-part s (p .at) (p .len) (h refl) in omega arith
 length-text false s p at h = omega arith
 

@@ -17,6 +17,7 @@ use lib.ListN.{length}
 use lib.Ieee.{binary64, toBits}
 use Rattle.whole.specs.Whole.{ofNat}
 use Rattle.fields.specs.Fields.{bytesOf}
+use Rattle.fields.specs.Flag.{there, flag, bytesIf}
 
 abbrev pub Text : Type 0
 Text = List ℕ
@@ -48,13 +49,6 @@ unfoldable pub f64Bits : ℕ → ℕ
 f64Bits v = toBits binary64 (ofNat v)
 
 -- ---- the map
-abbrev pub there : {A : Type 0} → Option A → ℕ
-there none = 0
-there (some a) = 1
-
-abbrev pub flag : Bool → ℕ
-flag b = cond b 1 0
-
 unfoldable pub numericMap : Numeric → ℕ
 numericMap n =
     1 + 2 * there (n .value) + 4 * there (n .fraction) + 8 * there (n .base) + 16 * there (n .mult) + 32 * there (n .script) + 64 * flag (n .large)
@@ -71,23 +65,18 @@ str t = bytesOf 2 (length t) ++ t
 abbrev pub fractionBytes : ℕ × ℕ → List ℕ
 fractionBytes p = bytesOf 8 (p .0) ++ bytesOf 8 (p .1)
 
--- the bytes of a field that may be absent
-abbrev pub opt : {A : Type 0} → (A → List ℕ) → Option A → List ℕ
-opt f none = []
-opt f (some a) = f a
-
 -- what a numeric edge has behind its txt
 unfoldable pub numericBytes : Numeric → List ℕ
 numericBytes n =
-    str (n .orig) ++ (opt (bytesOf 8) (n .value) ++ (opt fractionBytes (n .fraction) ++ (opt (bytesOf 8) (n .base)
-    ++ (opt (bytesOf 8) (n .mult) ++ (opt str (n .script) ++ opt str (n .value-s))))))
+    str (n .orig) ++ (bytesIf (bytesOf 8) (n .value) ++ (bytesIf fractionBytes (n .fraction) ++ (bytesIf (bytesOf 8) (n .base)
+    ++ (bytesIf (bytesOf 8) (n .mult) ++ (bytesIf str (n .script) ++ bytesIf str (n .value-s))))))
 
 -- what every edge begins with; its bytes from the start on tell edges apart
 unfoldable pub headBytes : ℕ → ℕ → ℕ → Text → Text → List ℕ
 headBytes m a z ty tx = bytesOf 2 m ++ (bytesOf 2 a ++ (bytesOf 2 z ++ (str ty ++ str tx)))
 
 unfoldable pub edgeBytes : Edge → List ℕ
-edgeBytes e = headBytes (mapOf (e .num)) (e .start) (e .end) (e .type) (e .txt) ++ opt numericBytes (e .num)
+edgeBytes e = headBytes (mapOf (e .num)) (e .start) (e .end) (e .type) (e .txt) ++ bytesIf numericBytes (e .num)
 
 unfoldable pub edgesBytes : List Edge → List ℕ
 edgesBytes [] = []

@@ -17,11 +17,12 @@ use lib.ListN.{length}
 use lib.Seq.{sets}
 use lib.Ieee.{binary64, toBits}
 use Rattle.fields.specs.Fields.{bytesOf, u16Limit}
+use Rattle.fields.specs.Flag.{bytesIf}
 use Rattle.edge.specs.declared.NumFields.{NumFields}
 use Rattle.edge.specs.declared.NumData.{NumData}
 use Rattle.edge.specs.declared.Written.{Written}
 use Rattle.edge.specs.declared.Written.the-variants.{To, NoRoom}
-use Rattle.edge.specs.Edge.{Text, Edge, opt, fractionBytes}
+use Rattle.edge.specs.Edge.{Text, Edge, fractionBytes}
 use Rattle.edge.specs.Layout.{stands, only, scriptAt}
 use Rattle.edge.specs.View.{numericOf}
 
@@ -45,8 +46,8 @@ numeric a z ty tx o c v d = record { start = a; end = z; type = ty; txt = tx; nu
 -- ---- fields
 unfoldable pub numbersBytes : NumFields → List ℕ
 numbersBytes d =
-    opt (bytesOf 8) (only (stands 1 (d .map)) (d .value)) ++ (opt fractionBytes (only (stands 2 (d .map)) (d .numerator, d .denominator))
-    ++ (opt (bytesOf 8) (only (stands 3 (d .map)) (d .base)) ++ opt (bytesOf 8) (only (stands 4 (d .map)) (d .«base_multiplier»))))
+    bytesIf (bytesOf 8) (only (stands 1 (d .map)) (d .value)) ++ (bytesIf fractionBytes (only (stands 2 (d .map)) (d .numerator, d .denominator))
+    ++ (bytesIf (bytesOf 8) (only (stands 3 (d .map)) (d .base)) ++ bytesIf (bytesOf 8) (only (stands 4 (d .map)) (d .«base_multiplier»))))
 
 -- behind a text of n bytes that is there only if its bit stands
 abbrev pub textPastIf : Bool → ℕ → ℕ → ℕ

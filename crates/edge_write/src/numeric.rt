@@ -5,7 +5,8 @@ ghost use Prim.Native.Nat.{_+_, _*_, _/_, _%_, _≤_, _<_};
 ghost use lib.ListN.{length};
 ghost use lib.Dec.{eqb};
 ghost use Rattle.fields.specs.Fields.{bytesOf, u16Limit};
-ghost use Rattle.edge.specs.Edge.{str, opt, numericBytes, edgeBytes};
+ghost use Rattle.fields.specs.Flag.{bytesIf};
+ghost use Rattle.edge.specs.Edge.{str, numericBytes, edgeBytes};
 ghost use Rattle.edge.specs.Layout.{scriptAt, only};
 ghost use Rattle.edge.specs.Write.{written, writtenTo, Put, numeric, numbersBytes, textPastIf, fieldsPast, Writable};
 ghost use Rattle.edge.specs.View.{numericOf, textOf};
@@ -30,7 +31,7 @@ fn put_part(out: &mut [u8], at: usize, s: &[u8], t: Part) -> usize
 // The same, only if a bit stands.
 fn put_part_if(map: u16, p: u16, out: &mut [u8], at: usize, s: &[u8], t: Part) -> usize
     requires { ⌜ (0 < p) × (textPastIf (eqb (map / p % 2) 1) (t .len) at ≤ length (now out)) × (t .len < u16Limit) × (eqb (map / p % 2) 1 ≡ true → t .at + t .len ≤ length (now s)) ⌝ }
-    ensures { λ r. ⌜ (r ≡ textPastIf (eqb (map / p % 2) 1) (t .len) at) × Put (now (out .entry)) (now (out .exit)) at r (opt str (only (eqb (map / p % 2) 1) (textOf (now (s .entry)) t))) ⌝ }
+    ensures { λ r. ⌜ (r ≡ textPastIf (eqb (map / p % 2) 1) (t .len) at) × Put (now (out .entry)) (now (out .exit)) at r (bytesIf str (only (eqb (map / p % 2) 1) (textOf (now (s .entry)) t))) ⌝ }
 {
     if edge::bit(map, p) {
         put_part(out, at, s, t)
@@ -42,7 +43,7 @@ fn put_part_if(map: u16, p: u16, out: &mut [u8], at: usize, s: &[u8], t: Part) -
 // A number, only if a bit stands.
 fn put_u64_if(map: u16, p: u16, out: &mut [u8], at: usize, v: u64) -> usize
     requires { ⌜ (0 < p) × (at + 8 * (map / p % 2) ≤ length (now out)) ⌝ }
-    ensures { λ r. ⌜ (r ≡ at + 8 * (map / p % 2)) × Put (now (out .entry)) (now (out .exit)) at r (opt (bytesOf 8) (only (eqb (map / p % 2) 1) v)) ⌝ }
+    ensures { λ r. ⌜ (r ≡ at + 8 * (map / p % 2)) × Put (now (out .entry)) (now (out .exit)) at r (bytesIf (bytesOf 8) (only (eqb (map / p % 2) 1) v)) ⌝ }
 {
     if edge::bit(map, p) {
         fields::write::put_u64(out, at, v);

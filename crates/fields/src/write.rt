@@ -1,9 +1,10 @@
-// Little-endian numbers written into slices of bytes (01: "Multi-byte numbers are little-endian"): a writer leaves `sets` of the bytes `bytesOf` (`fields`' specs/Fields.antt).
+// Little-endian numbers written into slices of bytes (01: "Multi-byte numbers are little-endian"): a writer leaves `sets` of the bytes `bytesOf` (`fields`' specs/Fields.antt). And the bits of a map.
 ghost use mathlib.Core.Path.{_≡_};
-ghost use Prim.Native.Nat.{_+_, _≤_};
+ghost use Prim.Native.Nat.{_+_, _*_, _≤_};
 ghost use lib.ListN.{length};
 ghost use lib.Seq.{sets};
 ghost use Rattle.fields.specs.Fields.{bytesOf};
+ghost use Rattle.fields.specs.Flag.{flag};
 
 pub fn put_u16(out: &mut [u8], at: usize, v: u16)
     requires { ⌜ at + 2 ≤ length (now out) ⌝ }
@@ -27,4 +28,11 @@ pub fn put_u64(out: &mut [u8], at: usize, v: u64)
 {
     put_u32(out, at, (v % 4294967296) as u32);
     put_u32(out, at + 4, (v / 4294967296) as u32);
+}
+
+// What a field or a mark adds to a map, where it is there.
+pub fn bit_if(there: bool, bit: u16) -> u16
+    ensures { λ r. ⌜ (r ≡ bit * flag there) × (r ≤ bit) ⌝ }
+{
+    if there { bit } else { 0 }
 }

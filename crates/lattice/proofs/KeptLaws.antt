@@ -13,12 +13,14 @@ use Rattle.fields.specs.Fields.{le, leAt, bytesOf}
 use Rattle.fields.specs.Part.{part}
 use Rattle.fields.proofs.FieldsLaws.{length-bytesOf, le-bytesOf, leAt-sets, leAt-sets-other}
 use Rattle.fields.proofs.PartLaws.{part-add, part-take, drop-part}
-use Rattle.edge.specs.Edge.{Edge, Numeric, there, flag, numericMap, mapOf, opt, str, numericBytes, headBytes, edgeBytes, edgesBytes, listingBytes}
+use Rattle.fields.specs.Flag.{there, flag, bytesIf}
+use Rattle.fields.proofs.FlagLaws.{there-le, flag-le}
+use Rattle.edge.specs.Edge.{Edge, Numeric, numericMap, mapOf, str, numericBytes, headBytes, edgeBytes, edgesBytes, listingBytes}
 use Rattle.lattice.specs.Kept.{cell, key, noEdge, offset, Kept}
 
 -- ---- the bytes of edges
 abbrev pub fieldsBytes : Edge → List ℕ
-fieldsBytes e = opt numericBytes (e .num)
+fieldsBytes e = bytesIf numericBytes (e .num)
 
 pub edge-parts : (e : Edge) → edgeBytes e ≡ bytesOf 2 (mapOf (e .num)) ++ (key e ++ fieldsBytes e)
 unfolding edgeBytes headBytes key
@@ -50,14 +52,6 @@ unfolding listingBytes
 length-listing es = let l = length-bytesOf 2 (length es) in length-append (bytesOf 2 (length es)) (edgesBytes es) ∙ rw l
 
 -- a map fits its two bytes
-pub there-le : {A : Type 0} (x : Option A) → there x ≤ 1
-there-le none = omega arith
-there-le (some a) = omega arith
-
-pub flag-le : (b : Bool) → flag b ≤ 1
-flag-le true = omega arith
-flag-le false = omega arith
-
 pub map-lt : (n : Option Numeric) → mapOf n < 512
 unfolding numericMap
 map-lt none = omega arith

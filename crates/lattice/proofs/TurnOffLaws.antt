@@ -14,12 +14,14 @@ use Rattle.fields.specs.Fields.{leAt, bytesOf}
 use Rattle.fields.specs.Part.{part}
 use Rattle.fields.proofs.FieldsLaws.{length-bytesOf}
 use Rattle.fields.proofs.PartLaws.{part-add, part-sets, part-sets-other, length-part, drop-sets}
-use Rattle.edge.specs.Edge.{Edge, Numeric, there, flag, numericMap, mapOf, opt, numericBytes, edgeBytes, edgesBytes}
+use Rattle.fields.specs.Flag.{there, flag, bytesIf}
+use Rattle.fields.proofs.FlagLaws.{there-le, flag-le}
+use Rattle.edge.specs.Edge.{Edge, Numeric, numericMap, mapOf, numericBytes, edgeBytes, edgesBytes}
 use Rattle.lattice.specs.declared.Lattice.{Lattice}
 use Rattle.lattice.specs.Lattice.{quiet, inactive, turnOffAt}
 use Rattle.lattice.specs.Kept.{END, OFFSETS, NEXTS, HEADS, key, bucket, noEdge, lastIn, offset, inactiveMap, Fits, Kept, Holds, SameBehind}
 use Rattle.lattice.proofs.KeyLaws.{cut}
-use Rattle.lattice.proofs.KeptLaws.{there-le, flag-le, fieldsBytes, edge-parts, length-edge, edges-split, length-listing, map-stands, map-in, kept-size, kept-bytes, kept-count, listing-of, cell-other}
+use Rattle.lattice.proofs.KeptLaws.{fieldsBytes, edge-parts, length-edge, edges-split, length-listing, map-stands, map-in, kept-size, kept-bytes, kept-count, listing-of, cell-other}
 use Rattle.lattice.proofs.HoldsLaws.{kept-of}
 
 -- ---- the map
@@ -59,7 +61,7 @@ pub inactive-fields : (e : Edge) → fieldsBytes (inactive e) ≡ fieldsBytes e
 unfolding inactive numericBytes
 inactive-fields e = go (e .num)
   where
-    go : (x : Option Numeric) → opt numericBytes (Option·map quiet x) ≡ opt numericBytes x
+    go : (x : Option Numeric) → bytesIf numericBytes (Option·map quiet x) ≡ bytesIf numericBytes x
     go none = refl
     go (some n) = refl
 

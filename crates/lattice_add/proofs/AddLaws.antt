@@ -10,7 +10,8 @@ use lib.ListN.{length, drop}
 use lib.Seq.{sets, length-sets}
 use Rattle.fields.specs.Part.{part}
 use Rattle.fields.proofs.PartLaws.{part-sets, drop-sets}
-use Rattle.edge.specs.Edge.{Edge, there, edgeBytes}
+use Rattle.fields.specs.Flag.{there}
+use Rattle.edge.specs.Edge.{Edge, edgeBytes}
 use Rattle.lattice.specs.Lattice.{add}
 use Rattle.lattice.specs.Kept.{Stands, END, linked, Holds, AddingIs, SameBehind}
 use Rattle.lattice.specs.declared.Lattice.{Lattice}

@@ -11,8 +11,8 @@ use lib.ListN.{length, take, drop, getD}
 use Rattle.fields.specs.Fields.{leAt}
 use Rattle.fields.specs.Part.{part}
 use Rattle.table.specs.Table.{Text, Record}
-use Rattle.table.specs.Layout.{Field, Is, Fault, Numbers, thenField, mapField, number, fraction, text, optional, bit, readNumbers, readFields, readRecord}
-use Rattle.table.proofs.LayoutLaws.{text-missing, text-long, text-cut, text-is, record-cut, record-bit-7, record-is}
+use Rattle.table.specs.Layout.{Field, Is, Fault, Numbers, mapField, number, fraction, text, optional, bit, readNumbers, readFields, readRecord}
+use Rattle.table.proofs.LayoutLaws.{OnField, on-then, text-missing, text-long, text-cut, text-is, record-cut, record-bit-7, record-is}
 
 pub take-short : (n : ℕ) (cs : List ℕ) → length (take n cs) ≤ n
 take-short zero cs = omega arith
@@ -20,24 +20,15 @@ take-short (suc n) [] = omega arith
 take-short (suc n) (c ∷ cs) = omega (arith, take-short n cs)
 
 -- ---- what a field says of its value and of the offset behind it, where it has one
-abbrev Says : {A : Type 0} → (A → ℕ → Type 0) → Field A → Type 0
-Says P (Is a next) = P a next
-Says P Fault = Unit {0}
-
-says-then : {A B : Type 0} (P : A → ℕ → Type 0) (Q : B → ℕ → Type 0) (f : Field A) (k : A → ℕ → Field B) → Says P f → ((a : A) (next : ℕ) → P a next → Says Q (k a next))
-    → Says Q (thenField f k)
-says-then P Q (Is a next) k h g = g a next h
-says-then P Q Fault k h g = tt
-
 abbrev Any : {A : Type 0} → A → ℕ → Type 0
 Any a next = Unit {0}
 
-says-any : {A : Type 0} (f : Field A) → Says Any f
+says-any : {A : Type 0} (f : Field A) → OnField Any f
 says-any (Is a next) = tt
 says-any Fault = tt
 
-says-at : {A : Type 0} (P : A → ℕ → Type 0) {f : Field A} {a : A} {next : ℕ} → Says P f → f ≡ Is a next → P a next
-says-at P h e = subst (Says P) e h
+says-at : {A : Type 0} (P : A → ℕ → Type 0) {f : Field A} {a : A} {next : ℕ} → OnField P f → f ≡ Is a next → P a next
+says-at P h e = subst (OnField P) e h
 
 -- ---- a string: its length stands before it
 pub record StringAt (s : List ℕ) (at : ℕ) (t : Text) (next : ℕ) : Type 0 where
@@ -46,21 +37,21 @@ pub record StringAt (s : List ℕ) (at : ℕ) (t : Text) (next : ℕ) : Type 0 w
   pub ends : next ≡ at + 1 + getD s at 0
   pub within : at + 1 + getD s at 0 ≤ length s
 
-text-says : (s : List ℕ) (at : ℕ) → Says (StringAt s at) (text s at)
+text-says : (s : List ℕ) (at : ℕ) → OnField (StringAt s at) (text s at)
 text-says s at = there (decLe (length s) at)
   where
-    fault : text s at ≡ Fault → Says (StringAt s at) (text s at)
-    fault e = subst (Says (StringAt s at)) (sym e) tt
+    fault : text s at ≡ Fault → OnField (StringAt s at) (text s at)
+    fault e = subst (OnField (StringAt s at)) (sym e) tt
 
-    whole : at < length s → getD s at 0 ≤ 60 → Dec (at + 1 + getD s at 0 ≤ length s) → Says (StringAt s at) (text s at)
-    whole h k (yes l) = subst (Says (StringAt s at)) (sym (text-is s at h k l)) (record { short = k; is = refl; ends = refl; within = l })
+    whole : at < length s → getD s at 0 ≤ 60 → Dec (at + 1 + getD s at 0 ≤ length s) → OnField (StringAt s at) (text s at)
+    whole h k (yes l) = subst (OnField (StringAt s at)) (sym (text-is s at h k l)) (record { short = k; is = refl; ends = refl; within = l })
     whole h k (no l) = fault (text-cut s at h k (omega arith))
 
-    short : at < length s → Dec (getD s at 0 ≤ 60) → Says (StringAt s at) (text s at)
+    short : at < length s → Dec (getD s at 0 ≤ 60) → OnField (StringAt s at) (text s at)
     short h (yes k) = whole h k (decLe (at + 1 + getD s at 0) (length s))
     short h (no k) = fault (text-long s at h (omega arith))
 
-    there : Dec (length s ≤ at) → Says (StringAt s at) (text s at)
+    there : Dec (length s ≤ at) → OnField (StringAt s at) (text s at)
     there (yes h) = fault (text-missing s at h)
     there (no h) = short (omega arith) (decLe (getD s at 0) 60)
 
@@ -73,12 +64,12 @@ abbrev MayAt : Bool → List ℕ → ℕ → Option Text → ℕ → Type 0
 MayAt true s at o next = (t : Text) × (o ≡ some t) × StringAt s at t next
 MayAt false s at o next = o ≡ none
 
-opt-says : (b : Bool) (s : List ℕ) (at : ℕ) → Says (MayAt b s at) (optional b text s at)
+opt-says : (b : Bool) (s : List ℕ) (at : ℕ) → OnField (MayAt b s at) (optional b text s at)
 unfolding optional
 opt-says false s at = refl
 opt-says true s at = go (text s at) (text-says s at)
   where
-    go : (f : Field Text) → Says (StringAt s at) f → Says (MayAt true s at) (mapField some f)
+    go : (f : Field Text) → OnField (StringAt s at) f → OnField (MayAt true s at) (mapField some f)
     go (Is t next) h = (t, refl, h)
     go Fault h = tt
 
@@ -91,25 +82,25 @@ may-short true s at o next (t, e, h) = subst AtMost (sym e) (string-short h)
 may-short false s at o next e = subst AtMost (sym e) tt
 
 -- ---- the numbers: no fraction where the map has none
-absent-says : {A : Type 0} (b : Bool) (p : List ℕ → ℕ → Field A) (s : List ℕ) (at : ℕ) → Says (λ o next. b ≡ false → o ≡ none) (optional b p s at)
+absent-says : {A : Type 0} (b : Bool) (p : List ℕ → ℕ → Field A) (s : List ℕ) (at : ℕ) → OnField (λ o next. b ≡ false → o ≡ none) (optional b p s at)
 unfolding optional
 absent-says false p s at = λ e. refl
 absent-says true p s at = go (p s at)
   where
-    go : {A : Type 0} (f : Field A) → Says (λ o next. true ≡ false → o ≡ none) (mapField some f)
+    go : {A : Type 0} (f : Field A) → OnField (λ o next. true ≡ false → o ≡ none) (mapField some f)
     go (Is a next) = λ e. absurd (true≢false e)
     go Fault = tt
 
 abbrev Ratio : ℕ → Numbers → ℕ → Type 0
 Ratio m n next = bit m 2 ≡ false → n .fraction ≡ none
 
-numbers-say : (m : ℕ) (s : List ℕ) (at : ℕ) → Says (Ratio m) (readNumbers m s at)
+numbers-say : (m : ℕ) (s : List ℕ) (at : ℕ) → OnField (Ratio m) (readNumbers m s at)
 unfolding readNumbers
 numbers-say m s at =
-    says-then Any (Ratio m) (optional (bit m 1) (number 8) s at) _ (says-any (optional (bit m 1) (number 8) s at)) (λ value at u.
-    says-then (λ o next. bit m 2 ≡ false → o ≡ none) (Ratio m) (optional (bit m 2) fraction s at) _ (absent-says (bit m 2) fraction s at) (λ ratio at h.
-    says-then Any (Ratio m) (optional (bit m 3) (number 8) s at) _ (says-any (optional (bit m 3) (number 8) s at)) (λ base at u.
-    says-then Any (Ratio m) (optional (bit m 4) (number 8) s at) _ (says-any (optional (bit m 4) (number 8) s at)) (λ mult at u. h))))
+    on-then Any (Ratio m) (optional (bit m 1) (number 8) s at) _ (says-any (optional (bit m 1) (number 8) s at)) (λ value at u.
+    on-then (λ o next. bit m 2 ≡ false → o ≡ none) (Ratio m) (optional (bit m 2) fraction s at) _ (absent-says (bit m 2) fraction s at) (λ ratio at h.
+    on-then Any (Ratio m) (optional (bit m 3) (number 8) s at) _ (says-any (optional (bit m 3) (number 8) s at)) (λ base at u.
+    on-then Any (Ratio m) (optional (bit m 4) (number 8) s at) _ (says-any (optional (bit m 4) (number 8) s at)) (λ mult at u. h))))
 
 -- ---- the fields behind the map m, from the offset at on
 record Fields (m : ℕ) (s : List ℕ) (at : ℕ) (r : Record) (next : ℕ) : Type 0 where
@@ -121,27 +112,27 @@ record Fields (m : ℕ) (s : List ℕ) (at : ℕ) (r : Record) (next : ℕ) : Ty
   fraction : bit m 2 ≡ false → r .fraction ≡ none
   script : MayAt (bit m 5) s script-at (r .script) next
 
-fields-say : (c m : ℕ) (s : List ℕ) (at : ℕ) → Says (Fields m s at) (readFields c m s at)
+fields-say : (c m : ℕ) (s : List ℕ) (at : ℕ) → OnField (Fields m s at) (readFields c m s at)
 unfolding readFields
 fields-say c m s at =
-    says-then (StringAt s at) (Fields m s at) (text s at) _ (text-says s at) (λ type b h.
-    says-then (MayAt (bit m 0) s b) (Fields m s at) (optional (bit m 0) text s b) _ (opt-says (bit m 0) s b) (λ rom d k.
-    says-then (Ratio m) (Fields m s at) (readNumbers m s d) _ (numbers-say m s d) (λ numbers e n.
-    says-then (MayAt (bit m 5) s e) (Fields m s at) (optional (bit m 5) text s e) _ (opt-says (bit m 5) s e) (λ script next l.
+    on-then (StringAt s at) (Fields m s at) (text s at) _ (text-says s at) (λ type b h.
+    on-then (MayAt (bit m 0) s b) (Fields m s at) (optional (bit m 0) text s b) _ (opt-says (bit m 0) s b) (λ rom d k.
+    on-then (Ratio m) (Fields m s at) (readNumbers m s d) _ (numbers-say m s d) (λ numbers e n.
+    on-then (MayAt (bit m 5) s e) (Fields m s at) (optional (bit m 5) text s e) _ (opt-says (bit m 5) s e) (λ script next l.
     record { rom-at = b; numbers-at = d; script-at = e; type = h; rom = k; fraction = n; script = l }))))
 
 -- ---- a record
-record-says : (s : List ℕ) (at : ℕ) → Says (Fields (getD s (at + 4) 0) s (at + 5)) (readRecord s at)
+record-says : (s : List ℕ) (at : ℕ) → OnField (Fields (getD s (at + 4) 0) s (at + 5)) (readRecord s at)
 record-says s at = there (decLe (at + 5) (length s))
   where
-    fault : readRecord s at ≡ Fault → Says (Fields (getD s (at + 4) 0) s (at + 5)) (readRecord s at)
-    fault e = subst (Says (Fields (getD s (at + 4) 0) s (at + 5))) (sym e) tt
+    fault : readRecord s at ≡ Fault → OnField (Fields (getD s (at + 4) 0) s (at + 5)) (readRecord s at)
+    fault e = subst (OnField (Fields (getD s (at + 4) 0) s (at + 5))) (sym e) tt
 
-    plain : at + 5 ≤ length s → Dec (128 ≤ getD s (at + 4) 0) → Says (Fields (getD s (at + 4) 0) s (at + 5)) (readRecord s at)
+    plain : at + 5 ≤ length s → Dec (128 ≤ getD s (at + 4) 0) → OnField (Fields (getD s (at + 4) 0) s (at + 5)) (readRecord s at)
     plain h (yes k) = fault (record-bit-7 s at h k)
-    plain h (no k) = subst (Says (Fields (getD s (at + 4) 0) s (at + 5))) (record-is s at h refl (omega arith) refl) (fields-say (leAt s at 4) (getD s (at + 4) 0) s (at + 5))
+    plain h (no k) = subst (OnField (Fields (getD s (at + 4) 0) s (at + 5))) (record-is s at h refl (omega arith) refl) (fields-say (leAt s at 4) (getD s (at + 4) 0) s (at + 5))
 
-    there : Dec (at + 5 ≤ length s) → Says (Fields (getD s (at + 4) 0) s (at + 5)) (readRecord s at)
+    there : Dec (at + 5 ≤ length s) → OnField (Fields (getD s (at + 4) 0) s (at + 5)) (readRecord s at)
     there (yes h) = plain h (decLe 128 (getD s (at + 4) 0))
     there (no h) = fault (record-cut s at (omega arith))
 

@@ -22,11 +22,11 @@ use Rattle.pass_list.specs.declared.record.PassEdge.{PassEdge}
 use Rattle.pass_list.specs.Edges.{ofRecord}
 use Rattle.edge.specs.declared.Part.{Part}
 use Rattle.edge.specs.declared.NumFields.{NumFields}
-use Rattle.edge.specs.Edge.{flag}
 use Rattle.edge.specs.View.{noPart}
 use Rattle.edge.specs.Write.{fieldsOf}
 use Rattle.pass_edge.specs.declared.Fraction.{Fraction}
 use Rattle.text.specs.Line.{maxChars}
+use Rattle.fields.specs.Flag.{flag}
 
 -- as `edgeOf` has it
 unfoldable pub storedFraction : List ℕ → ℕ → ℕ → Option (ℕ × ℕ)

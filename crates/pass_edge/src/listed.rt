@@ -8,7 +8,7 @@ ghost use Rattle.text.specs.Line.{maxChars};
 ghost use Rattle.pass_list.specs.StoredEdge.{StoredEdge};
 ghost use Rattle.pass_list.specs.Edges.{edgeOf};
 ghost use Rattle.numbers.specs.Ready.{Offsets};
-ghost use Rattle.edge.specs.Edge.{Edge, flag};
+ghost use Rattle.edge.specs.Edge.{Edge};
 ghost use Rattle.lattice.specs.Lattice.{add};
 ghost use Rattle.lattice.specs.Kept.{Holds, SameBehind};
 ghost use Rattle.numbers.specs.Listed.{listedEdge};
@@ -19,22 +19,18 @@ use edge::NumData;
 use edge::NumFields;
 use edge::Part;
 use edge::bits;
+use fields::write::bit_if;
 use lattice::Lattice;
 use pass_list::record::PassEdge;
 
-// What a field adds to the map.
-fn bit_if(b: bool, of: u16) -> u16
-    ensures { λ r. ⌜ (r ≡ of * flag b) × (r ≤ of) ⌝ }
-{
-    if b { of } else { 0 }
-}
+// Every edge that is listed here is numeric and active.
+const LISTED: u16 = bits::NUMERIC + bits::ACTIVE;
 
 // The map of a stored edge: which of its fields are there.
 fn map_of(x: PassEdge, fraction: bool) -> u16
     ensures { λ r. ⌜ r ≡ storedMap x fraction ⌝ }
 {
-    bits::NUMERIC
-        + bits::ACTIVE
+    LISTED
         + bit_if(x.num.has_value, bits::VALUE)
         + bit_if(fraction, bits::FRACTION)
         + bit_if(x.num.has_base, bits::BASE)

@@ -16,51 +16,45 @@ use Rattle.fields.specs.Fields.{le, leAt, bytesOf}
 use Rattle.fields.specs.Part.{part}
 use Rattle.fields.proofs.FieldsLaws.{le-bytesOf}
 use Rattle.fields.proofs.PartLaws.{part-sets, part-sets-other, drop-sets}
+use Rattle.fields.specs.Flag.{flag}
+use Rattle.fields.proofs.FlagLaws.{flag-le, flag-stands}
 use Rattle.pass_list.specs.StoredEdge.{StoredEdge, numData, Small, cons, AllSmall, Fits}
 use Rattle.pass_list.specs.Layout.{SIZE, endAt, kindAt, mapAt, valueAt, baseAt, multAt, recordAt, scriptAt, scriptLenAt}
-use Rattle.pass_list.specs.Stored.{digitOf, mapOf, numBytes, recordBytes, storedOf, storedAt, storedListAt}
+use Rattle.pass_list.specs.Stored.{mapOf, numBytes, recordBytes, storedOf, storedAt, storedListAt}
 
 -- ---- what was written is read
-digit-small : (b : Bool) → digitOf b ≤ 1
-digit-small true = omega arith
-digit-small false = omega arith
-
-digit-back : (b : Bool) → eqb (digitOf b) 1 ≡ b
-digit-back true = refl
-digit-back false = refl
-
 record Marks (x : StoredEdge) : Type 0 where
-  has-value : digitOf (x .has-value) ≤ 1
-  has-base : digitOf (x .has-base) ≤ 1
-  has-mult : digitOf (x .has-mult) ≤ 1
-  has-script : digitOf (x .has-script) ≤ 1
-  large-power : digitOf (x .large-power) ≤ 1
-  digit : digitOf (x .digit) ≤ 1
-  gap : digitOf (x .gap) ≤ 1
-  cjk : digitOf (x .cjk) ≤ 1
+  has-value : flag (x .has-value) ≤ 1
+  has-base : flag (x .has-base) ≤ 1
+  has-mult : flag (x .has-mult) ≤ 1
+  has-script : flag (x .has-script) ≤ 1
+  large-power : flag (x .large-power) ≤ 1
+  digit : flag (x .digit) ≤ 1
+  gap : flag (x .gap) ≤ 1
+  cjk : flag (x .cjk) ≤ 1
 
 record MapBits (x : StoredEdge) : Type 0 where
-  has-value : mapOf (numData x) / 2 % 2 ≡ digitOf (x .has-value)
-  has-base : mapOf (numData x) / 8 % 2 ≡ digitOf (x .has-base)
-  has-mult : mapOf (numData x) / 16 % 2 ≡ digitOf (x .has-mult)
-  has-script : mapOf (numData x) / 32 % 2 ≡ digitOf (x .has-script)
-  large-power : mapOf (numData x) / 64 % 2 ≡ digitOf (x .large-power)
-  digit : mapOf (numData x) / 256 % 2 ≡ digitOf (x .digit)
-  gap : mapOf (numData x) / 512 % 2 ≡ digitOf (x .gap)
-  cjk : mapOf (numData x) / 1024 % 2 ≡ digitOf (x .cjk)
+  has-value : mapOf (numData x) / 2 % 2 ≡ flag (x .has-value)
+  has-base : mapOf (numData x) / 8 % 2 ≡ flag (x .has-base)
+  has-mult : mapOf (numData x) / 16 % 2 ≡ flag (x .has-mult)
+  has-script : mapOf (numData x) / 32 % 2 ≡ flag (x .has-script)
+  large-power : mapOf (numData x) / 64 % 2 ≡ flag (x .large-power)
+  digit : mapOf (numData x) / 256 % 2 ≡ flag (x .digit)
+  gap : mapOf (numData x) / 512 % 2 ≡ flag (x .gap)
+  cjk : mapOf (numData x) / 1024 % 2 ≡ flag (x .cjk)
 
 -- each mark is its own bit of the map
 module _ (x : StoredEdge) where
   marks-small : Marks x
   marks-small = record {
-    has-value = digit-small (x .has-value);
-    has-base = digit-small (x .has-base);
-    has-mult = digit-small (x .has-mult);
-    has-script = digit-small (x .has-script);
-    large-power = digit-small (x .large-power);
-    digit = digit-small (x .digit);
-    gap = digit-small (x .gap);
-    cjk = digit-small (x .cjk);
+    has-value = flag-le (x .has-value);
+    has-base = flag-le (x .has-base);
+    has-mult = flag-le (x .has-mult);
+    has-script = flag-le (x .has-script);
+    large-power = flag-le (x .large-power);
+    digit = flag-le (x .digit);
+    gap = flag-le (x .gap);
+    cjk = flag-le (x .cjk);
   }
 
   map-bits : MapBits x
@@ -134,14 +128,14 @@ record-back x f =
       m .digit,
       m .gap,
       m .cjk,
-      digit-back (x .has-value),
-      digit-back (x .has-base),
-      digit-back (x .has-mult),
-      digit-back (x .has-script),
-      digit-back (x .large-power),
-      digit-back (x .digit),
-      digit-back (x .gap),
-      digit-back (x .cjk),
+      flag-stands (x .has-value),
+      flag-stands (x .has-base),
+      flag-stands (x .has-mult),
+      flag-stands (x .has-script),
+      flag-stands (x .large-power),
+      flag-stands (x .digit),
+      flag-stands (x .gap),
+      flag-stands (x .cjk),
     )
 
 pub length-record : (x : StoredEdge) → length (recordBytes x) ≡ SIZE

@@ -1,5 +1,4 @@
 -- The bytes of an edge in the pass list, the numbers little-endian (specs/Layout.antt). Definitions only.
---     digitOf b        1 for true, 0 for false
 --     bit map of       whether the bit of worth `of` stands in map
 --     mapOf n          the marks of n in one number
 --     recordBytes x    the bytes of x
@@ -13,22 +12,19 @@ use Prim.Native.Nat.{ℕ, zero, suc, _+_, _*_, _/_, _%_}
 use lib.Dec.{eqb}
 use Rattle.fields.specs.Fields.{leAt, bytesOf}
 use Rattle.fields.specs.Part.{part}
+use Rattle.fields.specs.Flag.{flag}
 use Rattle.pass_list.specs.declared.record.PassData.{PassData}
 use Rattle.pass_list.specs.Layout.{SIZE, endAt, kindAt, mapAt, valueAt, baseAt, multAt, recordAt, scriptAt, scriptLenAt}
 use Rattle.pass_list.specs.Layout.{valueBit, baseBit, multBit, scriptBit, largePowerBit, digitBit, gapBit, cjkBit}
 use Rattle.pass_list.specs.StoredEdge.{StoredEdge, numData}
-
-abbrev pub digitOf : Bool → ℕ
-digitOf true = 1
-digitOf false = 0
 
 abbrev pub bit : ℕ → ℕ → Bool
 bit map of = eqb (map / of % 2) 1
 
 abbrev pub mapOf : PassData → ℕ
 mapOf n =
-    valueBit * digitOf (n .«has_value») + baseBit * digitOf (n .«has_base») + multBit * digitOf (n .«has_mult») + scriptBit * digitOf (n .«has_script»)
-    + largePowerBit * digitOf (n .«large_power») + digitBit * digitOf (n .digit) + gapBit * digitOf (n .gap) + cjkBit * digitOf (n .cjk)
+    valueBit * flag (n .«has_value») + baseBit * flag (n .«has_base») + multBit * flag (n .«has_mult») + scriptBit * flag (n .«has_script»)
+    + largePowerBit * flag (n .«large_power») + digitBit * flag (n .digit) + gapBit * flag (n .gap) + cjkBit * flag (n .cjk)
 
 unfoldable pub numBytes : StoredEdge → List ℕ
 numBytes x =

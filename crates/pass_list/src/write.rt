@@ -1,21 +1,15 @@
 // The bytes of an edge in the pass list, stored. The definitions are those of `pass_list`, specs/StoredEdge.antt and specs/Stored.antt; `pass_list::read` reads them.
 ghost use mathlib.Core.Path.{_≡_};
-ghost use Prim.Native.Nat.{_+_, _*_, _≤_};
+ghost use Prim.Native.Nat.{_+_, _≤_};
 ghost use lib.ListN.{length};
 ghost use lib.Seq.{sets};
 ghost use Rattle.pass_list.specs.StoredEdge.{StoredEdge, EdgeIs, NumIs};
 ghost use Rattle.pass_list.specs.Layout.{SIZE, valueAt};
-ghost use Rattle.pass_list.specs.Stored.{digitOf, mapOf, numBytes, recordBytes};
+ghost use Rattle.pass_list.specs.Stored.{mapOf, numBytes, recordBytes};
 use crate::layout;
 use crate::record::PassData;
 use crate::record::PassEdge;
-
-// What a mark adds to the map.
-fn bit_if(b: bool, of: u16) -> u16
-    ensures { λ r. ⌜ (r ≡ of * digitOf b) × (r ≤ of) ⌝ }
-{
-    if b { of } else { 0 }
-}
+use fields::write::bit_if;
 
 fn map_of(n: PassData) -> u16
     ensures { λ r. ⌜ r ≡ mapOf n ⌝ }

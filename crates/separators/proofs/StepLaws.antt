@@ -13,7 +13,8 @@ use lib.Dec.{eqb}
 use Rattle.text.proofs.RowLaws.{and-true}
 use Rattle.fields.specs.Fields.{bytesOf}
 use Rattle.fields.proofs.FieldsLaws.{length-bytesOf}
-use Rattle.edge.specs.Edge.{Edge, Text, Numeric, there, mapOf, str, opt, fractionBytes, numericBytes, edgeBytes}
+use Rattle.fields.specs.Flag.{there, bytesIf}
+use Rattle.edge.specs.Edge.{Edge, Text, Numeric, mapOf, str, fractionBytes, numericBytes, edgeBytes}
 use Rattle.edge.specs.Layout.{stands, mapAt, edgeAt}
 use Rattle.edge.proofs.WriteLaws.{length-str}
 use Rattle.edge.proofs.theorems.ReadBackLaws.{map-bits}
@@ -61,7 +62,7 @@ module _ {w : List ℕ} {len at to : ℕ} {e : Edge} (q : Source w len at to 2 e
   copy-dot t = rw (sym fraction-read ∙ t)
 
 -- ---- how long a short numeric edge is
-opt-le : {A : Type 0} (f : A → List ℕ) (k : ℕ) (x : Option A) → ((a : A) → x ≡ some a → length (f a) ≤ k) → length (opt f x) ≤ k
+opt-le : {A : Type 0} (f : A → List ℕ) (k : ℕ) (x : Option A) → ((a : A) → x ≡ some a → length (f a) ≤ k) → length (bytesIf f x) ≤ k
 opt-le f k none h = omega arith
 opt-le f k (some a) h = h a refl
 
@@ -101,7 +102,7 @@ edge-short e c t = go (e .num) refl t
         let b = s .txt in
         let f = fields-short e x s in
         let l = length-by-txt e in
-        let o : length (fieldsBytes e) ≡ length (numericBytes x) = ap (λ (y : Option Numeric). length (opt numericBytes y)) p in
+        let o : length (fieldsBytes e) ≡ length (numericBytes x) = ap (λ (y : Option Numeric). length (bytesIf numericBytes y)) p in
         omega arith
 
 -- ---- the i-th edge of the lattice

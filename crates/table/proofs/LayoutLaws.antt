@@ -37,6 +37,16 @@ pub then-is : {A B : Type 0} (f : Field A) (k : A → ℕ → Field B) {b : B} {
 then-is (Is a next) k e = record { value = a; next = next; first = refl; rest = e }
 then-is Fault k e = no-fault refl e
 
+-- what holds of what was read, and of the offset behind it
+abbrev pub OnField : {A : Type 0} → (A → ℕ → Type 0) → Field A → Type 0
+OnField P (Is a next) = P a next
+OnField P Fault = Unit {0}
+
+pub on-then : {A B : Type 0} (P : A → ℕ → Type 0) (Q : B → ℕ → Type 0) (f : Field A) (k : A → ℕ → Field B) → OnField P f
+    → ((a : A) (next : ℕ) → P a next → OnField Q (k a next)) → OnField Q (thenField f k)
+on-then P Q (Is a next) k p g = g a next p
+on-then P Q Fault k p g = tt
+
 -- ---- numbers and strings
 module _ (s : List ℕ) (at : ℕ) where
   pub number-cut : (w : ℕ) → length s < at + w → number w s at ≡ Fault

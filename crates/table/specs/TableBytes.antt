@@ -13,6 +13,7 @@ use mathlib.Core.Option.{Option, none, some}
 use lib.ListN.{length}
 use lib.Dec.{leb, ltb}
 use Rattle.fields.specs.Fields.{bytesOf, u16Limit}
+use Rattle.fields.specs.Flag.{there, flag, bytesIf}
 use Rattle.table.specs.Table.{Text, Record, Table}
 use Rattle.table.specs.Check.{allOf, legalMark, legalRecord}
 use Rattle.table.specs.Layout.{maxString}
@@ -29,23 +30,9 @@ inRow f (a ∷ l) = f a ++ inRow f l
 unfoldable pub list : List Text → List ℕ
 list ts = length ts ∷ inRow string ts
 
--- a field that may be absent has no bytes then
-abbrev pub bytesIf : {A : Type 0} → (A → List ℕ) → Option A → List ℕ
-bytesIf f none = []
-bytesIf f (some a) = f a
-
 -- numerator, denominator
 abbrev pub pair : ℕ × ℕ → List ℕ
 pair (n, d) = bytesOf 8 n ++ bytesOf 8 d
-
--- the bit that says whether a field is there
-abbrev pub there : {A : Type 0} → Option A → ℕ
-there none = 0
-there (some a) = 1
-
-abbrev pub flag : Bool → ℕ
-flag false = 0
-flag true = 1
 
 unfoldable pub mapOf : Record → ℕ
 mapOf r =

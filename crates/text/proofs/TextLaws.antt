@@ -117,6 +117,10 @@ chars-left =
     (λ c s h ih. rw (left-cons c s h) ih)
 
 -- ---- texts one after the other
+pub encodes-one : (c : ℕ) → encodes (c ∷ []) ≡ encode c
+unfolding encodes
+encodes-one c = append-nil (encode c)
+
 pub encodes-append : (cs ds : List ℕ) → encodes (cs ++ ds) ≡ encodes cs ++ encodes ds
 unfolding encodes
 encodes-append [] ds = refl

@@ -13,8 +13,9 @@ use borrow.Author.Tests.{eqb-true, eqb-false, leb-true, ltb-true, ltb-false}
 use Rattle.fields.specs.Fields.{le, leAt, bytesOf}
 use Rattle.fields.specs.Part.{part}
 use Rattle.fields.proofs.PartLaws.{length-part, part-at, part-add, part-all}
+use Rattle.fields.specs.Flag.{bytesIf}
 use Rattle.edge.specs.declared.ListingCheck.the-variants.{Edges, Refused}
-use Rattle.edge.specs.Edge.{numericMap, mapOf, str, opt, fractionBytes, numericBytes, headBytes, edgeBytes, edgesBytes, listingBytes}
+use Rattle.edge.specs.Edge.{numericMap, mapOf, str, fractionBytes, numericBytes, headBytes, edgeBytes, edgesBytes, listingBytes}
 use Rattle.edge.specs.Layout.{bit, stands, only, mapAt, textAt, stringEnd, stringEndIf, txtAt, headEnd, fractionAt, baseAt, multAt, scriptAt, valueSAt, fieldsEnd, nextAt, numericAt, edgeAt, edgesAt, listed}
 use Rattle.edge.specs.Check.{allowed, good, checkEdges, checkListing}
 use Rattle.edge.specs.View.{fieldsAt}
@@ -66,25 +67,25 @@ module _ (s : List ℕ) (small : (i : ℕ) → getD s i 0 < 256) where
       rw (length-part s (at + 2) (leAt s at 2) h) (run-then (number-run at 2 (omega arith)) (record { width = leAt s at 2; ends = refl; bytes = refl }))
 
   -- ---- a field that may be absent, whose bit is k
-  number-field-run : (k v : ℕ) → k < 2 → (eqb k 1 ≡ true → v + 8 ≤ length s) → Run s v (v + 8 * k) (opt (bytesOf 8) (only (eqb k 1) (leAt s v 8)))
+  number-field-run : (k v : ℕ) → k < 2 → (eqb k 1 ≡ true → v + 8 ≤ length s) → Run s v (v + 8 * k) (bytesIf (bytesOf 8) (only (eqb k 1) (leAt s v 8)))
   number-field-run k v l h = go (eqb k 1) refl
     where
-      go : (b : Bool) → eqb k 1 ≡ b → Run s v (v + 8 * k) (opt (bytesOf 8) (only b (leAt s v 8)))
+      go : (b : Bool) → eqb k 1 ≡ b → Run s v (v + 8 * k) (bytesIf (bytesOf 8) (only b (leAt s v 8)))
       go true e = rw (eqb-true k 1 e) (number-run v 8 (h e))
       go false e = let z : k ≡ 0 = (let d = eqb-false k 1 e in omega arith) in rw (z, add-zero v) (no-run s v)
 
   fraction-field-run : (k v : ℕ) → k < 2 → (eqb k 1 ≡ true → v + 16 ≤ length s)
-      → Run s v (v + 16 * k) (opt fractionBytes (only (eqb k 1) (leAt s v 8, leAt s (v + 8) 8)))
+      → Run s v (v + 16 * k) (bytesIf fractionBytes (only (eqb k 1) (leAt s v 8, leAt s (v + 8) 8)))
   fraction-field-run k v l h = go (eqb k 1) refl
     where
       two : v + 16 ≤ length s → Run s v (v + 8 + 8) (bytesOf 8 (leAt s v 8) ++ bytesOf 8 (leAt s (v + 8) 8))
       two i = run-then (number-run v 8 (omega arith)) (number-run (v + 8) 8 (omega arith))
 
-      go : (b : Bool) → eqb k 1 ≡ b → Run s v (v + 16 * k) (opt fractionBytes (only b (leAt s v 8, leAt s (v + 8) 8)))
+      go : (b : Bool) → eqb k 1 ≡ b → Run s v (v + 16 * k) (bytesIf fractionBytes (only b (leAt s v 8, leAt s (v + 8) 8)))
       go true e = let j : v + 8 + 8 ≡ v + 16 = omega arith in rw (eqb-true k 1 e) (rw j at (two (h e)))
       go false e = let z : k ≡ 0 = (let d = eqb-false k 1 e in omega arith) in rw (z, add-zero v) (no-run s v)
 
-  text-field-run : (b : Bool) (v : ℕ) → (b ≡ true → stringEnd s v ≤ length s) → Run s v (stringEndIf b s v) (opt str (only b (textAt s v)))
+  text-field-run : (b : Bool) (v : ℕ) → (b ≡ true → stringEnd s v ≤ length s) → Run s v (stringEndIf b s v) (bytesIf str (only b (textAt s v)))
   text-field-run true v h = text-run v (h refl)
   text-field-run false v h = no-run s v
 
@@ -138,7 +139,7 @@ module _ (s : List ℕ) (small : (i : ℕ) → getD s i 0 < 256) where
 
       go : (b : Bool) → stands 0 (mapAt s at) ≡ b → (given : Bool) → cond given (eqb (mapAt s at) 0) (cond b (ltb (mapAt s at) 512) (eqb (mapAt s at) 0)) ≡ true
           → Run s at (cond b (fieldsEnd (mapAt s at) s (headEnd s at)) (headEnd s at))
-          (headBytes (mapOf (only b (numericAt (mapAt s at) s (headEnd s at)))) (leAt s (at + 2) 2) (leAt s (at + 4) 2) (textAt s (at + 6)) (textAt s (txtAt s at)) ++ opt numericBytes (only b (numericAt (mapAt s at) s (headEnd s at))))
+          (headBytes (mapOf (only b (numericAt (mapAt s at) s (headEnd s at)))) (leAt s (at + 2) 2) (leAt s (at + 4) 2) (textAt s (at + 6)) (textAt s (txtAt s at)) ++ bytesIf numericBytes (only b (numericAt (mapAt s at) s (headEnd s at))))
       go true e true t = let z = eqb-true (mapAt s at) 0 t in let o = eqb-true (bit 0 (mapAt s at)) 1 e in absurd (omega arith)
       go true e false t =
           rw (numeric-map (mapAt s at) (headEnd s at) e (ltb-true (mapAt s at) 512 t)) (run-then head (fields-run (mapAt s at) (headEnd s at) (fields-within s at (length s) h e)))

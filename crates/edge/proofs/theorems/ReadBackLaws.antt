@@ -13,7 +13,9 @@ use lib.Dec.{eqb}
 use Rattle.fields.specs.Fields.{leAt, bytesOf}
 use Rattle.fields.specs.Part.{part}
 use Rattle.fields.proofs.FieldsLaws.{leAt-of-drop, leAt-bytesOf, length-bytesOf}
-use Rattle.edge.specs.Edge.{Text, Numeric, Edge, there, flag, numericMap, mapOf, str, opt, fractionBytes, numericBytes, headBytes, edgeBytes, NumericFits, EdgeFits}
+use Rattle.fields.specs.Flag.{there, flag, bytesIf}
+use Rattle.fields.proofs.FlagLaws.{there-le, flag-le, flag-stands}
+use Rattle.edge.specs.Edge.{Text, Numeric, Edge, numericMap, mapOf, str, fractionBytes, numericBytes, headBytes, edgeBytes, NumericFits, EdgeFits}
 use Rattle.edge.specs.Layout.{bit, stands, only, mapAt, textAt, stringEnd, stringEndIf, txtAt, headEnd, fractionAt, baseAt, multAt, scriptAt, valueSAt, fieldsEnd, nextAt, numericAt, edgeAt}
 use Rattle.edge.proofs.WriteLaws.{length-str, length-head}
 
@@ -51,16 +53,16 @@ module _ (s : List ℕ) (at : ℕ) (x rest : List ℕ) (e : drop at s ≡ str x 
 -- ---- a field that may be absent, whose bit is k
 record FieldRead {A : Type 0} (f : A → List ℕ) (x : Option A) (read : Option A) (s : List ℕ) (v next : ℕ) (rest : List ℕ) : Type 0 where
   pub is : read ≡ x
-  pub ends : next ≡ v + length (opt f x)
+  pub ends : next ≡ v + length (bytesIf f x)
   pub then : drop next s ≡ rest
 
 module _ (s : List ℕ) (v k : ℕ) (rest : List ℕ) where
-  number-field : (x : Option ℕ) → k ≡ there x → drop v s ≡ opt (bytesOf 8) x ++ rest → ((n : ℕ) → x ≡ some n → n < 2 ^ 64)
+  number-field : (x : Option ℕ) → k ≡ there x → drop v s ≡ bytesIf (bytesOf 8) x ++ rest → ((n : ℕ) → x ≡ some n → n < 2 ^ 64)
       → FieldRead (bytesOf 8) x (only (eqb k 1) (leAt s v 8)) s v (v + 8 * k) rest
   number-field none b e h = rw b (record { is = refl; ends = refl; then = rw (add-zero v) e })
   number-field (some n) b e h = rw b (record { is = ap some (number-there s v 8 n rest e (h n refl)); ends = rw (length-bytesOf 8 n); then = number-behind s v 8 n rest e })
 
-  fraction-field : (x : Option (ℕ × ℕ)) → k ≡ there x → drop v s ≡ opt fractionBytes x ++ rest → ((p : ℕ × ℕ) → x ≡ some p → (p .0 < 2 ^ 64) × (p .1 < 2 ^ 64))
+  fraction-field : (x : Option (ℕ × ℕ)) → k ≡ there x → drop v s ≡ bytesIf fractionBytes x ++ rest → ((p : ℕ × ℕ) → x ≡ some p → (p .0 < 2 ^ 64) × (p .1 < 2 ^ 64))
       → FieldRead fractionBytes x (only {A = ℕ × ℕ} (eqb k 1) (leAt s v 8, leAt s (v + 8) 8)) s v (v + 16 * k) rest
   fraction-field none b e h = rw b (record { is = refl; ends = refl; then = rw (add-zero v) e })
   fraction-field (some p) b e h =
@@ -71,7 +73,7 @@ module _ (s : List ℕ) (v k : ℕ) (rest : List ℕ) where
       let l : length (fractionBytes p) ≡ 16 = length-append (bytesOf 8 (p .0)) (bytesOf 8 (p .1)) ∙ rw (length-bytesOf 8 (p .0), length-bytesOf 8 (p .1)) in
       rw b (record { is = rw (i, j); ends = rw l; then = rw l at (behind s v (fractionBytes p) rest e) })
 
-  text-field : (x : Option Text) → k ≡ there x → drop v s ≡ opt str x ++ rest → ((t : Text) → x ≡ some t → length t < 2 ^ 16)
+  text-field : (x : Option Text) → k ≡ there x → drop v s ≡ bytesIf str x ++ rest → ((t : Text) → x ≡ some t → length t < 2 ^ 16)
       → FieldRead str x (only (eqb k 1) (textAt s v)) s v (stringEndIf (eqb k 1) s v) rest
   text-field none b e h = rw b (record { is = refl; ends = sym (add-zero v); then = e })
   text-field (some t) b e h =
@@ -84,18 +86,6 @@ module _ (a b c d e f g h : ℕ) (la : a ≤ 1) (lb : b ≤ 1) (lc : c ≤ 1) (l
 
   bits : (bit 0 sum ≡ 1) × (bit 1 sum ≡ a) × (bit 2 sum ≡ b) × (bit 3 sum ≡ c) × (bit 4 sum ≡ d) × (bit 5 sum ≡ e) × (bit 6 sum ≡ f) × (bit 7 sum ≡ g) × (bit 8 sum ≡ h)
   bits = (omega arith, omega arith, omega arith, omega arith, omega arith, omega arith, omega arith, omega arith, omega arith)
-
-one : {A : Type 0} (x : Option A) → there x ≤ 1
-one none = omega arith
-one (some a) = omega arith
-
-one-flag : (b : Bool) → flag b ≤ 1
-one-flag true = omega arith
-one-flag false = omega arith
-
-flag-stands : (b : Bool) → eqb (flag b) 1 ≡ b
-flag-stands true = refl
-flag-stands false = refl
 
 pub record Bits (n : Numeric) (m : ℕ) : Type 0 where
   pub numeric : bit 0 m ≡ 1
@@ -113,28 +103,28 @@ unfolding numericMap
 map-bits n =
     let b =
     bits (there (n .value)) (there (n .fraction)) (there (n .base)) (there (n .mult)) (there (n .script)) (flag (n .large)) (flag (n .active)) (there (n .value-s))
-    (one (n .value)) (one (n .fraction)) (one (n .base)) (one (n .mult)) (one (n .script)) (one-flag (n .large)) (one-flag (n .active)) (one (n .value-s)) in
+    (there-le (n .value)) (there-le (n .fraction)) (there-le (n .base)) (there-le (n .mult)) (there-le (n .script)) (flag-le (n .large)) (flag-le (n .active)) (there-le (n .value-s)) in
     record { numeric = b .0; value = b .1; fraction = b .2; base = b .3; mult = b .4; script = b .5; large = b .6; active = b .7; value-s = b .8 }
 
 -- ---- the fields of a numeric edge
 module _ (n : Numeric) (m : ℕ) (b : Bits n m) (fit : NumericFits n) (s : List ℕ) (at : ℕ) (rest : List ℕ) (stand : drop at s ≡ numericBytes n ++ rest) where
   rest₇ : List ℕ
-  rest₇ = opt str (n .value-s) ++ rest
+  rest₇ = bytesIf str (n .value-s) ++ rest
 
   rest₅ : List ℕ
-  rest₅ = opt str (n .script) ++ rest₇
+  rest₅ = bytesIf str (n .script) ++ rest₇
 
   rest₄ : List ℕ
-  rest₄ = opt (bytesOf 8) (n .mult) ++ rest₅
+  rest₄ = bytesIf (bytesOf 8) (n .mult) ++ rest₅
 
   rest₃ : List ℕ
-  rest₃ = opt (bytesOf 8) (n .base) ++ rest₄
+  rest₃ = bytesIf (bytesOf 8) (n .base) ++ rest₄
 
   rest₂ : List ℕ
-  rest₂ = opt fractionBytes (n .fraction) ++ rest₃
+  rest₂ = bytesIf fractionBytes (n .fraction) ++ rest₃
 
   rest₁ : List ℕ
-  rest₁ = opt (bytesOf 8) (n .value) ++ rest₂
+  rest₁ = bytesIf (bytesOf 8) (n .value) ++ rest₂
 
   in-a-row : drop at s ≡ str (n .orig) ++ rest₁
   unfolding numericBytes rest₁ rest₂ rest₃ rest₄ rest₅ rest₇
@@ -242,7 +232,7 @@ module _ (m a z : ℕ) (ty tx : Text) (s : List ℕ) (at : ℕ) (rest : List ℕ
 map-small : (n : Numeric) → numericMap n < 2 ^ 16
 unfolding numericMap
 map-small n =
-    omega (arith, one (n .value), one (n .fraction), one (n .base), one (n .mult), one (n .script), one-flag (n .large), one-flag (n .active), one (n .value-s))
+    omega (arith, there-le (n .value), there-le (n .fraction), there-le (n .base), there-le (n .mult), there-le (n .script), flag-le (n .large), flag-le (n .active), there-le (n .value-s))
 
 -- the edge e stands in s from at on
 pub record EdgeRead (e : Edge) (s : List ℕ) (at : ℕ) : Type 0 where

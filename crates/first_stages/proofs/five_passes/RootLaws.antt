@@ -3,7 +3,7 @@
 use mathlib.Core.Path.{_≡_, refl, sym, subst}
 use mathlib.Core.Bool.{Bool, true, false, cond}
 use mathlib.Core.List.{List, [], _∷_}
-use mathlib.Core.Option.{Option, none, some, Option·map, Option·some-injective, Option·some-ne-none}
+use mathlib.Core.Option.{none, some, Option·some-injective, Option·some-ne-none}
 use Prim.Native.Nat.{ℕ}
 use native.Mathlib.Omega.{arith}
 use lib.Dec.{eqb}
@@ -11,13 +11,10 @@ use Rattle.passes.specs.Passes.{Pass, D1, G1, G2, G3, G4}
 use Rattle.pass_list.specs.StoredEdge.{StoredEdge, Every, AllSmall, nil, cons}
 use Rattle.pass_list.specs.StoredPass.{StoredChain, kindOf, begin, joins, longer, over, counted, withNumbers, retags, retagged, joinedValue, next, chainsOf, edgesOf, after}
 use Rattle.pass_list.specs.Edges.{WellMade}
+use Rattle.pass_list.proofs.in_turn.KindLaws.{map-same}
 use Rattle.pass_list.proofs.in_turn.Simulation.{Agrees, chains-sound}
 use Rattle.pass_list.specs.InTurn.{ofKind}
 use Rattle.pass_edge.specs.Grounded.{ScriptAt, Rooted, AllGrounded}
-
-map-same : {A : Type 0} (o : Option A) → o ≡ Option·map (λ a. a) o
-map-same none = refl
-map-same (some a) = refl
 
 module _ (t : List ℕ) where
   abbrev Script : StoredEdge → Type 0

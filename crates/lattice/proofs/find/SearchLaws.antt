@@ -13,7 +13,8 @@ use Rattle.fields.specs.Fields.{bytesOf}
 use Rattle.fields.specs.Part.{part}
 use Rattle.fields.proofs.FieldsLaws.{length-bytesOf}
 use Rattle.fields.proofs.PartLaws.{length-part}
-use Rattle.edge.specs.Edge.{Edge, there, mapOf, edgeBytes}
+use Rattle.fields.specs.Flag.{there}
+use Rattle.edge.specs.Edge.{Edge, mapOf, edgeBytes}
 use Rattle.lattice.specs.Lattice.{sameKey, has}
 use Rattle.lattice.specs.Kept.{key, noEdge, offset, Kept, Keyed, Stands, Holds, AddingIs, bucket}
 use Rattle.lattice.specs.declared.Lattice.{Lattice}

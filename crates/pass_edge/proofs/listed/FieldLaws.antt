@@ -12,6 +12,8 @@ use Rattle.whole.specs.Decimal.{padded}
 use Rattle.whole.proofs.WholeLaws.{ofNat-not-nan}
 use Rattle.fields.specs.Part.{part}
 use Rattle.fields.proofs.PartLaws.{part-all}
+use Rattle.fields.specs.Flag.{there, flag}
+use Rattle.fields.proofs.FlagLaws.{flag-le, flag-stands}
 use Rattle.text.specs.Text.{chars}
 use Rattle.table.specs.Check.{small}
 use Rattle.table.specs.Answers.{optionally}
@@ -20,7 +22,7 @@ use Rattle.pass_list.specs.StoredEdge.{StoredEdge, passEdge}
 use Rattle.pass_list.specs.Edges.{between, edgeOf, txtOf}
 use Rattle.numbers.specs.Ready.{Offsets}
 use Rattle.edge.specs.declared.NumFields.{NumFields}
-use Rattle.edge.specs.Edge.{Text, Numeric, f64Bits, there, flag, numericMap}
+use Rattle.edge.specs.Edge.{Text, Numeric, f64Bits, numericMap}
 use Rattle.edge.specs.Layout.{bit, only}
 use Rattle.edge.specs.View.{textOf, numericOf}
 use Rattle.edge.specs.Write.{numeric, fieldsOf, Writable}
@@ -41,10 +43,6 @@ fraction-joined t k at h = rw (ne-eqb k 0 h)
 only-there : {A : Type 0} (o : Option A) (v : A) (k : ℕ) → k ≡ there o → ((a : A) → o ≡ some a → v ≡ a) → only (eqb k 1) v ≡ o
 only-there none v k e h = rw e
 only-there (some a) v k e h = rw e (ap some (h a refl))
-
-flag-stands : (b : Bool) (k : ℕ) → k ≡ flag b → eqb k 1 ≡ b
-flag-stands true k e = rw e
-flag-stands false k e = rw e
 
 pub record FieldsAre (o c v : List ℕ) (d : NumFields) (n : Numeric) : Type 0 where
   pub map : d .map ≡ numericMap n
@@ -70,8 +68,8 @@ numeric-is o c v d n f =
       only-there (n .base) (d .base) (bit 3 (d .map)) (b .base) (f .base),
       only-there (n .mult) (d .«base_multiplier») (bit 4 (d .map)) (b .mult) (f .mult),
       only-there (n .script) (textOf c (d .script)) (bit 5 (d .map)) (b .script) (f .script),
-      flag-stands (n .large) (bit 6 (d .map)) (b .large),
-      flag-stands (n .active) (bit 7 (d .map)) (b .active),
+      ap (λ (k : ℕ). eqb k 1) (b .large) ∙ flag-stands (n .large),
+      ap (λ (k : ℕ). eqb k 1) (b .active) ∙ flag-stands (n .active),
       only-there (n .value-s) (textOf v (d .«value_s»)) (bit 8 (d .map)) (b .value-s) (f .value-s),
     )
 
@@ -111,10 +109,6 @@ there-digits : (b : Bool) (t : Text) → there (cond b (some t) none) ≡ flag b
 there-digits true t = refl
 there-digits false t = refl
 
-flag-small : (b : Bool) → flag b ≤ 1
-flag-small true = omega arith
-flag-small false = omega arith
-
 module _ (w t : List ℕ) (x : StoredEdge) (f : Fraction) (h : FractionIs f (storedFraction t (x .kind) (x .record-at))) where
   pub map-listed : storedMap (passEdge x) (f .there) ≡ numericMap (numericIn w t x)
   unfolding numericMap numericIn
@@ -136,13 +130,13 @@ pub map-small : (e : PassEdge) (f : Bool) → storedMap e f < 512
 map-small e f =
     omega (
       arith,
-      flag-small (e .num .«has_value»),
-      flag-small f,
-      flag-small (e .num .«has_base»),
-      flag-small (e .num .«has_mult»),
-      flag-small (e .num .«has_script»),
-      flag-small (e .num .«large_power»),
-      flag-small (eqb (e .kind) 1),
+      flag-le (e .num .«has_value»),
+      flag-le f,
+      flag-le (e .num .«has_base»),
+      flag-le (e .num .«has_mult»),
+      flag-le (e .num .«has_script»),
+      flag-le (e .num .«large_power»),
+      flag-le (eqb (e .kind) 1),
     )
 
 -- ---- the stored edge's fields

@@ -14,7 +14,7 @@ use Rattle.pass_list.specs.StoredPass.{StoredChain, kindOf, begin, joins
 use Rattle.pass_list.proofs.in_turn.Simulation.{Agrees, chains-sound}
 use Rattle.pass_list.specs.InTurn.{ofKind}
 
-map-same : {A : Type 0} (o : Option A) → o ≡ Option·map (λ a. a) o
+pub map-same : {A : Type 0} (o : Option A) → o ≡ Option·map (λ a. a) o
 map-same none = refl
 map-same (some a) = refl
 

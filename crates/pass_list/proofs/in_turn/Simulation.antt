@@ -20,7 +20,7 @@ use Rattle.text.specs.Sequence.{scalar, encode}
 use Rattle.text.specs.Text.{encodes, Scalars}
 use Rattle.text.proofs.BytesLaws.{same-true}
 use Rattle.text.proofs.RowLaws.{and-true}
-use Rattle.text.proofs.TextLaws.{encodes-append, encodes-injective, scalars-take, scalars-drop}
+use Rattle.text.proofs.TextLaws.{encodes-append, encodes-injective, scalars-take, scalars-drop, encodes-one}
 use Rattle.table.specs.Answers.{optionally}
 use Rattle.passes.specs.NumEdge.{NumEdge, orZero, has}
 use Rattle.passes.specs.NumEdge as edges
@@ -125,10 +125,6 @@ padded-more k m d h =
     let b : (10 * m + d) % 10 ≡ d = omega arith in
     let c : d % 10 ≡ d = omega arith in
     rw (a, b, c)
-
-encodes-one : (c : ℕ) → encodes (c ∷ []) ≡ encode c
-unfolding encodes
-encodes-one c = append-nil (encode c)
 
 between-is : (w : List ℕ) (a b : ℕ) → between w a b ≡ encodes (take (b - a) (drop a w))
 unfolding between

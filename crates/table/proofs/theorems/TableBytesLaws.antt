@@ -19,10 +19,12 @@ use Rattle.whole.specs.Whole.{TOP}
 use Rattle.fields.specs.Fields.{le, leAt, bytesOf}
 use Rattle.fields.specs.Part.{part}
 use Rattle.fields.proofs.FieldsLaws.{length-bytesOf, le-bytesOf}
+use Rattle.fields.specs.Flag.{there, flag, bytesIf}
+use Rattle.fields.proofs.FlagLaws.{there-le, flag-le, flag-stands}
 use Rattle.table.specs.Table.{Text, Record, Table}
 use Rattle.table.specs.Layout.{Field, Is, bit, number, textOf, text, fraction, optional, readNumbers, numbersIn, recordWith, readFields, readRecord}
 use Rattle.table.specs.Check.{Fine, item, allOf, small, positive, legalRatio, legalMark, legalCodePoint, legalTexts, legalNumbers, digitRule, legalRecord, readTexts, readList, readRecords, readTable}
-use Rattle.table.specs.TableBytes.{string, inRow, list, bytesIf, pair, there, flag, mapOf, recordBytes, tableBytes, short, shortTexts, legalStrings, legalList, legalRecords, legal}
+use Rattle.table.specs.TableBytes.{string, inRow, list, pair, mapOf, recordBytes, tableBytes, short, shortTexts, legalStrings, legalList, legalRecords, legal}
 use Rattle.table.proofs.LayoutLaws.{number-is, fields-are}
 use Rattle.table.proofs.CheckLaws.{item-legal}
 
@@ -99,18 +101,6 @@ module _ (a b c d e f g : ℕ) (la : a ≤ 1) (lb : b ≤ 1) (lc : c ≤ 1) (ld 
   bits : (sum / 1 % 2 ≡ a) × (sum / 2 % 2 ≡ b) × (sum / 4 % 2 ≡ c) × (sum / 8 % 2 ≡ d) × (sum / 16 % 2 ≡ e) × (sum / 32 % 2 ≡ f) × (sum / 64 % 2 ≡ g) × (sum < 128)
   bits = (omega arith, omega arith, omega arith, omega arith, omega arith, omega arith, omega arith, omega arith)
 
-one : {A : Type 0} (x : Option A) → there x ≤ 1
-one none = omega arith
-one (some a) = omega arith
-
-one-flag : (b : Bool) → flag b ≤ 1
-one-flag true = omega arith
-one-flag false = omega arith
-
-flag-stands : (b : Bool) → eqb (flag b) 1 ≡ b
-flag-stands true = refl
-flag-stands false = refl
-
 record Bits (r : Record) (m : ℕ) : Type 0 where
   pub rom : m / 1 % 2 ≡ there (r .rom)
   pub value : m / 2 % 2 ≡ there (r .value)
@@ -126,7 +116,7 @@ unfolding mapOf
 map-bits r =
     let b =
     bits (there (r .rom)) (there (r .value)) (there (r .fraction)) (there (r .base)) (there (r .mult)) (there (r .script)) (flag (r .large-power))
-    (one (r .rom)) (one (r .value)) (one (r .fraction)) (one (r .base)) (one (r .mult)) (one (r .script)) (one-flag (r .large-power)) in
+    (there-le (r .rom)) (there-le (r .value)) (there-le (r .fraction)) (there-le (r .base)) (there-le (r .mult)) (there-le (r .script)) (flag-le (r .large-power)) in
     record { rom = b .0; value = b .1; fraction = b .2; base = b .3; mult = b .4; script = b .5; large = b .6; low = b .7 }
 
 -- ---- what a legal record's fields keep to

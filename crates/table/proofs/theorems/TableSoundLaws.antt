@@ -15,10 +15,13 @@ use Rattle.fields.specs.Fields.{le, leAt, bytesOf}
 use Rattle.fields.specs.Part.{part}
 use Rattle.fields.proofs.FieldsLaws.{leAt-lt}
 use Rattle.fields.proofs.PartLaws.{length-part}
+use Rattle.fields.specs.Flag.{there, flag, bytesIf}
+use Rattle.fields.proofs.FlagLaws.{flag-is}
 use Rattle.table.specs.Table.{Text, Record, Table}
-use Rattle.table.specs.Layout.{Field, Is, Fault, thenField, mapField, bit, number, textOf, text, fraction, optional, Numbers, readNumbers, recordWith, readFields, readRecord}
+use Rattle.table.specs.Layout.{Field, Is, Fault, mapField, bit, number, textOf, text, fraction, optional, Numbers, readNumbers, recordWith, readFields, readRecord}
 use Rattle.table.specs.Check.{Checked, Fine, Refused, thenItem, item, allOf, legalMark, legalRecord, readTexts, readList, readRecords, readTable}
-use Rattle.table.specs.TableBytes.{string, inRow, list, bytesIf, pair, there, flag, mapOf, recordBytes, tableBytes, short, shortTexts, legalStrings, legalList, legalRecords, legal}
+use Rattle.table.specs.TableBytes.{string, inRow, list, pair, mapOf, recordBytes, tableBytes, short, shortTexts, legalStrings, legalList, legalRecords, legal}
+use Rattle.table.proofs.LayoutLaws.{OnField, on-then}
 use Rattle.table.proofs.theorems.TableBytesLaws.{Stands, complete}
 
 -- ---- bytes in a row
@@ -45,15 +48,6 @@ stands-all : {s b : List ℕ} → Stands s 0 b (length s) → s ≡ b
 stands-all {s} {b} h = h .bytes ∙ ap (λ (t : List ℕ). b ++ t) (drop-length s) ∙ append-nil b
 
 -- ---- what holds of what was read
-abbrev OnField : {A : Type 0} → (A → ℕ → Type 0) → Field A → Type 0
-OnField P (Is a next) = P a next
-OnField P Fault = Unit {0}
-
-on-then : {A B : Type 0} (P : A → ℕ → Type 0) (Q : B → ℕ → Type 0) (f : Field A) (k : A → ℕ → Field B) → OnField P f
-    → ((a : A) (next : ℕ) → P a next → OnField Q (k a next)) → OnField Q (thenField f k)
-on-then P Q (Is a next) k p g = g a next p
-on-then P Q Fault k p g = tt
-
 on-map : {A B : Type 0} (P : A → ℕ → Type 0) (Q : B → ℕ → Type 0) (h : A → B) (f : Field A) → OnField P f → ((a : A) (next : ℕ) → P a next → Q (h a) next)
     → OnField Q (mapField h f)
 on-map P Q h (Is a next) p g = g a next p
@@ -84,11 +78,6 @@ on-next P Q (Refused number at) k p g = tt
 on-item-weaken : {A : Type 0} (P Q : A → ℕ → Type 0) (x : Checked A) → OnItem P x → ((a : A) (next : ℕ) → P a next → Q a next) → OnItem Q x
 on-item-weaken P Q (Fine a next) p g = g a next p
 on-item-weaken P Q (Refused number at) p g = tt
-
-flag-eqb : (x : ℕ) → x < 2 → flag (eqb x 1) ≡ x
-flag-eqb zero h = refl
-flag-eqb (suc zero) h = refl
-flag-eqb (suc (suc x)) h = absurd (omega arith)
 
 -- ---- a map is the sum of its bits
 half : (n : ℕ) → n ≡ n % 2 + 2 * (n / 2)
@@ -207,7 +196,7 @@ module _ (s : List ℕ) (low : (i : ℕ) → getD s i 0 < 256) where
       → Stands s at (recordBytes (recordWith c m type rom n script)) next
   unfolding recordBytes mapOf
   record-is-read c m type rom n script {at} {next} l h b0 b1 b2 b3 b4 b5 =
-      let b6 : flag (bit m 6) ≡ m / 64 % 2 = flag-eqb (m / 64 % 2) (omega arith) in
+      let b6 : flag (bit m 6) ≡ m / 64 % 2 = flag-is (m / 64 % 2) (omega arith) in
       let e : m ≡ there rom + 2 * there (n .value) + 4 * there (n .fraction) + 8 * there (n .base) + 16 * there (n .mult) + 32 * there script + 64 * flag (bit m 6)
       = sum-bits (there rom) (there (n .value)) (there (n .fraction)) (there (n .base)) (there (n .mult)) (there script) (first-bit m) (bit-step m 0 (there rom) b0) (bit-step m 1 (there (n .value)) b1) (bit-step m 2 (there (n .fraction)) b2) (bit-step m 3 (there (n .base)) b3)
       (bit-step m 4 (there (n .mult)) b4) (bit-step m 5 (there script) b5) (last-bit m l ∙ sym b6) in

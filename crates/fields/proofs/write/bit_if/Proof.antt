@@ -1,7 +1,7 @@
 -- `bit_if` meets its contract. Assumes nothing.
 use native.Mathlib.Omega.{arith}
-use Rattle.pass_list.proofs.write.bit_if.Statement.{statement}
-use Rattle.pass_list.proofs.write.bit_if.Tie as tie
+use Rattle.fields.proofs.write.bit_if.Statement.{statement}
+use Rattle.fields.proofs.write.bit_if.Tie as tie
 
 returns : tie.Need-returns
 returns c = (rw (c .if1 .taken) (omega arith), omega arith)
