@@ -3,6 +3,7 @@ ghost use mathlib.Core.Path.{_≡_};
 ghost use Rattle.call.specs.Checks.{tableRefusal, RestIs, LentIs, LentIndexed};
 use answers::Refusal;
 use edge::ListingCheck;
+use table::index::INDEX_SIZE;
 use table::shape::Shape;
 use table::shape::TableCheck;
 use text::LineCheck;
@@ -29,7 +30,7 @@ fn check_rest(
     chars: usize,
     table: &[u8],
     edges: &[u8],
-    offs: &mut [u32; 256],
+    offs: &mut [u32; INDEX_SIZE],
     entries: &mut usize,
 ) -> CallCheck
     ensures { λ r. ⌜ RestIs chars (now (table .entry)) (now (edges .entry)) r ⌝ }
@@ -49,7 +50,7 @@ pub fn check(
     line: &[u8],
     table: &[u8],
     edges: &[u8],
-    offs: &mut [u32; 256],
+    offs: &mut [u32; INDEX_SIZE],
     entries: &mut usize,
 ) -> CallCheck
     ensures { λ r. ⌜ LentIs (now (line .entry)) (now (table .entry)) (now (edges .entry)) r ⌝ }

@@ -15,13 +15,14 @@ ghost use Rattle.first_stages.specs.Five.{listedStored, behind};
 ghost use Rattle.call.specs.Rest.{restOf};
 use lattice::Lattice;
 use table::shape::Shape;
+use text::check::PLACES;
 
 // The stages after the passes, for a line of n characters; k stored edges are in the list after G4.
 pub fn run_last_stages(
     w: &mut [u8],
     l: Lattice,
     line: &[u8],
-    offs: &[usize; 257],
+    offs: &[usize; PLACES],
     table: &[u8],
     h: Shape,
     n: usize,

@@ -19,18 +19,23 @@ pub use answers::Answer;
 pub use answers::Refusal;
 pub use answers::refusal_told;
 use first_stages::five_passes::PassesAnswer;
+use table::index::INDEX_SIZE;
 use table::shape::Shape;
+use text::check::PLACES;
+
+// The least work space (refusal 1).
+pub const WORK_SIZE: usize = 65536;
 
 // The stages, for what passed its checks. The output is written only at the end.
 fn checked_call(
     line: &[u8],
-    offs: &[usize; 257],
+    offs: &[usize; PLACES],
     table: &[u8],
     h: Shape,
     n: usize,
     edges: &[u8],
     count: usize,
-    index: &[u32; 256],
+    index: &[u32; INDEX_SIZE],
     entries: usize,
     work: &mut [u8],
     out: &mut [u8],
@@ -57,15 +62,15 @@ pub fn add_numbers(
 ) -> Answer
     ensures { λ r. ⌜ AnswerIs (now (out .entry)) (now (out .exit)) r (addNumbers (now (line .entry)) (now (table .entry)) (now (edges .entry)) (length (now (work .entry))) (length (now (out .entry)))) ⌝ }
 {
-    if work.len() < 65536 {
+    if work.len() < WORK_SIZE {
         return Answer::Refused(Refusal::ShortWork);
     }
-    let mut index = [0u32; 256];
+    let mut index = [0u32; INDEX_SIZE];
     let mut entries: usize = 0;
     match crate::checks::check(line, table, edges, &mut index, &mut entries) {
         CallCheck::Refused(r) => Answer::Refused(r),
         CallCheck::Accepted(n, h, count) => {
-            let mut offs = [0usize; 257];
+            let mut offs = [0usize; PLACES];
             pass_edge::places::place_offsets(line, &mut offs);
             checked_call(
                 line,

@@ -8,6 +8,7 @@ use pass_edge::Fraction;
 use pass_list::record::PassEdge;
 use table::bits;
 use table::record::known::record_here;
+use text::check::PLACES;
 
 // Its fraction. Only a record that has one is read whole.
 fn fraction_at(table: &[u8], at: usize) -> Fraction
@@ -29,7 +30,7 @@ pub fn add_char(
     w: &mut [u8],
     l: Lattice,
     line: &[u8],
-    offs: &[usize; 257],
+    offs: &[usize; PLACES],
     table: &[u8],
     x: PassEdge,
 ) -> Lattice

@@ -81,5 +81,10 @@ pub fn script_at(map: u16, v: usize) -> usize
     requires { ⌜ v ≤ 10000000000000000000 ⌝ }
     ensures { λ r. ⌜ (r ≡ scriptAt map v) × (r ≤ v + 40) ⌝ }
 {
-    v + 8 * ((map / bits::VALUE % 2) + 2 * (map / bits::FRACTION % 2) + (map / bits::BASE % 2) + (map / bits::MULT % 2)) as usize
+    v
+        + 8
+            * ((map / bits::VALUE % 2)
+                + 2 * (map / bits::FRACTION % 2)
+                + (map / bits::BASE % 2)
+                + (map / bits::MULT % 2)) as usize
 }

@@ -52,7 +52,8 @@ fn numbers_sound(d: NumFields) -> bool
     ensures { λ r. ⌜ r ≡ numbersSound d ⌝ }
 {
     let fraction = (d.numerator <= TOP) & (d.denominator <= TOP) & (0 < d.denominator);
-    (!edge::bit(d.map, bits::FRACTION) | fraction) & (!edge::bit(d.map, bits::BASE) | (d.base <= TOP))
+    (!edge::bit(d.map, bits::FRACTION) | fraction)
+        & (!edge::bit(d.map, bits::BASE) | (d.base <= TOP))
 }
 
 // Whether the fields of a numeric edge may stand.

@@ -15,6 +15,7 @@ ghost use Rattle.fallback.specs.Marks.{digitEdge, unmarked, anyDigit};
 use lattice::Lattice;
 use marks::Asked;
 use text::Place;
+use text::check::PLACES;
 
 // The edge of a character at a place, by its first byte, if it is a digit whose place has no mark.
 fn add_digit(w: &mut [u8], l: Lattice, b: u8, place: Place, marked: bool) -> Lattice
@@ -33,9 +34,9 @@ fn add_unmarked(
     w: &mut [u8],
     l: Lattice,
     line: &[u8],
-    offs: &[usize; 257],
+    offs: &[usize; PLACES],
     n: usize,
-    marks: &[bool; 257],
+    marks: &[bool; PLACES],
 ) -> Lattice
     requires { ⌜ ((es : List Edge) × Holds (now w) l es) × Offsets (now line) (now offs) × (length (chars (now line)) ≡ n) × (n ≤ maxChars) ⌝ }
     ensures { λ r. ⌜ SameBehind (now (w .entry)) (now (w .exit)) × ((es : List Edge) → Holds (now (w .entry)) l es → Holds (now (w .exit)) r (addAll es (unmarked (now (marks .entry)) 0 (chars (now (line .entry)))))) ⌝ }
@@ -65,7 +66,7 @@ pub fn any_digit(line: &[u8]) -> bool
 }
 
 // The fallback's edges are added, for a line of n characters. The marks are those of the lattice before the first of them.
-pub fn fallback(w: &mut [u8], l: Lattice, line: &[u8], offs: &[usize; 257], n: usize) -> Lattice
+pub fn fallback(w: &mut [u8], l: Lattice, line: &[u8], offs: &[usize; PLACES], n: usize) -> Lattice
     requires { ⌜ Offsets (now line) (now offs) × (length (chars (now line)) ≡ n) × (n ≤ maxChars) × ((es : List Edge) × Holds (now w) l es × Legals n es) ⌝ }
     ensures { λ r. ⌜ SameBehind (now (w .entry)) (now (w .exit)) × ((es : List Edge) → Holds (now (w .entry)) l es → Legals n es → Holds (now (w .exit)) r (addAll es (fallback es 0 (chars (now (line .entry)))))) ⌝ }
 {
@@ -75,7 +76,7 @@ pub fn fallback(w: &mut [u8], l: Lattice, line: &[u8], offs: &[usize; 257], n: u
     if !any_digit(line) {
         return l;
     }
-    let mut marks = [false; 257];
+    let mut marks = [false; PLACES];
     marks::mark_places(w, l, Asked::OnePlace, &mut marks);
     add_unmarked(w, l, line, offs, n, &marks)
 }

@@ -26,12 +26,14 @@ use lattice::Lattice;
 use pass_list::layout::SIZE;
 use pass_list::write::write_edge;
 use table::index::CharRecord;
+use table::index::INDEX_SIZE;
 use table::index::RecordRun;
 use table::index::find_char;
 use table::layout::NumProp;
 use table::shape::Shape;
 use text::Offset;
 use text::Place;
+use text::check::PLACES;
 
 // The lattice, and how many stored edges the pass list has.
 pub struct CharsAnswer {
@@ -45,7 +47,7 @@ fn put_and_add(
     l: Lattice,
     n: usize,
     line: &[u8],
-    offs: &[usize; 257],
+    offs: &[usize; PLACES],
     table: &[u8],
     p: NumProp,
     record_at: Offset,
@@ -65,10 +67,10 @@ fn add_char(
     w: &mut [u8],
     done: CharsAnswer,
     line: &[u8],
-    offs: &[usize; 257],
+    offs: &[usize; PLACES],
     table: &[u8],
     all: RecordRun,
-    index: &[u32; 256],
+    index: &[u32; INDEX_SIZE],
     entries: usize,
     place: Place,
     c: u32,
@@ -92,10 +94,10 @@ fn add_chars(
     w: &mut [u8],
     l: Lattice,
     line: &[u8],
-    offs: &[usize; 257],
+    offs: &[usize; PLACES],
     table: &[u8],
     all: RecordRun,
-    index: &[u32; 256],
+    index: &[u32; INDEX_SIZE],
     entries: usize,
 ) -> CharsAnswer
     requires { ⌜ Room (now w) l (now line) (now offs) × (wellFormed (now line) ≡ true) × Records (now table) all × Indexed (now table) (recordsIn (now table) all) (now index) (all .left) entries ⌝ }
@@ -132,10 +134,10 @@ pub fn initialize_num_edges(
     w: &mut [u8],
     l: Lattice,
     line: &[u8],
-    offs: &[usize; 257],
+    offs: &[usize; PLACES],
     table: &[u8],
     h: Shape,
-    index: &[u32; 256],
+    index: &[u32; INDEX_SIZE],
     entries: usize,
 ) -> CharsAnswer
     requires { ⌜ ((es : List Edge) × Holds (now w) l es) × Offsets (now line) (now offs) × (workSize ≤ length (now w)) × ((n : ℕ) × Ready (now line) (now table) h n) × RecordIndex (now table) h (now index) entries ⌝ }

@@ -23,7 +23,10 @@ use pass_list::layout::KIND_AT;
 use pass_list::layout::SIZE;
 use pass_list::record::PassEdge;
 use pass_list::run::PassAnswer;
+use table::layout::MAX_STRING;
 use text::Place;
+use text::check::MAX_CHARS;
+use text::check::PLACES;
 
 // What the passes give: the lattice with the joined edges and how many edges the list has then; or the start of the first joined edge above TOP.
 pub enum PassesAnswer {
@@ -36,15 +39,15 @@ fn add_joined(
     w: &mut [u8],
     l: Lattice,
     line: &[u8],
-    offs: &[usize; 257],
+    offs: &[usize; PLACES],
     table: &[u8],
     x: PassEdge,
 ) -> Lattice
     requires { ⌜ Addable (now w) l (now line) (now offs) (now table) x × (x .kind ≡ 0 → ⊥) ⌝ }
     ensures { λ r. ⌜ Added (now (line .entry)) (now (table .entry)) x (now (w .entry)) l (now (w .exit)) r ⌝ }
 {
-    let mut ty = [0u8; 60];
-    let mut txt = [0u8; 256];
+    let mut ty = [0u8; MAX_STRING];
+    let mut txt = [0u8; MAX_CHARS];
     let ty_len = pass_edge::edge_type::type_of(&mut ty, table, x);
     let len = pass_edge::txt::txt_of(&mut txt, line, offs, table, x);
     pass_edge::listed::add_texts(
@@ -69,7 +72,7 @@ fn add_if(
     w: &mut [u8],
     l: Lattice,
     line: &[u8],
-    offs: &[usize; 257],
+    offs: &[usize; PLACES],
     table: &[u8],
     i: usize,
     kind: u16,
@@ -91,7 +94,7 @@ fn add_of_kind(
     w: &mut [u8],
     l: Lattice,
     line: &[u8],
-    offs: &[usize; 257],
+    offs: &[usize; PLACES],
     table: &[u8],
     n: usize,
     kind: u16,
@@ -117,7 +120,7 @@ fn one_pass(
     w: &mut [u8],
     l: Lattice,
     line: &[u8],
-    offs: &[usize; 257],
+    offs: &[usize; PLACES],
     table: &[u8],
     n: usize,
     i: usize,
@@ -143,7 +146,7 @@ pub fn five_passes(
     w: &mut [u8],
     l: Lattice,
     line: &[u8],
-    offs: &[usize; 257],
+    offs: &[usize; PLACES],
     table: &[u8],
     n: usize,
 ) -> PassesAnswer

@@ -13,18 +13,20 @@ ghost use Rattle.table_check.specs.Indexed.{RecordIndex};
 ghost use Rattle.numbers.specs.Ready.{Ready, Offsets, workSize};
 ghost use Rattle.first_stages.specs.Stages.{CallPassed};
 use crate::five_passes::PassesAnswer;
+use table::index::INDEX_SIZE;
 use table::shape::Shape;
+use text::check::PLACES;
 
 // The given edges, those of the characters, and those that the five passes join.
 pub fn run_first_stages(
     w: &mut [u8],
     line: &[u8],
-    offs: &[usize; 257],
+    offs: &[usize; PLACES],
     table: &[u8],
     h: Shape,
     edges: &[u8],
     count: usize,
-    index: &[u32; 256],
+    index: &[u32; INDEX_SIZE],
     entries: usize,
 ) -> PassesAnswer
     requires { ⌜ Offsets (now line) (now offs) × (workSize ≤ length (now w)) × ((n : ℕ) × Ready (now line) (now table) h n × (checkListing true n (now edges) ≡ Edges count)) × RecordIndex (now table) h (now index) entries ⌝ }

@@ -17,6 +17,7 @@ use edge::bits;
 use lattice::Lattice;
 use markers::Marker;
 use text::Place;
+use text::check::PLACES;
 
 // What the marker at a place leads to: nothing; "right%" from the values; "right/left"; the right neighbour's txt and "%", from the marker on.
 pub enum Form {
@@ -205,8 +206,8 @@ fn between(w: &[u8], l: Lattice, percent: bool, other: Choice, left: usize, righ
 fn marked(
     w: &[u8],
     l: Lattice,
-    lefts: &[usize; 257],
-    rights: &[usize; 257],
+    lefts: &[usize; PLACES],
+    rights: &[usize; PLACES],
     percent: bool,
     place: Place,
     n: usize,
@@ -225,8 +226,8 @@ fn marked(
 pub fn outcome_at(
     w: &[u8],
     l: Lattice,
-    lefts: &[usize; 257],
-    rights: &[usize; 257],
+    lefts: &[usize; PLACES],
+    rights: &[usize; PLACES],
     marker: Marker,
     p: Place,
 ) -> Choice

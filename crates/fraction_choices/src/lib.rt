@@ -19,17 +19,19 @@ use crate::decision::Choice;
 use lattice::Lattice;
 use table::shape::Shape;
 use text::Place;
+use text::check::MAX_CHARS;
+use text::check::PLACES;
 
 // What the marker at a place leads to. before and behind keep the left and the right neighbours of all places.
 fn choice_at(
     w: &[u8],
     l: Lattice,
     line: &[u8],
-    offs: &[usize; 257],
+    offs: &[usize; PLACES],
     table: &[u8],
     h: Shape,
-    before: &[usize; 257],
-    behind: &[usize; 257],
+    before: &[usize; PLACES],
+    behind: &[usize; PLACES],
     p: Place,
 ) -> Choice
     requires { ⌜ ((n : ℕ) × Ready (now line) (now table) h n) × Offsets (now line) (now offs) × ((es : List Edge) × HoldsNeighbors (now w) l (now before) (now behind) es) × (p .0 < length (chars (now line))) ⌝ }
@@ -44,15 +46,15 @@ fn choose_all(
     w: &[u8],
     l: Lattice,
     line: &[u8],
-    offs: &[usize; 257],
+    offs: &[usize; PLACES],
     table: &[u8],
     h: Shape,
     n: usize,
-    before: &[usize; 257],
-    behind: &[usize; 257],
-    forms: &mut [usize; 256],
-    lefts: &mut [usize; 256],
-    rights: &mut [usize; 256],
+    before: &[usize; PLACES],
+    behind: &[usize; PLACES],
+    forms: &mut [usize; MAX_CHARS],
+    lefts: &mut [usize; MAX_CHARS],
+    rights: &mut [usize; MAX_CHARS],
 )
     requires { ⌜ Ready (now line) (now table) h n × Offsets (now line) (now offs) × ((es : List Edge) × HoldsNeighbors (now w) l (now before) (now behind) es) × (length (now forms) ≡ maxChars) × (length (now lefts) ≡ maxChars) × (length (now rights) ≡ maxChars) ⌝ }
     ensures { λ _. ⌜ ((es : List Edge) → HoldsNeighbors (now (w .entry)) l (now (before .entry)) (now (behind .entry)) es → Decided (tableOf (now (table .entry)) h) (chars (now (line .entry))) es (now (forms .exit)) (now (lefts .exit)) (now (rights .exit)) n) ⌝ }
@@ -73,19 +75,19 @@ pub fn choose(
     w: &[u8],
     l: Lattice,
     line: &[u8],
-    offs: &[usize; 257],
+    offs: &[usize; PLACES],
     table: &[u8],
     h: Shape,
     n: usize,
-    forms: &mut [usize; 256],
-    lefts: &mut [usize; 256],
-    rights: &mut [usize; 256],
+    forms: &mut [usize; MAX_CHARS],
+    lefts: &mut [usize; MAX_CHARS],
+    rights: &mut [usize; MAX_CHARS],
 )
     requires { ⌜ Ready (now line) (now table) h n × Offsets (now line) (now offs) × ((es : List Edge) × HoldsLine (now w) l es) × (length (now forms) ≡ maxChars) × (length (now lefts) ≡ maxChars) × (length (now rights) ≡ maxChars) ⌝ }
     ensures { λ _. ⌜ ((es : List Edge) → HoldsLine (now (w .entry)) l es → Decided (tableOf (now (table .entry)) h) (chars (now (line .entry))) es (now (forms .exit)) (now (lefts .exit)) (now (rights .exit)) n) ⌝ }
 {
-    let mut before = [0usize; 257];
-    let mut behind = [0usize; 257];
+    let mut before = [0usize; PLACES];
+    let mut behind = [0usize; PLACES];
     crate::neighbors::neighbors(w, l, false, &mut before);
     crate::neighbors::neighbors(w, l, true, &mut behind);
     choose_all(

@@ -10,6 +10,7 @@ ghost use Rattle.text.specs.Line.{PLACES};
 use lattice::Lattice;
 use paths::Query;
 use text::Place;
+use text::check::PLACES;
 
 // What is asked for at a place: its right or its left neighbour.
 fn side(right: bool, place: Place) -> Query
@@ -39,8 +40,8 @@ fn scored_neighbors(
     w: &[u8],
     l: Lattice,
     right: bool,
-    tops: &mut [usize; 257],
-    table: &mut [usize; 257],
+    tops: &mut [usize; PLACES],
+    table: &mut [usize; PLACES],
 )
     requires { ⌜ ((es : List Edge) × HoldsLine (now w) l es) × (now tops ≡ replicate PLACES 0) × (now table ≡ replicate PLACES 0) ⌝ }
     ensures { λ _. ⌜ ((es : List Edge) → HoldsLine (now (w .entry)) l es → Neighbors right es (now (table .exit))) ⌝ }
@@ -57,10 +58,10 @@ fn scored_neighbors(
 }
 
 // The right or the left neighbours of all places: one more than their indices, 0 for none.
-pub fn neighbors(w: &[u8], l: Lattice, right: bool, table: &mut [usize; 257])
+pub fn neighbors(w: &[u8], l: Lattice, right: bool, table: &mut [usize; PLACES])
     requires { ⌜ ((es : List Edge) × HoldsLine (now w) l es) × (now table ≡ replicate PLACES 0) ⌝ }
     ensures { λ _. ⌜ ((es : List Edge) → HoldsLine (now (w .entry)) l es → Neighbors right es (now (table .exit))) ⌝ }
 {
-    let mut tops = [0usize; 257];
+    let mut tops = [0usize; PLACES];
     scored_neighbors(w, l, right, &mut tops, table);
 }

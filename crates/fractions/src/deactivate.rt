@@ -12,6 +12,7 @@ ghost use Rattle.text.specs.Line.{maxChars};
 use fraction_choices::decision::Choice;
 use fraction_choices::decision::Form;
 use lattice::Lattice;
+use text::check::MAX_CHARS;
 
 // Two edges turn inactive.
 fn turn_off_both(w: &mut [u8], l: Lattice, left: usize, right: usize)
@@ -42,9 +43,9 @@ fn turn_off_used(w: &mut [u8], l: Lattice, c: Choice)
 pub fn turn_off_all(
     w: &mut [u8],
     l: Lattice,
-    forms: &[usize; 256],
-    lefts: &[usize; 256],
-    rights: &[usize; 256],
+    forms: &[usize; MAX_CHARS],
+    lefts: &[usize; MAX_CHARS],
+    rights: &[usize; MAX_CHARS],
     n: usize,
 )
     requires { ⌜ ((es : List Edge) × Holds (now w) l es × AllValid es (now forms) (now lefts) (now rights) n) × (l .len ≡ 0 → ⊥) × (n ≤ maxChars) ⌝ }

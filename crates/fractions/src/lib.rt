@@ -21,14 +21,16 @@ ghost use Rattle.fractions.specs.Planned.{Planned};
 use lattice::Lattice;
 use table::shape::Shape;
 use text::Place;
+use text::check::MAX_CHARS;
+use text::check::PLACES;
 
 // The edges that the choices of n places make are added.
 fn add_all(
     w: &mut [u8],
     l: Lattice,
-    forms: &[usize; 256],
-    lefts: &[usize; 256],
-    rights: &[usize; 256],
+    forms: &[usize; MAX_CHARS],
+    lefts: &[usize; MAX_CHARS],
+    rights: &[usize; MAX_CHARS],
     n: usize,
 ) -> Lattice
     requires { ⌜ ((es : List Edge) × Planned n (now w) l es (now forms) (now lefts) (now rights)) × (n ≤ maxChars) ⌝ }
@@ -49,7 +51,7 @@ pub fn fractions(
     w: &mut [u8],
     l: Lattice,
     line: &[u8],
-    offs: &[usize; 257],
+    offs: &[usize; PLACES],
     table: &[u8],
     h: Shape,
     n: usize,
@@ -63,9 +65,9 @@ pub fn fractions(
     if !markers::any::any_marker(line, offs, table, h, n) {
         return l;
     }
-    let mut forms = [0usize; 256];
-    let mut lefts = [0usize; 256];
-    let mut rights = [0usize; 256];
+    let mut forms = [0usize; MAX_CHARS];
+    let mut lefts = [0usize; MAX_CHARS];
+    let mut rights = [0usize; MAX_CHARS];
     fraction_choices::choose(
         w,
         l,

@@ -10,6 +10,7 @@ ghost use Rattle.fraction_choices.specs.Choice.{outcomeOf, valueOr, Two};
 ghost use Rattle.fractions.specs.MadeParts.{HoldsCall};
 ghost use Rattle.fractions.specs.NewEdge.{percentOf, fractionOf, HoldsChoice, addOutcome};
 ghost use Rattle.fields.specs.Fields.{u16Limit};
+use crate::texts::TEXT_ROOM;
 use fraction_choices::decision::Choice;
 use fraction_choices::decision::Form;
 use lattice::Lattice;
@@ -23,7 +24,7 @@ fn add_percent(w: &mut [u8], l: Lattice, left: usize, right: usize) -> Lattice
     let a = crate::parts::head_of(w, l, left);
     let b = crate::parts::head_of(w, l, right);
     let v = crate::parts::value_of(w, l, right);
-    let mut buf = [0u8; 300];
+    let mut buf = [0u8; TEXT_ROOM];
     let n = crate::texts::put_percent(&mut buf, v);
     lattice_add::regular::add_regular(w, l, a.start, b.end, b"percentage", &buf[..n])
 }
@@ -37,8 +38,8 @@ fn add_fraction(w: &mut [u8], l: Lattice, left: usize, right: usize) -> Lattice
     let b = crate::parts::head_of(w, l, right);
     let lv = crate::parts::value_of(w, l, left);
     let rv = crate::parts::value_of(w, l, right);
-    let mut buf = [0u8; 300];
-    let mut script = [0u8; 300];
+    let mut buf = [0u8; TEXT_ROOM];
+    let mut script = [0u8; TEXT_ROOM];
     let n = crate::texts::put_fraction(&mut buf, rv, lv);
     let s = crate::parts::copy_script(&mut script, w, b.map, b.fields);
     let q = passes::ratio::lowest(rv, lv);

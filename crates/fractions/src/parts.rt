@@ -15,6 +15,7 @@ ghost use Rattle.fractions.specs.MadeParts.{HeadIs, scriptFrom, scriptLe
 ghost use Rattle.fractions.specs.MadeTexts.{textRoom};
 ghost use Rattle.table.specs.Layout.{maxString};
 ghost use Rattle.fields.specs.Fields.{u16Limit};
+use crate::texts::TEXT_ROOM;
 use edge::EdgeView;
 use edge::NumFields;
 use edge::Part;
@@ -32,7 +33,7 @@ pub enum Script {
 // ---- fields
 
 // The script of a numeric edge with this map, whose fields stand at an offset.
-pub fn copy_script(buf: &mut [u8; 300], w: &[u8], map: u16, at: usize) -> Script
+pub fn copy_script(buf: &mut [u8; TEXT_ROOM], w: &[u8], map: u16, at: usize) -> Script
     requires { ⌜ (fieldsEnd map (now w) at ≤ length (now w)) × ((t : Text) → numericAt map (now w) at .script ≡ some t → length t ≤ maxString) ⌝ }
     ensures { λ r. ⌜ (scriptFrom (now (buf .exit)) r ≡ numericAt map (now (w .entry)) at .script) × (scriptLen r ≤ maxString) ⌝ }
 {
@@ -106,7 +107,7 @@ pub fn add_txt_percent(w: &mut [u8], l: Lattice, p: Place, right: usize) -> Latt
     ensures { λ r. ⌜ SameBehind (now (w .entry)) (now (w .exit)) × ((n : ℕ) (es : List Edge) → HoldsCall n (now (w .entry)) l es → One es right → Holds (now (w .exit)) r (add es (txtPercentOf es (p .0) right))) ⌝ }
 {
     let b = head_of(w, l, right);
-    let mut buf = [0u8; 300];
+    let mut buf = [0u8; TEXT_ROOM];
     let n = crate::texts::put_txt_percent(&mut buf, w, b.txt);
     lattice_add::regular::add_regular(w, l, p, b.end, b"percentage", &buf[..n])
 }
@@ -120,7 +121,7 @@ pub fn add_composed(
     txt: &[u8],
     q: Ratio,
     s: Script,
-    script: &[u8; 300],
+    script: &[u8; TEXT_ROOM],
 ) -> Lattice
     requires { ⌜ ((es : List Edge) × Holds (now w) l es) × (start .0 < u16Limit) × (end .0 < u16Limit) × (length (now txt) ≤ textRoom) × (scriptLen s ≤ maxString) ⌝ }
     ensures { λ r. ⌜ SameBehind (now (w .entry)) (now (w .exit)) × ((es : List Edge) → Holds (now (w .entry)) l es → Holds (now (w .exit)) r (add es (fractionWith (start .0) (end .0) (now (txt .entry)) (q .numerator, q .denominator) (scriptFrom (now (script .entry)) s)))) ⌝ }

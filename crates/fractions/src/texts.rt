@@ -9,8 +9,11 @@ ghost use Rattle.fractions.specs.MadeTexts.{TextIs};
 ghost use Rattle.text.specs.Line.{maxChars};
 use edge::Part;
 
+// The room for the text of a new edge.
+pub const TEXT_ROOM: usize = 300;
+
 // A number and "%".
-pub fn put_percent(buf: &mut [u8; 300], v: u64) -> usize
+pub fn put_percent(buf: &mut [u8; TEXT_ROOM], v: u64) -> usize
     ensures { λ r. ⌜ TextIs (now (buf .exit)) r (decimal v ++ (37 ∷ [])) ⌝ }
 {
     let end = whole::decimal::put_decimal(buf, 0, v);
@@ -19,7 +22,7 @@ pub fn put_percent(buf: &mut [u8; 300], v: u64) -> usize
 }
 
 // "right/left".
-pub fn put_fraction(buf: &mut [u8; 300], right: u64, left: u64) -> usize
+pub fn put_fraction(buf: &mut [u8; TEXT_ROOM], right: u64, left: u64) -> usize
     ensures { λ r. ⌜ TextIs (now (buf .exit)) r (decimal right ++ (47 ∷ decimal left)) ⌝ }
 {
     let n = whole::decimal::put_decimal(buf, 0, right);
@@ -28,7 +31,7 @@ pub fn put_fraction(buf: &mut [u8; 300], right: u64, left: u64) -> usize
 }
 
 // A text of the lattice and "%".
-pub fn put_txt_percent(buf: &mut [u8; 300], w: &[u8], t: Part) -> usize
+pub fn put_txt_percent(buf: &mut [u8; TEXT_ROOM], w: &[u8], t: Part) -> usize
     requires { ⌜ (t .at + t .len ≤ length (now w)) × (t .len ≤ maxChars) ⌝ }
     ensures { λ r. ⌜ TextIs (now (buf .exit)) r (textOf (now (w .entry)) t ++ (37 ∷ [])) ⌝ }
 {

@@ -5,6 +5,7 @@ ghost use Prim.Native.Nat.{_≤_};
 ghost use lib.ListN.{length};
 ghost use Rattle.edge.specs.Edge.{Edge};
 ghost use Rattle.lattice.specs.Kept.{Holds, finished, finishedOut, END, SameBehind};
+use crate::BUCKETS;
 use crate::Finished;
 use crate::HEADS;
 use crate::Lattice;
@@ -16,7 +17,7 @@ pub fn empty(w: &mut [u8]) -> Lattice
 {
     fields::write::put_u16(w, 0, 0);
     let mut b = 0;
-    while b < 256 {
+    while b < BUCKETS {
         fields::write::put_u16(w, HEADS + 2 * b, 0);
         b += 1;
     }

@@ -12,13 +12,10 @@ ghost use Rattle.lattice.specs.Kept.{mixed, hash, Stands, Holds, Search,
 use crate::Adding;
 use crate::HEADS;
 use crate::Lattice;
+use crate::MOST_BYTES;
+use crate::MOST_EDGES;
 use crate::NEXTS;
 use crate::OFFSETS;
-
-// What a listing may hold.
-const MOST_EDGES: usize = 1024;
-
-const MOST_BYTES: usize = 32768;
 
 // A hash, with four bytes more.
 fn mix(h: u64, v: u32) -> u64

@@ -23,6 +23,13 @@ const HEADS: usize = 38912;
 
 pub const END: usize = 39424;
 
+const BUCKETS: usize = 256;
+
+// What a listing may hold.
+const MOST_EDGES: usize = 1024;
+
+pub const MOST_BYTES: usize = 32768;
+
 // A lattice: how many edges, and the length of their listing; 0, which no listing has, where they became too many or too long.
 pub struct Lattice {
     pub count: usize,
@@ -54,7 +61,11 @@ pub fn offset_at(w: &[u8], l: Lattice, i: usize) -> usize
 fn inactive_map(map: u16) -> u16
     ensures { λ r. ⌜ r ≡ inactiveMap map ⌝ }
 {
-    if edge::bit(map, bits::ACTIVE) { map - bits::ACTIVE } else { map }
+    if edge::bit(map, bits::ACTIVE) {
+        map - bits::ACTIVE
+    } else {
+        map
+    }
 }
 
 // The i-th edge turns inactive.

@@ -3,6 +3,7 @@
 use table::layout::Part;
 use table::layout::TextAt;
 use table::shape::Shape;
+use text::check::PLACES;
 ghost use mathlib.Core.Path.{_≡_};
 ghost use mathlib.Core.Bool.{true};
 ghost use Prim.Native.Nat.{_≤_};
@@ -15,7 +16,7 @@ ghost use Rattle.numbers.specs.Ready.{Ready, Offsets};
 ghost use Rattle.markers.specs.Marks.{Formed, standsFrom, anyStands, marked};
 
 // Whether the bytes m stand at one of the n places of the line.
-fn stands_somewhere(line: &[u8], offs: &[usize; 257], n: usize, m: &[u8]) -> bool
+fn stands_somewhere(line: &[u8], offs: &[usize; PLACES], n: usize, m: &[u8]) -> bool
     requires { ⌜ Offsets (now line) (now offs) × (length (chars (now line)) ≡ n) × (n ≤ maxChars) × (wellFormed (now m) ≡ true) ⌝ }
     ensures { λ r. ⌜ r ≡ standsFrom (chars (now (line .entry))) 0 n (now (m .entry)) ⌝ }
 {
@@ -31,7 +32,7 @@ fn stands_somewhere(line: &[u8], offs: &[usize; 257], n: usize, m: &[u8]) -> boo
 }
 
 // The same of a text of the table.
-fn text_somewhere(line: &[u8], offs: &[usize; 257], n: usize, table: &[u8], m: Part) -> bool
+fn text_somewhere(line: &[u8], offs: &[usize; PLACES], n: usize, table: &[u8], m: Part) -> bool
     requires { ⌜ Offsets (now line) (now offs) × (length (chars (now line)) ≡ n) × (n ≤ maxChars) × Within (now table) m × (wellFormed (partOf (now table) m) ≡ true) ⌝ }
     ensures { λ r. ⌜ r ≡ standsFrom (chars (now (line .entry))) 0 n (partOf (now (table .entry)) m) ⌝ }
 {
@@ -41,7 +42,7 @@ fn text_somewhere(line: &[u8], offs: &[usize; 257], n: usize, table: &[u8], m: P
 }
 
 // Whether a text of a list of the table stands at one of the n places.
-fn any_of(line: &[u8], offs: &[usize; 257], n: usize, table: &[u8], list: usize) -> bool
+fn any_of(line: &[u8], offs: &[usize; PLACES], n: usize, table: &[u8], list: usize) -> bool
     requires { ⌜ Offsets (now line) (now offs) × (length (chars (now line)) ≡ n) × (n ≤ maxChars) × Formed (listAt (now table) list) ⌝ }
     ensures { λ r. ⌜ r ≡ anyStands (chars (now (line .entry))) 0 n (listAt (now (table .entry)) list) ⌝ }
 {
@@ -68,7 +69,7 @@ fn any_of(line: &[u8], offs: &[usize; 257], n: usize, table: &[u8], list: usize)
 }
 
 // Whether a marker stands at one of the n places of the line.
-pub fn any_marker(line: &[u8], offs: &[usize; 257], table: &[u8], h: Shape, n: usize) -> bool
+pub fn any_marker(line: &[u8], offs: &[usize; PLACES], table: &[u8], h: Shape, n: usize) -> bool
     requires { ⌜ Ready (now line) (now table) h n × Offsets (now line) (now offs) ⌝ }
     ensures { λ r. ⌜ r ≡ marked (tableOf (now (table .entry)) h) (chars (now (line .entry))) ⌝ }
 {

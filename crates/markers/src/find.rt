@@ -4,6 +4,7 @@ use table::layout::Part;
 use table::layout::TextAt;
 use table::shape::Shape;
 use text::Place;
+use text::check::PLACES;
 ghost use mathlib.Core.Path.{_≡_};
 ghost use Prim.Native.Nat.{ℕ, _≤_, _<_};
 ghost use lib.ListN.{length};
@@ -85,7 +86,7 @@ fn longer_of(percentage: usize, connector: usize) -> Marker
 }
 
 // The marker that counts at a place.
-pub fn marker_at(line: &[u8], offs: &[usize; 257], table: &[u8], h: Shape, p: Place) -> Marker
+pub fn marker_at(line: &[u8], offs: &[usize; PLACES], table: &[u8], h: Shape, p: Place) -> Marker
     requires { ⌜ ((n : ℕ) × Ready (now line) (now table) h n) × Offsets (now line) (now offs) × (p .0 < length (chars (now line))) ⌝ }
     ensures { λ r. ⌜ markerOf r ≡ markerAt (tableOf (now (table .entry)) h) (chars (now (line .entry))) (p .0) ⌝ }
 {

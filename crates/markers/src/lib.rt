@@ -3,6 +3,7 @@ pub mod find; // find.rt: the marker that counts at a place
 pub mod any; // any.rt: whether a line has a marker at all
 
 use text::Place;
+use text::check::PLACES;
 ghost use mathlib.Core.Path.{_≡_};
 ghost use mathlib.Core.Bool.{true};
 ghost use Prim.Native.Nat.{_≤_};
@@ -55,7 +56,7 @@ pub fn stands(line: &[u8], at: usize, m: &[u8]) -> bool
 // ---- a sign directly before a place
 
 // By the sign's characters, counted back from the place.
-fn counted_back(line: &[u8], offs: &[usize; 257], p: Place, m: &[u8]) -> Sign
+fn counted_back(line: &[u8], offs: &[usize; PLACES], p: Place, m: &[u8]) -> Sign
     requires { ⌜ (length (chars (now line)) ≤ maxChars) × Offsets (now line) (now offs) × (p .0 ≤ length (chars (now line))) × (wellFormed (now m) ≡ true) ⌝ }
     ensures { λ r. ⌜ r ≡ signOf (chars (now (line .entry))) (p .0) (now (m .entry)) ⌝ }
 {
@@ -74,7 +75,7 @@ fn counted_back(line: &[u8], offs: &[usize; 257], p: Place, m: &[u8]) -> Sign
 }
 
 // The sign m of the table directly before a place of the line. Its characters are counted only where its last byte stands there.
-pub fn sign_before(line: &[u8], offs: &[usize; 257], p: Place, m: &[u8]) -> Sign
+pub fn sign_before(line: &[u8], offs: &[usize; PLACES], p: Place, m: &[u8]) -> Sign
     requires { ⌜ (length (chars (now line)) ≤ maxChars) × Offsets (now line) (now offs) × (p .0 ≤ length (chars (now line))) × (wellFormed (now m) ≡ true) ⌝ }
     ensures { λ r. ⌜ r ≡ signOf (chars (now (line .entry))) (p .0) (now (m .entry)) ⌝ }
 {

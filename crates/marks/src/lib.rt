@@ -15,6 +15,7 @@ ghost use Rattle.numbers.specs.Marks.{anyAt};
 ghost use Rattle.marks.specs.Marked.{onePlace, asks, placeBy};
 use edge::bits;
 use lattice::Lattice;
+use text::check::PLACES;
 
 // Which edges set a mark: those whose txt ends with a digit, at their end; numeric ones of one place, at their start.
 pub enum Asked {
@@ -23,7 +24,7 @@ pub enum Asked {
 }
 
 // Sets the mark of the place where an edge ends whose txt ends with a digit.
-fn mark_end(s: &[u8], at: usize, marks: &mut [bool; 257])
+fn mark_end(s: &[u8], at: usize, marks: &mut [bool; PLACES])
     requires { ⌜ Spanned 256 (now s) at ⌝ }
     ensures { λ _. ⌜ now (marks .exit) ≡ cond (endsWithDigit (edgeAt (now (s .entry)) at .txt)) (set (now (marks .entry)) (edgeAt (now (s .entry)) at .end) true) (now (marks .entry)) ⌝ }
 {
@@ -39,7 +40,7 @@ fn mark_end(s: &[u8], at: usize, marks: &mut [bool; 257])
 }
 
 // Sets the mark of an edge's place where the edge is numeric and one place long.
-fn mark_place(s: &[u8], at: usize, marks: &mut [bool; 257])
+fn mark_place(s: &[u8], at: usize, marks: &mut [bool; PLACES])
     requires { ⌜ Spanned 256 (now s) at ⌝ }
     ensures { λ _. ⌜ now (marks .exit) ≡ cond (onePlace (edgeAt (now (s .entry)) at)) (set (now (marks .entry)) (edgeAt (now (s .entry)) at .start) true) (now (marks .entry)) ⌝ }
 {
@@ -52,7 +53,7 @@ fn mark_place(s: &[u8], at: usize, marks: &mut [bool; 257])
 }
 
 // Sets the mark of an edge, if it is one that is asked for.
-fn mark(s: &[u8], at: usize, asked: Asked, marks: &mut [bool; 257])
+fn mark(s: &[u8], at: usize, asked: Asked, marks: &mut [bool; PLACES])
     requires { ⌜ Spanned 256 (now s) at ⌝ }
     ensures { λ _. ⌜ now (marks .exit) ≡ cond (asks asked (edgeAt (now (s .entry)) at)) (set (now (marks .entry)) (placeBy asked (edgeAt (now (s .entry)) at)) true) (now (marks .entry)) ⌝ }
 {
@@ -63,7 +64,7 @@ fn mark(s: &[u8], at: usize, asked: Asked, marks: &mut [bool; 257])
 }
 
 // The marks of all edges that are asked for. One walk over the lattice.
-pub fn mark_places(w: &[u8], l: Lattice, asked: Asked, marks: &mut [bool; 257])
+pub fn mark_places(w: &[u8], l: Lattice, asked: Asked, marks: &mut [bool; PLACES])
     requires { ⌜ (l .len ≡ 0 → ⊥) × ((n : ℕ) × (n ≤ 256) × ((es : List Edge) × Holds (now w) l es × Legals n es)) × (now marks ≡ replicate 257 false) ⌝ }
     ensures { λ _. ⌜ ((n : ℕ) (es : List Edge) → n ≤ 256 → Holds (now (w .entry)) l es → Legals n es → (p : ℕ) → p < 257 → getD (now (marks .exit)) p false ≡ anyAt (asks asked) (placeBy asked) es p) ⌝ }
 {

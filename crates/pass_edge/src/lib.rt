@@ -17,6 +17,7 @@ ghost use Rattle.numbers.specs.Ready.{Offsets};
 ghost use Rattle.pass_edge.specs.Grounded.{LegalAt};
 ghost use Rattle.pass_edge.specs.Texts.{charTxt, charType, Front};
 use text::Place;
+use text::check::PLACES;
 
 // The type of a character whose record was checked: its bytes in the table, by the length before them.
 pub fn type_at(table: &[u8], at: usize) -> &[u8]
@@ -40,7 +41,7 @@ pub fn rom_at(table: &[u8], at: usize) -> &[u8]
 }
 
 // The bytes of the line between two places.
-pub fn line_part<'a>(line: &'a [u8], offs: &[usize; 257], start: Place, end: Place) -> &'a [u8]
+pub fn line_part<'a>(line: &'a [u8], offs: &[usize; PLACES], start: Place, end: Place) -> &'a [u8]
     requires { ⌜ Offsets (now line) (now offs) × (start .0 ≤ end .0) × (end .0 ≤ length (chars (now line))) × (length (chars (now line)) ≤ maxChars) ⌝ }
     ensures { λ r. ⌜ now r ≡ between (chars (now (line .entry))) (start .0) (end .0) ⌝ }
 {

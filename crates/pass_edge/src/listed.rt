@@ -22,6 +22,7 @@ use edge::bits;
 use fields::write::bit_if;
 use lattice::Lattice;
 use pass_list::record::PassEdge;
+use text::check::PLACES;
 
 // Every edge that is listed here is numeric and active.
 const LISTED: u16 = bits::NUMERIC + bits::ACTIVE;
@@ -52,7 +53,7 @@ fn part_or(b: bool, at: usize, len: usize) -> Part
 }
 
 // The fields of a stored edge whose fraction is f and whose txt has so many bytes.
-fn fields_of(offs: &[usize; 257], x: PassEdge, f: Fraction, len: usize) -> NumFields
+fn fields_of(offs: &[usize; PLACES], x: PassEdge, f: Fraction, len: usize) -> NumFields
     requires { ⌜ Listable (now offs) x ⌝ }
     ensures { λ r. ⌜ r ≡ storedFields (now (offs .entry)) x f len ⌝ }
 {
@@ -84,7 +85,7 @@ pub fn add_texts(
     w: &mut [u8],
     l: Lattice,
     line: &[u8],
-    offs: &[usize; 257],
+    offs: &[usize; PLACES],
     table: &[u8],
     x: PassEdge,
     f: Fraction,

@@ -11,12 +11,13 @@ ghost use Rattle.pass_edge.specs.Texts.{charTxt, Front};
 use pass_list::record::PassEdge;
 use table::bits;
 use text::Place;
+use text::check::PLACES;
 
 // The txt of a character whose record was checked: rom, or else the character.
 fn char_txt(
     buf: &mut [u8],
     line: &[u8],
-    offs: &[usize; 257],
+    offs: &[usize; PLACES],
     table: &[u8],
     at: usize,
     start: Place,
@@ -32,7 +33,13 @@ fn char_txt(
 }
 
 // The txt of a stored edge goes to the front of a buffer: how many bytes. D1 keeps leading zeros, the other joined txt is the value.
-pub fn txt_of(buf: &mut [u8], line: &[u8], offs: &[usize; 257], table: &[u8], x: PassEdge) -> usize
+pub fn txt_of(
+    buf: &mut [u8],
+    line: &[u8],
+    offs: &[usize; PLACES],
+    table: &[u8],
+    x: PassEdge,
+) -> usize
     requires { ⌜ Offsets (now line) (now offs) × ((i : StoredEdge) × StoredIs (now line) (now table) x i) × (length (chars (now line)) ≤ maxChars) × (maxChars ≤ length (now buf)) ⌝ }
     ensures { λ r. ⌜ ((i : StoredEdge) → EdgeIs x i → Front (now (buf .entry)) (now (buf .exit)) r (txtOf (chars (now (line .entry))) (now (table .entry)) i)) ⌝ }
 {

@@ -31,7 +31,11 @@ fn put_num(out: &mut [u8], at: usize, record_at: u64, n: PassData)
 {
     fields::write::put_u64(out, at + layout::VALUE_AT, whole::exact_u64(n.value));
     fields::write::put_u64(out, at + layout::BASE_AT, n.base);
-    fields::write::put_u64(out, at + layout::MULT_AT, whole::exact_u64(n.base_multiplier));
+    fields::write::put_u64(
+        out,
+        at + layout::MULT_AT,
+        whole::exact_u64(n.base_multiplier),
+    );
     fields::write::put_u64(out, at + layout::RECORD_AT, record_at);
     fields::write::put_u64(out, at + layout::SCRIPT_AT, n.script.0 as u64);
     fields::write::put_u64(out, at + layout::SCRIPT_LEN_AT, n.script_len as u64);

@@ -8,8 +8,8 @@ ghost use Rattle.pass_list.specs.StoredEdge.{StoredEdge, passEdge, EdgeIs};
 ghost use Rattle.pass_list.specs.StoredPass.{retags, retagged, counted};
 ghost use Rattle.pass_list.specs.Answers.{passOf};
 ghost use Rattle.fields.specs.Fields.{u16Limit};
-use pass_list::run::Pass;
 use pass_list::record::PassEdge;
+use pass_list::run::Pass;
 
 fn is_power_of_10(n: u64) -> bool
     ensures { λ r. ⌜ r ≡ powerOfTen n ⌝ }

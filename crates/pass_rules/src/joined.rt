@@ -6,8 +6,8 @@ ghost use Rattle.whole.specs.Answers.{value};
 ghost use Rattle.pass_list.specs.StoredEdge.{StoredEdge, passEdge};
 ghost use Rattle.pass_list.specs.StoredPass.{valueOf, kindOf, over};
 ghost use Rattle.pass_list.specs.Answers.{passOf};
-use pass_list::run::Pass;
 use pass_list::record::PassEdge;
+use pass_list::run::Pass;
 use text::Offset;
 use whole::Bounded;
 

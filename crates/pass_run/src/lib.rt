@@ -20,13 +20,13 @@ ghost use Rattle.pass_run.specs.Ended.{Ended};
 ghost use Rattle.pass_run.specs.Run.{First, RunIs};
 use crate::look::may_join;
 use crate::take::may_take;
-use pass_rules::chain::Chain;
-use pass_rules::chain::Next;
-use pass_list::run::Pass;
-use pass_list::read::read_edge;
 use pass_list::layout::SIZE;
+use pass_list::read::read_edge;
+use pass_list::run::Pass;
 use pass_list::run::PassAnswer;
 use pass_list::write::write_edge;
+use pass_rules::chain::Chain;
+use pass_rules::chain::Next;
 use text::Place;
 
 // What the chain that an edge begins comes to: the index behind its last edge; or the start of the joined edge above TOP.

@@ -26,7 +26,8 @@ pub fn may_join(s: &[u8], a: usize, b: usize, pass: Pass) -> bool
     match pass {
         Pass::D1 => (l / layout::DIGIT % 2 == 1) & (r / layout::DIGIT % 2 == 1),
         Pass::G1 => (base == 1) & (1 < next) & !(r / layout::LARGE_POWER % 2 == 1),
-        Pass::G2 => !(l / layout::LARGE_POWER % 2 == 1) & ((next < base) | (r / layout::GAP % 2 == 1)),
+        Pass::G2 => !(l / layout::LARGE_POWER % 2 == 1)
+            & ((next < base) | (r / layout::GAP % 2 == 1)),
         Pass::G3 => !(l / layout::LARGE_POWER % 2 == 1) & (r / layout::LARGE_POWER % 2 == 1),
         Pass::G4 => (1000 <= base) | (next < base),
     }

@@ -8,9 +8,9 @@ ghost use Rattle.pass_list.specs.Stored.{storedAt};
 ghost use Rattle.pass_list.specs.StoredPass.{StoredChain, joins};
 ghost use Rattle.pass_list.specs.Answers.{passOf};
 ghost use Rattle.pass_rules.specs.Chain.{passChain};
-use pass_rules::chain::Chain;
 use pass_list::layout;
 use pass_list::run::Pass;
+use pass_rules::chain::Chain;
 
 // Whether the pass may join the edge at an offset to a chain.
 pub fn may_take(c: Chain, s: &[u8], at: usize, pass: Pass) -> bool

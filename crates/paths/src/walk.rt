@@ -10,9 +10,10 @@ use crate::Hop;
 use crate::Size;
 use text::Offset;
 use text::Place;
+use text::check::MAX_CHARS;
 
 // The step of the path from a place.
-fn hop_from(s: &[u8], tops: &[usize; 256], ats: &[usize; 256], place: Place) -> Hop
+fn hop_from(s: &[u8], tops: &[usize; MAX_CHARS], ats: &[usize; MAX_CHARS], place: Place) -> Hop
     requires { ⌜ Steps (now s) (now tops) (now ats) × (place .0 < maxChars) ⌝ }
     ensures { λ r. ⌜ r ≡ hopOf (now (s .entry)) (byTable (now (s .entry)) (now (tops .entry)) (now (ats .entry)) (place .0)) ⌝ }
 {
@@ -31,8 +32,8 @@ fn hop_from(s: &[u8], tops: &[usize; 256], ats: &[usize; 256], place: Place) -> 
 // The size of the path from a place to another.
 pub fn path_size(
     s: &[u8],
-    tops: &[usize; 256],
-    ats: &[usize; 256],
+    tops: &[usize; MAX_CHARS],
+    ats: &[usize; MAX_CHARS],
     start: Place,
     end: Place,
     room: usize,
@@ -69,8 +70,8 @@ pub fn path_size(
 // The edges of the path, copied behind the count.
 pub fn write_path(
     s: &[u8],
-    tops: &[usize; 256],
-    ats: &[usize; 256],
+    tops: &[usize; MAX_CHARS],
+    ats: &[usize; MAX_CHARS],
     start: Place,
     end: Place,
     out: &mut [u8],

@@ -9,7 +9,9 @@ ghost use Rattle.rows.specs.Printed.{TextIs};
 ghost use Rattle.print_line.specs.LineRows.{plainAnswer};
 use crate::read::Got;
 use call::Answer;
+use call::WORK_SIZE;
 use edge::Written;
+use lattice::MOST_BYTES;
 
 // The text of a line with a table and no given edges.
 fn answer_line(
@@ -32,8 +34,8 @@ fn plain_rows(line: &[u8], text: &mut [u8]) -> Written
     ensures { λ r. ⌜ TextIs (now (text .entry)) (now (text .exit)) r (plainAnswer (now (line .entry))) ⌝ }
 {
     let table = grammar::plain_table::plain_table();
-    let mut work = [0u8; 65536];
-    let mut out = [0u8; 32768];
+    let mut work = [0u8; WORK_SIZE];
+    let mut out = [0u8; MOST_BYTES];
     answer_line(line, &table, &mut work, &mut out, text)
 }
 

@@ -16,14 +16,15 @@ use paths::check::check;
 use paths::inside::is_inside;
 use paths::score::score_at;
 use text::Place;
+use text::check::MAX_CHARS;
 
 // The right neighbours of all places. One walk over the listing.
 fn right_neighbors(
     s: &[u8],
     count: usize,
     skip: bool,
-    tops: &mut [usize; 256],
-    ats: &mut [usize; 256],
+    tops: &mut [usize; MAX_CHARS],
+    ats: &mut [usize; MAX_CHARS],
 )
     requires { ⌜ Spans maxChars count (now s) 2 × (now tops ≡ replicate maxChars 0) × (now ats ≡ replicate maxChars 0) ⌝ }
     ensures { λ _. ⌜ Rights skip (now (s .entry)) count (now (tops .exit)) (now (ats .exit)) ⌝ }
@@ -52,8 +53,8 @@ fn path_in(
     ensures answer { λ r. ⌜ r ≡ written (fitting (length (now (out .entry))) (pathListing (now (listing .entry)) (path (rights skip (now (listing .entry)) count) (start .0) (end .0)))) ⌝ }
     ensures output { λ _. ⌜ now (out .exit) ≡ after (now (out .entry)) (fitting (length (now (out .entry))) (pathListing (now (listing .entry)) (path (rights skip (now (listing .entry)) count) (start .0) (end .0)))) ⌝ }
 {
-    let mut tops = [0usize; 256];
-    let mut ats = [0usize; 256];
+    let mut tops = [0usize; MAX_CHARS];
+    let mut ats = [0usize; MAX_CHARS];
     right_neighbors(listing, count, skip, &mut tops, &mut ats);
     match paths::walk::path_size(listing, &tops, &ats, start, end, out.len()) {
         Size::Over => PathAnswer::Refused(ReadRefusal::ShortOutput),

@@ -5,6 +5,8 @@ ghost use Prim.Native.Nat.{_≤_};
 ghost use lib.ListN.{length};
 use answers::CStatus;
 use call::Answer;
+use call::WORK_SIZE;
+use lattice::MOST_BYTES;
 
 // A proved loop has to end, and nothing says that the input does: no more cases are read than this.
 const MOST: u64 = 1000000;
@@ -41,8 +43,8 @@ fn write_refusal(t: CStatus) {
 }
 
 fn answer(line: &[u8], table: &[u8], edges: &[u8]) {
-    let mut work = [0u8; 65536];
-    let mut out = [0u8; 32768];
+    let mut work = [0u8; WORK_SIZE];
+    let mut out = [0u8; MOST_BYTES];
     match call::add_numbers(line, table, edges, &mut work, &mut out) {
         Answer::Listing(n) => {
             write_u32(n as u64);

@@ -33,7 +33,11 @@ fn mark(map: u16) -> u8
     if !edge::bit(map, bits::NUMERIC) {
         return b'-';
     }
-    if edge::bit(map, bits::ACTIVE) { b'1' } else { b'0' }
+    if edge::bit(map, bits::ACTIVE) {
+        b'1'
+    } else {
+        b'0'
+    }
 }
 
 // The row of an edge, for which there is room.

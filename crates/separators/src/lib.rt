@@ -18,9 +18,10 @@ ghost use Rattle.text.specs.Line.{maxChars};
 use edge::bits;
 use lattice::Lattice;
 use marks::Asked;
+use text::check::PLACES;
 
 // Whether an edge is numeric, starts at a place that has a mark, and begins with a digit: few of them have to be asked for the last.
-fn is_apart(s: &[u8], at: usize, marks: &[bool; 257]) -> bool
+fn is_apart(s: &[u8], at: usize, marks: &[bool; PLACES]) -> bool
     requires { ⌜ Spanned maxChars (now s) at ⌝ }
     ensures { λ r. ⌜ r ≡ apartBy (now (marks .entry)) (edgeAt (now (s .entry)) at) ⌝ }
 {
@@ -60,7 +61,7 @@ fn end_of(w: &[u8], l: Lattice, i: usize) -> usize
 }
 
 // The i-th edge is set apart, if the marks say so. The copy is made before its original turns inactive: it is active as that was.
-fn set_apart(w: &mut [u8], l: Lattice, i: usize, marks: &[bool; 257]) -> Lattice
+fn set_apart(w: &mut [u8], l: Lattice, i: usize, marks: &[bool; PLACES]) -> Lattice
     requires { ⌜ ((n : ℕ) × (n ≤ maxChars) × ((es : List Edge) × Holds (now w) l es × (i < length es) × CallEdge n (getD es i noEdge))) ⌝ }
     ensures { λ r. ⌜ SameBehind (now (w .entry)) (now (w .exit)) × ((n : ℕ) (es : List Edge) → n ≤ maxChars → Holds (now (w .entry)) l es → i < length es → CallEdge n (getD es i noEdge) → Holds (now (w .exit)) r (setApart (now (marks .entry)) es i)) ⌝ }
 {
@@ -81,7 +82,7 @@ fn set_apart(w: &mut [u8], l: Lattice, i: usize, marks: &[bool; 257]) -> Lattice
 }
 
 // All edges that are there are set apart in turn, if the marks say so. The copies are not looked at.
-fn set_all_apart(w: &mut [u8], l: Lattice, marks: &[bool; 257]) -> Lattice
+fn set_all_apart(w: &mut [u8], l: Lattice, marks: &[bool; PLACES]) -> Lattice
     requires { ⌜ ((n : ℕ) × (n ≤ maxChars) × ((es : List Edge) × Holds (now w) l es × (length es ≡ l .count) × CallEdges n es)) ⌝ }
     ensures { λ r. ⌜ SameBehind (now (w .entry)) (now (w .exit)) × ((n : ℕ) (es : List Edge) → n ≤ maxChars → Holds (now (w .entry)) l es → length es ≡ l .count → CallEdges n es → Holds (now (w .exit)) r (allApart (now (marks .entry)) es 0 (length es))) ⌝ }
 {
@@ -103,7 +104,7 @@ pub fn separate(w: &mut [u8], l: Lattice) -> Lattice
     if l.len == 0 {
         return l;
     }
-    let mut marks = [false; 257];
+    let mut marks = [false; PLACES];
     marks::mark_places(w, l, Asked::DigitEnds, &mut marks);
     set_all_apart(w, l, &marks)
 }

@@ -5,6 +5,7 @@ use pass_list::record::PassEdge;
 use table::layout::Part;
 use table::layout::TextAt;
 use text::Place;
+use text::check::PLACES;
 ghost use mathlib.Core.Path.{_≡_};
 ghost use mathlib.Core.Bool.{true};
 ghost use mathlib.Core.List.{List, _∷_, [], _++_};
@@ -42,7 +43,7 @@ fn sign_type(buf: &mut [u8], table: &[u8], x: PassEdge, sign: u8) -> usize
 fn sign_txt(
     buf: &mut [u8],
     line: &[u8],
-    offs: &[usize; 257],
+    offs: &[usize; PLACES],
     table: &[u8],
     x: PassEdge,
     sign: u8,
@@ -60,7 +61,7 @@ fn add_signed(
     w: &mut [u8],
     l: Lattice,
     line: &[u8],
-    offs: &[usize; 257],
+    offs: &[usize; PLACES],
     table: &[u8],
     x: PassEdge,
     sign: u8,
@@ -81,7 +82,7 @@ fn add_sign(
     w: &mut [u8],
     l: Lattice,
     line: &[u8],
-    offs: &[usize; 257],
+    offs: &[usize; PLACES],
     table: &[u8],
     x: PassEdge,
     sign: u8,
@@ -103,7 +104,7 @@ pub fn add_signs_of(
     w: &mut [u8],
     l: Lattice,
     line: &[u8],
-    offs: &[usize; 257],
+    offs: &[usize; PLACES],
     table: &[u8],
     list: usize,
     x: PassEdge,

@@ -5,6 +5,7 @@ use lattice::Lattice;
 use pass_list::layout::SIZE;
 use pass_list::record::PassEdge;
 use table::shape::Shape;
+use text::check::PLACES;
 ghost use mathlib.Core.List.{List, map};
 ghost use Prim.Native.Nat.{ℕ, _+_, _*_, _≤_};
 ghost use lib.ListN.{length, drop};
@@ -27,7 +28,7 @@ fn add_edge_signs(
     w: &mut [u8],
     l: Lattice,
     line: &[u8],
-    offs: &[usize; 257],
+    offs: &[usize; PLACES],
     table: &[u8],
     h: Shape,
     x: PassEdge,
@@ -50,7 +51,7 @@ pub fn add_signs(
     w: &mut [u8],
     l: Lattice,
     line: &[u8],
-    offs: &[usize; 257],
+    offs: &[usize; PLACES],
     table: &[u8],
     h: Shape,
     n: usize,

@@ -1,4 +1,4 @@
-// The record of a character, and where it stands. Records have no fixed size, so an index keeps the offset of every stride-th one, 256 at most.
+// The record of a character, and where it stands. Records have no fixed size, so an index keeps the offset of every stride-th one, INDEX_SIZE at most.
 // The check of the table makes it in its own walk. The cost: for each character at most nine looks into the index and stride records, a 256th of all. So the
 // 256 characters of the longest line cost about one walk more, and not a walk each. For a table of up to 255 records the stride is 1.
 ghost use mathlib.Core.Path.{_≡_};
@@ -11,6 +11,9 @@ ghost use Rattle.table.specs.Index.{FoundIs, Entry, strideOf, Indexed, I
 use crate::layout::NumProp;
 use crate::record::known::record_here;
 use crate::record::walk::record_end;
+
+// The most entries of an index.
+pub const INDEX_SIZE: usize = 256;
 
 // The records from an offset on, so many.
 pub struct RecordRun {
@@ -55,7 +58,7 @@ fn find_from(table: &[u8], from: RecordRun, c: u32) -> CharRecord
 fn stride_of(n: usize) -> usize
     ensures { λ r. ⌜ r ≡ strideOf n ⌝ }
 {
-    1 + n / 256
+    1 + n / INDEX_SIZE
 }
 
 fn less(a: usize, b: usize) -> usize
@@ -91,7 +94,13 @@ pub fn index_record(offs: &mut [u32], index: Index, all: usize, here: RecordRun)
 }
 
 // From where to look for a character: the last record of the index that is not above it, by halving; all records where there is none.
-fn nearest_entry(table: &[u8], all: RecordRun, offs: &[u32; 256], n: usize, c: u32) -> RecordRun
+fn nearest_entry(
+    table: &[u8],
+    all: RecordRun,
+    offs: &[u32; INDEX_SIZE],
+    n: usize,
+    c: u32,
+) -> RecordRun
     requires { ⌜ Whole (now table) (all .at) (all .left) × Indexed (now table) (recordsAt (all .left) (now table) (all .at)) (now offs) (all .left) n ⌝ }
     ensures { λ r. ⌜ RecordsAhead (now (table .entry)) (recordsAt (all .left) (now (table .entry)) (all .at)) c (r .at) (r .left) ⌝ }
 {
@@ -116,7 +125,13 @@ fn nearest_entry(table: &[u8], all: RecordRun, offs: &[u32; 256], n: usize, c: u
 }
 
 // The record of a character among all records, whose index has n entries.
-pub fn find_char(table: &[u8], all: RecordRun, offs: &[u32; 256], n: usize, c: u32) -> CharRecord
+pub fn find_char(
+    table: &[u8],
+    all: RecordRun,
+    offs: &[u32; INDEX_SIZE],
+    n: usize,
+    c: u32,
+) -> CharRecord
     requires { ⌜ Whole (now table) (all .at) (all .left) × Indexed (now table) (recordsAt (all .left) (now table) (all .at)) (now offs) (all .left) n ⌝ }
     ensures { λ r. ⌜ FoundIs (now (table .entry)) (recordsAt (all .left) (now (table .entry)) (all .at)) c r ⌝ }
 {

@@ -3,6 +3,9 @@ ghost use mathlib.Core.Path.{_≡_};
 ghost use Rattle.table.specs.Layout.{text};
 ghost use Rattle.table.specs.Answers.{textField, TextWithin};
 
+// The most bytes of a string.
+pub const MAX_STRING: usize = 60;
+
 // Bytes of the table: len of them from at on.
 pub struct Part {
     pub at: usize,
@@ -45,7 +48,7 @@ pub fn text_at(s: &[u8], at: usize) -> TextAt
         return TextAt::Fault;
     }
     let len = s[at] as usize;
-    if len > 60 {
+    if len > MAX_STRING {
         return TextAt::Fault;
     }
     let start = at + 1;

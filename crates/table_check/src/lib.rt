@@ -7,12 +7,13 @@ ghost use Rattle.table.specs.Answers.{tableAnswer};
 ghost use Rattle.table_check.specs.Indexed.{TableIndexed};
 use crate::items::list_end;
 use crate::items::records_end;
+use table::index::INDEX_SIZE;
 use table::shape::ItemsCheck;
 use table::shape::Shape;
 use table::shape::TableCheck;
 
 // The table that the bytes are, or why they are none. The index over its records is left in offs, with so many entries.
-pub fn check_table(s: &[u8], offs: &mut [u32; 256], entries: &mut usize) -> TableCheck
+pub fn check_table(s: &[u8], offs: &mut [u32; INDEX_SIZE], entries: &mut usize) -> TableCheck
     ensures { λ r. ⌜ tableAnswer (now (s .entry)) r ≡ readTable (now (s .entry)) ⌝ }
     ensures indexed { λ r. ⌜ TableIndexed (now (s .entry)) (now (offs .exit)) (now (entries .exit)) r ⌝ }
 {

@@ -1,9 +1,10 @@
 // Replays a list of tables, most of them damaged, against `table_check::check_table`: a line of standard input is a table in
 // hexadecimal, a space, and what is wrong with it. The answer goes to standard output with the same words, one line each.
+use table::index::INDEX_SIZE;
 use table::shape::TableCheck;
 
 fn report(table: &[u8]) {
-    let mut offs = [0u32; 256];
+    let mut offs = [0u32; INDEX_SIZE];
     let mut entries: usize = 0;
     match table_check::check_table(table, &mut offs, &mut entries) {
         TableCheck::Table(shape) => vectors::say(b"table of ", shape.count as u64),

@@ -7,6 +7,9 @@ ghost use Rattle.text.specs.Line.{LineAnswer};
 // The most characters that a line may have.
 pub const MAX_CHARS: usize = 256;
 
+// The most places that a line may have, its end included.
+pub const PLACES: usize = 257;
+
 // Refusals 2 and 3. The whole line is looked at for 2 before 3 is asked; an accepted line is walked once.
 pub fn check_line(line: &[u8]) -> LineCheck
     ensures { λ r. ⌜ LineAnswer (now (line .entry)) r ⌝ }
