@@ -33,6 +33,7 @@ use Rattle.passes.specs.Passes as passes
 use Rattle.passes.specs.Passes.{digitEdge, isScript, cjk}
 use Rattle.pass_list.specs.StoredEdge.{StoredEdge, Small}
 use Rattle.pass_list.specs.Edges.{between, edgeOf, WellMade}
+use Rattle.pass_list.specs.Kind.{kindNumber}
 use Rattle.characters.specs.CharStored.{numberIf, charStored}
 
 -- ---- texts of one character
@@ -172,7 +173,7 @@ module _ (w t : List ℕ) (p : NumProp) (at i c : ℕ) where
 
 -- ---- the bounds
 module _ (t : List ℕ) (p : NumProp) (at i c : ℕ) where
-  pub char-kind : charStored t p at i c .kind ≡ 0
+  pub char-kind : kindNumber (charStored t p at i c .kind) ≡ 0
   unfolding charStored
   char-kind = refl
 

@@ -14,6 +14,7 @@ use Rattle.table.specs.Answers.{partOf}
 use Rattle.table.specs.declared.layout.NumProp.{NumProp}
 use Rattle.passes.specs.Passes.{cjk}
 use Rattle.pass_list.specs.StoredEdge.{StoredEdge}
+use Rattle.pass_list.specs.declared.kind.Kind.the-variants.{Character}
 
 abbrev pub numberIf : Bool → ℕ → ℕ
 numberIf b n = cond b n 0
@@ -23,7 +24,7 @@ unfoldable pub charStored : List ℕ → NumProp → ℕ → ℕ → ℕ → Sto
 charStored t p at i c = record {
   start = i;
   end = i + 1;
-  kind = 0;
+  kind = Character;
   record-at = at;
   value = numberIf (bit (p .map) 1) (p .numbers .value);
   base = numberIf (bit (p .map) 3) (p .numbers .base);

@@ -3,6 +3,7 @@ ghost use mathlib.Core.Path.{_≡_};
 ghost use Rattle.pass_edge.specs.Grounded.{LegalAt};
 ghost use Rattle.pass_edge.specs.Fields.{storedFraction, FractionIs};
 ghost use Rattle.pass_edge.specs.Adding.{Addable, Added};
+ghost use Rattle.pass_list.specs.Kind.{kindNumber};
 use lattice::Lattice;
 use pass_edge::Fraction;
 use pass_list::record::PassEdge;
@@ -34,7 +35,7 @@ pub fn add_char(
     table: &[u8],
     x: PassEdge,
 ) -> Lattice
-    requires { ⌜ Addable (now w) l (now line) (now offs) (now table) x × (x .kind ≡ 0) ⌝ }
+    requires { ⌜ Addable (now w) l (now line) (now offs) (now table) x × (kindNumber (x .kind) ≡ 0) ⌝ }
     ensures { λ r. ⌜ Added (now (line .entry)) (now (table .entry)) x (now (w .entry)) l (now (w .exit)) r ⌝ }
 {
     let at = x.record_at.0;

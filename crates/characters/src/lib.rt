@@ -10,6 +10,7 @@ ghost use Rattle.passes.specs.Passes.{cjk};
 ghost use Rattle.pass_list.specs.StoredEdge.{numData, Small, EdgeIs};
 ghost use Rattle.characters.specs.CharStored.{numberIf, charStored};
 ghost use Rattle.fields.specs.Fields.{u16Limit};
+use pass_list::kind::Kind;
 use pass_list::record::PassData;
 use pass_list::record::PassEdge;
 use table::bits;
@@ -72,7 +73,7 @@ pub fn char_edge(table: &[u8], p: NumProp, record_at: Offset, place: Place, c: u
     PassEdge {
         start: place,
         end: Place(place.0 + 1),
-        kind: 0,
+        kind: Kind::Character,
         record_at: record_at,
         num: char_num(table, p, record_at, place, c),
     }

@@ -14,6 +14,7 @@ use Rattle.pass_list.specs.StoredPass.{after, added, firstAbove}
 use Rattle.pass_list.specs.Stored.{storedListAt}
 use Rattle.pass_list.specs.Edges.{edgeOf}
 use Rattle.pass_list.specs.InTurn.{through, addedBy}
+use Rattle.pass_list.specs.Kind.{kindNumber}
 use Rattle.pass_run.specs.Nth.{nth}
 use Rattle.edge.specs.Edge.{Edge}
 use Rattle.lattice.specs.declared.Lattice.{Lattice}
@@ -34,7 +35,7 @@ behind s n = storedListAt (drop END s) 0 n
 
 pub record PassList (w t : List ℕ) (k : ℕ) (s : List ℕ) (n : ℕ) : Type 0 where
   pub sounds : AllGrounded w t (behind s n)
-  pub kinds : Every (λ x. x .kind < k) (behind s n)
+  pub kinds : Every (λ x. kindNumber (x .kind) < k) (behind s n)
   pub few : n ≤ maxChars
 
 pub record OneDone (w t : List ℕ) (i : ℕ) (s : List ℕ) (l : Lattice) (n : ℕ) (u : List ℕ) (m : Lattice) (k : ℕ) : Type 0 where

@@ -9,6 +9,7 @@ ghost use Rattle.pass_list.specs.Edges.{edgeOf};
 ghost use Rattle.pass_list.specs.Stored.{storedAt, storedListAt};
 ghost use Rattle.pass_list.specs.InTurn.{ofKind};
 ghost use Rattle.pass_list.specs.Layout.{SIZE};
+ghost use Rattle.pass_list.specs.Kind.{kindNumber};
 ghost use Rattle.numbers.specs.Ready.{Offsets, workSize};
 ghost use Rattle.edge.specs.Edge.{Edge};
 ghost use Rattle.lattice.specs.Lattice.{addAll};
@@ -19,8 +20,9 @@ ghost use Rattle.pass_edge.specs.Adding.{Addable, Added, addIf};
 ghost use Rattle.first_stages.specs.Five.{PassList, OnePass, FivePasses};
 use lattice::Lattice;
 use pass_edge::Fraction;
-use pass_list::layout::KIND_AT;
+use pass_list::kind::kind_number;
 use pass_list::layout::SIZE;
+use pass_list::read::kind_at;
 use pass_list::record::PassEdge;
 use pass_list::run::PassAnswer;
 use table::layout::MAX_STRING;
@@ -43,7 +45,7 @@ fn add_joined(
     table: &[u8],
     x: PassEdge,
 ) -> Lattice
-    requires { ⌜ Addable (now w) l (now line) (now offs) (now table) x × (x .kind ≡ 0 → ⊥) ⌝ }
+    requires { ⌜ Addable (now w) l (now line) (now offs) (now table) x × (kindNumber (x .kind) ≡ 0 → ⊥) ⌝ }
     ensures { λ r. ⌜ Added (now (line .entry)) (now (table .entry)) x (now (w .entry)) l (now (w .exit)) r ⌝ }
 {
     let mut ty = [0u8; MAX_STRING];
@@ -81,7 +83,7 @@ fn add_if(
     ensures { λ r. ⌜ SameBehind (now (w .entry)) (now (w .exit)) × ((es : List Edge) → Holds (now (w .entry)) l es → Holds (now (w .exit)) r (addIf (chars (now (line .entry))) (now (table .entry)) kind es (storedAt (drop END (now (w .entry))) (i * SIZE)))) ⌝ }
 {
     let at = lattice::END + i * SIZE;
-    let found = fields::u16_at(w, at + KIND_AT);
+    let found = kind_number(kind_at(w, at));
     if found != kind {
         return l;
     }

@@ -20,6 +20,7 @@ use Rattle.whole.proofs.DecimalLaws.{length-padded, length-decimal-top}
 use Rattle.pass_list.specs.declared.record.PassEdge.{PassEdge}
 use Rattle.pass_list.specs.StoredEdge.{StoredEdge, EdgeIs}
 use Rattle.pass_list.specs.Edges.{between, kindName, txtOf, edgeOf}
+use Rattle.pass_list.specs.Kind.{kindNumber}
 use Rattle.numbers.specs.Ready.{Offsets}
 use Rattle.pass_edge.proofs.places.PlacesLaws.{offset-rises, part-between}
 use Rattle.text.proofs.PlaceLaws.{offset-le}
@@ -108,49 +109,32 @@ spans line offs a b o h k =
       long = sym l ∙ ap length (part-places line offs a b o h k);
     }
 
--- ---- the names of the passes
-module _ (k : ℕ) where
-  pub name-d1 : k ≡ 1 → 68 ∷ 49 ∷ [] ≡ kindName k
-  name-d1 h = rw (eq-eqb k 1 h)
-
-  pub name-g1 : k ≡ 2 → 71 ∷ 49 ∷ [] ≡ kindName k
-  name-g1 h = rw h
-
-  pub name-g2 : k ≡ 3 → 71 ∷ 50 ∷ [] ≡ kindName k
-  name-g2 h = rw h
-
-  pub name-g3 : k ≡ 4 → 71 ∷ 51 ∷ [] ≡ kindName k
-  name-g3 h = rw h
-
-  pub name-g4 : (k ≡ 1 → ⊥) → (k ≡ 2 → ⊥) → (k ≡ 3 → ⊥) → (k ≡ 4 → ⊥) → 71 ∷ 52 ∷ [] ≡ kindName k
-  name-g4 a b c d = rw (ne-eqb k 1 a, ne-eqb k 2 b, ne-eqb k 3 c, ne-eqb k 4 d)
-
 -- ---- the texts of a stored edge x, which the code has as e
 module _ (w t : List ℕ) (e : PassEdge) (x : StoredEdge) (h : EdgeIs e x) where
-  pub kind-is : e .kind ≡ x .kind
-  kind-is = ap (λ (e : PassEdge). e .kind) (h .is)
+  pub kind-is : kindNumber (e .kind) ≡ kindNumber (x .kind)
+  kind-is = ap (λ (e : PassEdge). kindNumber (e .kind)) (h .is)
 
-  pub txt-char : e .kind ≡ 0 → charTxt w t (e .«record_at» .0) (e .start .0) (e .end .0) ≡ txtOf w t x
+  pub txt-char : kindNumber (e .kind) ≡ 0 → charTxt w t (e .«record_at» .0) (e .start .0) (e .end .0) ≡ txtOf w t x
   unfolding charTxt
-  txt-char z = let k : x .kind ≡ 0 = sym kind-is ∙ z in rw (eq-eqb (x .kind) 0 k, h .is)
+  txt-char z = let k : kindNumber (x .kind) ≡ 0 = sym kind-is ∙ z in rw (eq-eqb (kindNumber (x .kind)) 0 k, h .is)
 
-  pub txt-digits : {v : ℕ} → (e .kind ≡ 0 → ⊥) → e .kind ≡ 1 → v ≡ x .value → padded (e .end .0 - e .start .0) v ≡ txtOf w t x
-  txt-digits n z q = let k : x .kind ≡ 1 = sym kind-is ∙ z in rw (ne-eqb (x .kind) 0 (λ o. omega arith), eq-eqb (x .kind) 1 k, h .is, q)
+  pub txt-digits : {v : ℕ} → (kindNumber (e .kind) ≡ 0 → ⊥) → kindNumber (e .kind) ≡ 1 → v ≡ x .value → padded (e .end .0 - e .start .0) v ≡ txtOf w t x
+  txt-digits n z q = let k : kindNumber (x .kind) ≡ 1 = sym kind-is ∙ z in rw (ne-eqb (kindNumber (x .kind)) 0 (λ o. omega arith), eq-eqb (kindNumber (x .kind)) 1 k, h .is, q)
 
-  pub txt-value : {v : ℕ} → (e .kind ≡ 0 → ⊥) → (e .kind ≡ 1 → ⊥) → v ≡ x .value → decimal v ≡ txtOf w t x
-  txt-value n z q = rw (ne-eqb (x .kind) 0 (λ o. n (kind-is ∙ o)), ne-eqb (x .kind) 1 (λ o. z (kind-is ∙ o)), q)
+  pub txt-value : {v : ℕ} → (kindNumber (e .kind) ≡ 0 → ⊥) → (kindNumber (e .kind) ≡ 1 → ⊥) → v ≡ x .value → decimal v ≡ txtOf w t x
+  txt-value n z q = rw (ne-eqb (kindNumber (x .kind)) 0 (λ o. n (kind-is ∙ o)), ne-eqb (kindNumber (x .kind)) 1 (λ o. z (kind-is ∙ o)), q)
 
-  pub type-char : e .kind ≡ 0 → charType t (e .«record_at» .0) ≡ typeOf t x
+  pub type-char : kindNumber (e .kind) ≡ 0 → charType t (e .«record_at» .0) ≡ typeOf t x
   unfolding typeOf
-  type-char z = let k : x .kind ≡ 0 = sym kind-is ∙ z in rw (eq-eqb (x .kind) 0 k, h .is)
+  type-char z = let k : kindNumber (x .kind) ≡ 0 = sym kind-is ∙ z in rw (eq-eqb (kindNumber (x .kind)) 0 k, h .is)
 
-  pub type-kind : (e .kind ≡ 0 → ⊥) → kindName (e .kind) ≡ typeOf t x
+  pub type-kind : (kindNumber (e .kind) ≡ 0 → ⊥) → kindName (kindNumber (e .kind)) ≡ typeOf t x
   unfolding typeOf
-  type-kind z = rw (ne-eqb (x .kind) 0 (λ o. z (kind-is ∙ o)), h .is)
+  type-kind z = rw (ne-eqb (kindNumber (x .kind)) 0 (λ o. z (kind-is ∙ o)), h .is)
 
 -- the record of a character was checked
-pub rooted-char : (t : List ℕ) (e : PassEdge) (x : StoredEdge) → EdgeIs e x → Rooted t x → e .kind ≡ 0 → LegalAt t (e .«record_at» .0)
-rooted-char t e x h r z = let k : x .kind ≡ 0 = sym (kind-is [] t e x h) ∙ z in subst (LegalAt t) (ap (λ (e : PassEdge). e .«record_at» .0) (sym (h .is))) (r .legal k)
+pub rooted-char : (t : List ℕ) (e : PassEdge) (x : StoredEdge) → EdgeIs e x → Rooted t x → kindNumber (e .kind) ≡ 0 → LegalAt t (e .«record_at» .0)
+rooted-char t e x h r z = let k : kindNumber (x .kind) ≡ 0 = sym (kind-is [] t e x h) ∙ z in subst (LegalAt t) (ap (λ (e : PassEdge). e .«record_at» .0) (sym (h .is))) (r .legal k)
 
 -- ---- the txt of a sound stored edge is short
 get-short : (o : Option Text) (d : Text) → AtMost o → length d ≤ 60 → length (Option·getD o d) ≤ 60
@@ -164,10 +148,10 @@ own-short w t at a b l o =
 
 pub txt-short : (w t : List ℕ) (x : StoredEdge) → Grounded w t x → length w ≤ 256 → length (txtOf w t x) ≤ 256
 unfolding charTxt
-txt-short w t x s n = go (eqb (x .kind) 0) (eqb (x .kind) 1) refl
+txt-short w t x s n = go (eqb (kindNumber (x .kind)) 0) (eqb (kindNumber (x .kind)) 1) refl
   where
-    go : (b c : Bool) → eqb (x .kind) 0 ≡ b → length (cond b (charTxt w t (x .record-at) (x .start) (x .end)) (cond c (padded (x .end - x .start) (x .value)) (decimal (x .value)))) ≤ 256
-    go true c e = let k = eqb-true (x .kind) 0 e in omega (arith, own-short w t (x .record-at) (x .start) (x .end) (s .rooted .legal k) (s .rooted .one k))
+    go : (b c : Bool) → eqb (kindNumber (x .kind)) 0 ≡ b → length (cond b (charTxt w t (x .record-at) (x .start) (x .end)) (cond c (padded (x .end - x .start) (x .value)) (decimal (x .value)))) ≤ 256
+    go true c e = let k = eqb-true (kindNumber (x .kind)) 0 e in omega (arith, own-short w t (x .record-at) (x .start) (x .end) (s .rooted .legal k) (s .rooted .one k))
     go false true e = omega (arith, length-padded (x .end - x .start) (x .value), s .made .inside)
     go false false e = omega (arith, length-decimal-top (x .value) (s .small .value))
 
@@ -178,7 +162,7 @@ module _ (line t : List ℕ) (e : PassEdge) (x : StoredEdge) (h : StoredIs line 
       let b : e .end .0 ≡ x .end = ap (λ (e : PassEdge). e .end .0) (h .is .is) in
       (omega (arith, h .sound .made .ordered), omega (arith, h .sound .made .inside))
 
-  pub char-fits : length (chars line) ≤ 256 → e .kind ≡ 0 → length (charTxt (chars line) t (e .«record_at» .0) (e .start .0) (e .end .0)) ≤ 256
+  pub char-fits : length (chars line) ≤ 256 → kindNumber (e .kind) ≡ 0 → length (charTxt (chars line) t (e .«record_at» .0) (e .start .0) (e .end .0)) ≤ 256
   char-fits n z = rw (txt-char (chars line) t e x (h .is) z) (txt-short (chars line) t x (h .sound) n)
 
 -- the value of a stored edge, as the code has it
@@ -202,8 +186,8 @@ name-short k = go (eqb k 1) (eqb k 2) (eqb k 3) (eqb k 4)
 
 pub type-short : (w t : List ℕ) (x : StoredEdge) → Grounded w t x → length (typeOf t x) ≤ 60
 unfolding typeOf
-type-short w t x s = go (eqb (x .kind) 0) refl
+type-short w t x s = go (eqb (kindNumber (x .kind)) 0) refl
   where
-    go : (b : Bool) → eqb (x .kind) 0 ≡ b → length (cond b (charType t (x .record-at)) (kindName (x .kind))) ≤ 60
-    go true e = type-fits t (x .record-at) (s .rooted .legal (eqb-true (x .kind) 0 e))
-    go false e = name-short (x .kind)
+    go : (b : Bool) → eqb (kindNumber (x .kind)) 0 ≡ b → length (cond b (charType t (x .record-at)) (kindName (kindNumber (x .kind)))) ≤ 60
+    go true e = type-fits t (x .record-at) (s .rooted .legal (eqb-true (kindNumber (x .kind)) 0 e))
+    go false e = name-short (kindNumber (x .kind))

@@ -15,6 +15,7 @@ use Rattle.pass_list.specs.declared.record.PassEdge.{PassEdge}
 use Rattle.pass_list.specs.StoredEdge.{StoredEdge}
 use Rattle.pass_list.specs.Edges.{edgeOf}
 use Rattle.pass_list.specs.InTurn.{ofKind}
+use Rattle.pass_list.specs.Kind.{kindNumber}
 use Rattle.edge.specs.Edge.{Edge}
 use Rattle.lattice.specs.Lattice.{add}
 use Rattle.lattice.specs.declared.Lattice.{Lattice}
@@ -37,4 +38,4 @@ abbrev pub kindEdges : List ℕ → List ℕ → ℕ → List StoredEdge → Lis
 kindEdges w t k l = map listedEdge (map (edgeOf w t) (ofKind k l))
 
 unfoldable pub addIf : List ℕ → List ℕ → ℕ → List Edge → StoredEdge → List Edge
-addIf w t k es x = cond (eqb (x .kind) k) (add es (listedEdge (edgeOf w t x))) es
+addIf w t k es x = cond (eqb (kindNumber (x .kind)) k) (add es (listedEdge (edgeOf w t x))) es

@@ -20,6 +20,7 @@ use Rattle.table.specs.declared.layout.NumProp.{NumProp}
 use Rattle.passes.specs.Characters.{lowest}
 use Rattle.pass_list.specs.declared.record.PassEdge.{PassEdge}
 use Rattle.pass_list.specs.Edges.{ofRecord}
+use Rattle.pass_list.specs.Kind.{kindNumber}
 use Rattle.edge.specs.declared.Part.{Part}
 use Rattle.edge.specs.declared.NumFields.{NumFields}
 use Rattle.edge.specs.View.{noPart}
@@ -49,7 +50,7 @@ pub record Listable (offs : List ℕ) (e : PassEdge) : Type 0 where
 abbrev pub storedMap : PassEdge → Bool → ℕ
 storedMap e f =
     129 + 2 * flag (e .num .«has_value») + 4 * flag f + 8 * flag (e .num .«has_base») + 16 * flag (e .num .«has_mult») + 32 * flag (e .num .«has_script»)
-    + 64 * flag (e .num .«large_power») + 256 * flag (eqb (e .kind) 1)
+    + 64 * flag (e .num .«large_power») + 256 * flag (eqb (kindNumber (e .kind)) 1)
 
 -- a part that is there, or none
 abbrev pub partOr : Bool → ℕ → ℕ → Part
@@ -66,5 +67,5 @@ storedFields offs e f len = fieldsOf (record {
   «base_multiplier» = e .num .«base_multiplier»;
   orig = record { at = getD offs (e .start .0) 0; len = getD offs (e .end .0) 0 - getD offs (e .start .0) 0 };
   script = partOr (e .num .«has_script») (e .num .script .0) (e .num .«script_len»);
-  «value_s» = partOr (eqb (e .kind) 1) 0 len;
+  «value_s» = partOr (eqb (kindNumber (e .kind)) 1) 0 len;
 })

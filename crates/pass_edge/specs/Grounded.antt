@@ -19,6 +19,7 @@ use Rattle.table.specs.Check.{legalTexts, legalNumbers}
 use Rattle.pass_list.specs.declared.record.PassEdge.{PassEdge}
 use Rattle.pass_list.specs.StoredEdge.{StoredEdge, Small, Every, EdgeIs}
 use Rattle.pass_list.specs.Edges.{WellMade}
+use Rattle.pass_list.specs.Kind.{kindNumber}
 
 pub record LegalAt (t : List ℕ) (at : ℕ) : Type 0 where
   pub prop : Record
@@ -33,8 +34,8 @@ pub record ScriptAt (t : List ℕ) (at n : ℕ) : Type 0 where
   pub formed : wellFormed (part t at n) ≡ true
 
 pub record Rooted (t : List ℕ) (x : StoredEdge) : Type 0 where
-  pub legal : x .kind ≡ 0 → LegalAt t (x .record-at)
-  pub one : x .kind ≡ 0 → x .end ≡ suc (x .start)
+  pub legal : kindNumber (x .kind) ≡ 0 → LegalAt t (x .record-at)
+  pub one : kindNumber (x .kind) ≡ 0 → x .end ≡ suc (x .start)
   pub script : x .has-script ≡ true → ScriptAt t (x .script-at) (x .script-len)
 
 pub record Grounded (w t : List ℕ) (x : StoredEdge) : Type 0 where

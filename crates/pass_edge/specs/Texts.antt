@@ -18,6 +18,7 @@ use Rattle.text.specs.Text.{chars}
 use Rattle.pass_list.specs.declared.record.PassEdge.{PassEdge}
 use Rattle.pass_list.specs.StoredEdge.{StoredEdge}
 use Rattle.pass_list.specs.Edges.{between, ofRecord, kindName, txtOf}
+use Rattle.pass_list.specs.Kind.{kindNumber}
 use Rattle.pass_edge.specs.Grounded.{StoredIs}
 
 unfoldable pub charTxt : List ℕ → List ℕ → ℕ → ℕ → ℕ → Text
@@ -28,7 +29,7 @@ charType t at = ofRecord t at (λ r. r .type) []
 
 -- as `edgeOf` has it
 unfoldable pub typeOf : List ℕ → StoredEdge → Text
-typeOf t x = cond (eqb (x .kind) 0) (charType t (x .record-at)) (kindName (x .kind))
+typeOf t x = cond (eqb (kindNumber (x .kind)) 0) (charType t (x .record-at)) (kindName (kindNumber (x .kind)))
 
 pub record TextsAre (line table : List ℕ) (e : PassEdge) (ty tx : Text) (x : StoredEdge) : Type 0 where
   pub stored-edge : StoredIs line table e x

@@ -4,10 +4,14 @@ ghost use mathlib.Core.List.{[], _∷_};
 ghost use lib.ListN.{length};
 ghost use Rattle.pass_list.specs.StoredEdge.{StoredEdge, EdgeIs};
 ghost use Rattle.pass_list.specs.Edges.{kindName};
+ghost use Rattle.pass_list.specs.Kind.{kindNumber};
+ghost use Rattle.pass_list.specs.declared.kind.Kind.the-variants.{Joined};
 ghost use Rattle.pass_edge.specs.Grounded.{Rooted};
 ghost use Rattle.pass_edge.specs.Texts.{typeOf, Front};
 ghost use Rattle.table.specs.Layout.{maxString};
+use pass_list::kind::Kind;
 use pass_list::record::PassEdge;
+use pass_list::run::Pass;
 
 // Two letters go to the front of a buffer.
 fn put_name(buf: &mut [u8], letter: u8, digit: u8) -> usize
@@ -19,24 +23,18 @@ fn put_name(buf: &mut [u8], letter: u8, digit: u8) -> usize
     2
 }
 
-// The name of the pass that joined a stored edge of this kind.
-fn put_kind(buf: &mut [u8], kind: u16) -> usize
+// The name of a pass.
+fn put_pass(buf: &mut [u8], pass: Pass) -> usize
     requires { ⌜ 2 ≤ length (now buf) ⌝ }
-    ensures { λ r. ⌜ Front (now (buf .entry)) (now (buf .exit)) r (kindName kind) ⌝ }
+    ensures { λ r. ⌜ Front (now (buf .entry)) (now (buf .exit)) r (kindName (kindNumber (Joined pass))) ⌝ }
 {
-    if kind == 1 {
-        return put_name(buf, b'D', b'1');
+    match pass {
+        Pass::D1 => put_name(buf, b'D', b'1'),
+        Pass::G1 => put_name(buf, b'G', b'1'),
+        Pass::G2 => put_name(buf, b'G', b'2'),
+        Pass::G3 => put_name(buf, b'G', b'3'),
+        Pass::G4 => put_name(buf, b'G', b'4'),
     }
-    if kind == 2 {
-        return put_name(buf, b'G', b'1');
-    }
-    if kind == 3 {
-        return put_name(buf, b'G', b'2');
-    }
-    if kind == 4 {
-        return put_name(buf, b'G', b'3');
-    }
-    put_name(buf, b'G', b'4')
 }
 
 // The type of a stored edge goes to the front of a buffer: how many bytes.
@@ -44,8 +42,9 @@ pub fn type_of(buf: &mut [u8], table: &[u8], x: PassEdge) -> usize
     requires { ⌜ ((i : StoredEdge) × EdgeIs x i × Rooted (now table) i) × (maxString ≤ length (now buf)) ⌝ }
     ensures { λ r. ⌜ ((i : StoredEdge) → EdgeIs x i → Front (now (buf .entry)) (now (buf .exit)) r (typeOf (now (table .entry)) i)) ⌝ }
 {
-    if x.kind == 0 {
-        return crate::put_text(buf, crate::type_at(table, x.record_at.0));
+    let kind = x.kind;
+    match kind {
+        Kind::Character => crate::put_text(buf, crate::type_at(table, x.record_at.0)),
+        Kind::Joined(pass) => put_pass(buf, pass),
     }
-    put_kind(buf, x.kind)
 }

@@ -7,6 +7,7 @@ ghost use Rattle.text.specs.Text.{chars};
 ghost use Rattle.text.specs.Line.{maxChars};
 ghost use Rattle.pass_list.specs.StoredEdge.{StoredEdge};
 ghost use Rattle.pass_list.specs.Edges.{edgeOf};
+ghost use Rattle.pass_list.specs.Kind.{kindNumber};
 ghost use Rattle.numbers.specs.Ready.{Offsets};
 ghost use Rattle.edge.specs.Edge.{Edge};
 ghost use Rattle.lattice.specs.Lattice.{add};
@@ -21,6 +22,7 @@ use edge::Part;
 use edge::bits;
 use fields::write::bit_if;
 use lattice::Lattice;
+use pass_list::kind::is_row;
 use pass_list::record::PassEdge;
 use text::check::PLACES;
 
@@ -31,6 +33,7 @@ const LISTED: u16 = bits::NUMERIC + bits::ACTIVE;
 fn map_of(x: PassEdge, fraction: bool) -> u16
     ensures { λ r. ⌜ r ≡ storedMap x fraction ⌝ }
 {
+    let kind = x.kind;
     LISTED
         + bit_if(x.num.has_value, bits::VALUE)
         + bit_if(fraction, bits::FRACTION)
@@ -38,7 +41,7 @@ fn map_of(x: PassEdge, fraction: bool) -> u16
         + bit_if(x.num.has_mult, bits::MULT)
         + bit_if(x.num.has_script, bits::SCRIPT)
         + bit_if(x.num.large_power, bits::LARGE_POWER)
-        + bit_if(x.kind == 1, bits::VALUE_S)
+        + bit_if(is_row(kind), bits::VALUE_S)
 }
 
 // A part that is there, or none.
@@ -66,7 +69,8 @@ fn fields_of(offs: &[usize; PLACES], x: PassEdge, f: Fraction, len: usize) -> Nu
         len: to - from,
     };
     let script = part_or(x.num.has_script, x.num.script.0, x.num.script_len);
-    let value_s = part_or(x.kind == 1, 0, len);
+    let kind = x.kind;
+    let value_s = part_or(is_row(kind), 0, len);
     edge::data::num_fields(NumData {
         map: map_of(x, f.there),
         value: x.num.value,
@@ -92,7 +96,7 @@ pub fn add_texts(
     ty: &[u8],
     txt: &[u8],
 ) -> Lattice
-    requires { ⌜ ((es : List Edge) × Holds (now w) l es) × Offsets (now line) (now offs) × ((i : StoredEdge) × TextsAre (now line) (now table) x (now ty) (now txt) i) × (length (chars (now line)) ≤ maxChars) × FractionIs f (storedFraction (now table) (x .kind) (x .«record_at» .0)) ⌝ }
+    requires { ⌜ ((es : List Edge) × Holds (now w) l es) × Offsets (now line) (now offs) × ((i : StoredEdge) × TextsAre (now line) (now table) x (now ty) (now txt) i) × (length (chars (now line)) ≤ maxChars) × FractionIs f (storedFraction (now table) (kindNumber (x .kind)) (x .«record_at» .0)) ⌝ }
     ensures { λ r. ⌜ SameBehind (now (w .entry)) (now (w .exit)) × ((es : List Edge) (i : StoredEdge) → Holds (now (w .entry)) l es → TextsAre (now (line .entry)) (now (table .entry)) x (now (ty .entry)) (now (txt .entry)) i → Holds (now (w .exit)) r (add es (listedEdge (edgeOf (chars (now (line .entry))) (now (table .entry)) i)))) ⌝ }
 {
     let d = fields_of(offs, x, f, txt.len());

@@ -8,6 +8,8 @@ ghost use Rattle.pass_list.specs.Edges.{txtOf};
 ghost use Rattle.numbers.specs.Ready.{Offsets};
 ghost use Rattle.pass_edge.specs.Grounded.{LegalAt, StoredIs};
 ghost use Rattle.pass_edge.specs.Texts.{charTxt, Front};
+use pass_list::kind::is_character;
+use pass_list::kind::is_row;
 use pass_list::record::PassEdge;
 use table::bits;
 use text::Place;
@@ -43,11 +45,12 @@ pub fn txt_of(
     requires { ⌜ Offsets (now line) (now offs) × ((i : StoredEdge) × StoredIs (now line) (now table) x i) × (length (chars (now line)) ≤ maxChars) × (maxChars ≤ length (now buf)) ⌝ }
     ensures { λ r. ⌜ ((i : StoredEdge) → EdgeIs x i → Front (now (buf .entry)) (now (buf .exit)) r (txtOf (chars (now (line .entry))) (now (table .entry)) i)) ⌝ }
 {
-    if x.kind == 0 {
+    let kind = x.kind;
+    if is_character(kind) {
         return char_txt(buf, line, offs, table, x.record_at.0, x.start, x.end);
     }
     let value = whole::exact_u64(x.num.value);
-    if x.kind == 1 {
+    if is_row(kind) {
         let len = x.end.0 - x.start.0;
         whole::decimal::put_padded(buf, 0, len, value);
         return len;

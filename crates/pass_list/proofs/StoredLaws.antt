@@ -21,8 +21,29 @@ use Rattle.fields.proofs.FlagLaws.{flag-le, flag-stands}
 use Rattle.pass_list.specs.StoredEdge.{StoredEdge, numData, Small, cons, AllSmall, Fits}
 use Rattle.pass_list.specs.Layout.{SIZE, endAt, kindAt, mapAt, valueAt, baseAt, multAt, recordAt, scriptAt, scriptLenAt}
 use Rattle.pass_list.specs.Stored.{mapOf, numBytes, recordBytes, storedOf, storedAt, storedListAt}
+use Rattle.pass_list.specs.declared.run.Pass.the-variants.{D1, G1, G2, G3, G4}
+use Rattle.pass_list.specs.declared.kind.Kind.{Kind}
+use Rattle.pass_list.specs.declared.kind.Kind.the-variants.{Character, Joined}
+use Rattle.pass_list.specs.Kind.{kindNumber, kindFrom}
 
 -- ---- what was written is read
+pub kind-fits : (k : Kind) → kindNumber k < 2 ^ 16
+kind-fits Character = omega arith
+kind-fits (Joined D1) = omega arith
+kind-fits (Joined G1) = omega arith
+kind-fits (Joined G2) = omega arith
+kind-fits (Joined G3) = omega arith
+kind-fits (Joined G4) = omega arith
+
+kind-back : (k : Kind) → kindFrom (kindNumber k) ≡ k
+unfolding kindFrom
+kind-back Character = refl
+kind-back (Joined D1) = refl
+kind-back (Joined G1) = refl
+kind-back (Joined G2) = refl
+kind-back (Joined G3) = refl
+kind-back (Joined G4) = refl
+
 record Marks (x : StoredEdge) : Type 0 where
   has-value : flag (x .has-value) ≤ 1
   has-base : flag (x .has-base) ≤ 1
@@ -78,7 +99,7 @@ module _ (x : StoredEdge) where
 record Back (x : StoredEdge) : Type 0 where
   start : leAt (recordBytes x) 0 2 ≡ x .start
   end : leAt (recordBytes x) endAt 2 ≡ x .end
-  kind : leAt (recordBytes x) kindAt 2 ≡ x .kind
+  kind : leAt (recordBytes x) kindAt 2 ≡ kindNumber (x .kind)
   map : leAt (recordBytes x) mapAt 2 ≡ mapOf (numData x)
   value : leAt (recordBytes x) valueAt 8 ≡ x .value
   base : leAt (recordBytes x) baseAt 8 ≡ x .base
@@ -94,7 +115,7 @@ numbers-back x f =
     record {
       start = le-bytesOf 2 (x .start) (f .start);
       end = le-bytesOf 2 (x .end) (f .end);
-      kind = le-bytesOf 2 (x .kind) (f .kind);
+      kind = le-bytesOf 2 (kindNumber (x .kind)) (kind-fits (x .kind));
       map = le-bytesOf 2 (mapOf (numData x)) (map-small x);
       value = le-bytesOf 8 (x .value) (omega arith);
       base = le-bytesOf 8 (x .base) (omega arith);
@@ -113,6 +134,7 @@ record-back x f =
       b .start,
       b .end,
       b .kind,
+      kind-back (x .kind),
       b .map,
       b .value,
       b .base,

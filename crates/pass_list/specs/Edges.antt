@@ -25,6 +25,7 @@ use Rattle.passes.specs.Passes as passes
 use Rattle.passes.specs.Passes.{passName, D1, G1, G2, G3, G4, digitEdge, isScript, cjk}
 use Rattle.pass_list.specs.StoredEdge.{StoredEdge}
 use Rattle.pass_list.specs.StoredPass.{StoredChain}
+use Rattle.pass_list.specs.Kind.{kindNumber}
 
 unfoldable pub between : List ℕ → ℕ → ℕ → Text
 between w a b = encodes (take (b - a) (drop a w))
@@ -39,24 +40,24 @@ kindName k = cond (eqb k 1) (passName D1) (cond (eqb k 2) (passName G1) (cond (e
 -- an edge joined by D1 has its digits for txt and value_s, the others their value; a character's is rom, or else the character
 abbrev pub txtOf : List ℕ → List ℕ → StoredEdge → Text
 txtOf w t x =
-    cond (eqb (x .kind) 0) (ofRecord t (x .record-at) (λ r. Option·getD (r .rom) (between w (x .start) (x .end))) [])
-    (cond (eqb (x .kind) 1) (padded (x .end - x .start) (x .value)) (decimal (x .value)))
+    cond (eqb (kindNumber (x .kind)) 0) (ofRecord t (x .record-at) (λ r. Option·getD (r .rom) (between w (x .start) (x .end))) [])
+    (cond (eqb (kindNumber (x .kind)) 1) (padded (x .end - x .start) (x .value)) (decimal (x .value)))
 
 unfoldable pub edgeOf : List ℕ → List ℕ → StoredEdge → NumEdge
 edgeOf w t x = record {
   start = x .start;
   end = x .end;
-  type = cond (eqb (x .kind) 0) (ofRecord t (x .record-at) (λ r. r .type) []) (kindName (x .kind));
+  type = cond (eqb (kindNumber (x .kind)) 0) (ofRecord t (x .record-at) (λ r. r .type) []) (kindName (kindNumber (x .kind)));
   txt = txtOf w t x;
   orig-txt = between w (x .start) (x .end);
   value = optionally (x .has-value) (x .value);
-  fraction = cond (eqb (x .kind) 0) (ofRecord t (x .record-at) (λ r. Option·map lowest (r .fraction)) none) none;
+  fraction = cond (eqb (kindNumber (x .kind)) 0) (ofRecord t (x .record-at) (λ r. Option·map lowest (r .fraction)) none) none;
   base = optionally (x .has-base) (x .base);
   mult = optionally (x .has-mult) (x .mult);
   script = optionally (x .has-script) (part t (x .script-at) (x .script-len));
   large-power = x .large-power;
   active = true;
-  value-s = cond (eqb (x .kind) 1) (some (padded (x .end - x .start) (x .value))) none;
+  value-s = cond (eqb (kindNumber (x .kind)) 1) (some (padded (x .end - x .start) (x .value))) none;
 }
 
 unfoldable pub chainOf : List ℕ → List ℕ → StoredChain → passes.Chain

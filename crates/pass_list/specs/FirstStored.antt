@@ -9,10 +9,11 @@ use Rattle.table.specs.Table.{Record}
 use Rattle.passes.specs.Characters.{charEdges}
 use Rattle.pass_list.specs.StoredEdge.{StoredEdge, Every}
 use Rattle.pass_list.specs.Edges.{edgeOf, WellMade}
+use Rattle.pass_list.specs.Kind.{kindNumber}
 
 pub record FirstStored (w t : List ℕ) (rs : List Record) (n : ℕ) (l : List StoredEdge) : Type 0 where
   -- they stand for the edges of D1's list
   pub edges : map (edgeOf w t) l ≡ charEdges rs 0 (take n w)
   pub made : Every (WellMade w t) l
   -- none is joined
-  pub kinds : Every (λ x. x .kind ≡ 0) l
+  pub kinds : Every (λ x. kindNumber (x .kind) ≡ 0) l

@@ -10,6 +10,7 @@ use lib.Dec.{eqb}
 use Rattle.passes.specs.Passes.{Pass}
 use Rattle.pass_list.specs.StoredEdge.{StoredEdge}
 use Rattle.pass_list.specs.StoredPass.{after, added}
+use Rattle.pass_list.specs.Kind.{kindNumber}
 
 unfoldable pub through : List Pass → List StoredEdge → List StoredEdge
 through [] l = l
@@ -21,4 +22,4 @@ addedBy (p ∷ ps) l = added p l ++ addedBy ps (after p l)
 
 unfoldable pub ofKind : ℕ → List StoredEdge → List StoredEdge
 ofKind k [] = []
-ofKind k (x ∷ l) = cond (eqb (x .kind) k) (x ∷ ofKind k l) (ofKind k l)
+ofKind k (x ∷ l) = cond (eqb (kindNumber (x .kind)) k) (x ∷ ofKind k l) (ofKind k l)

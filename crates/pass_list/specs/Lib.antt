@@ -1,5 +1,6 @@
 -- The definitions of `pass_list`.
 -- The crate itself: The definitions that the contracts of `pass_list` and of the crates over it cite.
+pub mod Kind
 pub mod StoredEdge
 pub mod Layout
 pub mod Stored

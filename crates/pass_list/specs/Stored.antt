@@ -17,6 +17,7 @@ use Rattle.pass_list.specs.declared.record.PassData.{PassData}
 use Rattle.pass_list.specs.Layout.{SIZE, endAt, kindAt, mapAt, valueAt, baseAt, multAt, recordAt, scriptAt, scriptLenAt}
 use Rattle.pass_list.specs.Layout.{valueBit, baseBit, multBit, scriptBit, largePowerBit, digitBit, gapBit, cjkBit}
 use Rattle.pass_list.specs.StoredEdge.{StoredEdge, numData}
+use Rattle.pass_list.specs.Kind.{kindNumber, kindFrom}
 
 abbrev pub bit : ℕ → ℕ → Bool
 bit map of = eqb (map / of % 2) 1
@@ -31,13 +32,13 @@ numBytes x =
     bytesOf 8 (x .value) ++ (bytesOf 8 (x .base) ++ (bytesOf 8 (x .mult) ++ (bytesOf 8 (x .record-at) ++ (bytesOf 8 (x .script-at) ++ bytesOf 8 (x .script-len)))))
 
 unfoldable pub recordBytes : StoredEdge → List ℕ
-recordBytes x = bytesOf 2 (x .start) ++ (bytesOf 2 (x .end) ++ (bytesOf 2 (x .kind) ++ (bytesOf 2 (mapOf (numData x)) ++ numBytes x)))
+recordBytes x = bytesOf 2 (x .start) ++ (bytesOf 2 (x .end) ++ (bytesOf 2 (kindNumber (x .kind)) ++ (bytesOf 2 (mapOf (numData x)) ++ numBytes x)))
 
 unfoldable pub storedOf : List ℕ → StoredEdge
 storedOf bs = record {
   start = leAt bs 0 2;
   end = leAt bs endAt 2;
-  kind = leAt bs kindAt 2;
+  kind = kindFrom (leAt bs kindAt 2);
   record-at = leAt bs recordAt 8;
   value = leAt bs valueAt 8;
   base = leAt bs baseAt 8;

@@ -15,13 +15,13 @@ use Prim.Native.Nat.{ℕ, _^_, _≤_, _<_}
 use Rattle.whole.specs.Whole.{TOP, ofNat}
 use Rattle.pass_list.specs.declared.record.PassData.{PassData}
 use Rattle.pass_list.specs.declared.record.PassEdge.{PassEdge}
+use Rattle.pass_list.specs.declared.kind.Kind.{Kind}
 
 pub record StoredEdge : Type 0 where
   -- places
   pub start : ℕ
   pub end : ℕ
-  -- 0 for a character's edge, 1 to 5 for one that D1, G1, G2, G3, G4 joined
-  pub kind : ℕ
+  pub kind : Kind
   -- the offset of the character's record in the table
   pub record-at : ℕ
   pub value : ℕ
@@ -82,7 +82,6 @@ pub record Fits (x : StoredEdge) : Type 0 where
   pub small : Small x
   pub start : x .start < 2 ^ 16
   pub end : x .end < 2 ^ 16
-  pub kind : x .kind < 2 ^ 16
   pub record-at : x .record-at < 2 ^ 64
   pub script-at : x .script-at < 2 ^ 64
   pub script-len : x .script-len < 2 ^ 64

@@ -17,6 +17,7 @@ use Rattle.whole.specs.Whole.{TOP}
 use Rattle.passes.specs.Chains.{chains}
 use Rattle.passes.specs.Passes.{Pass, D1, G1, G2, G3, G4, powerOfTen}
 use Rattle.pass_list.specs.StoredEdge.{StoredEdge}
+use Rattle.pass_list.specs.Kind.{kindNumber, joinedBy}
 
 pub record StoredChain : Type 0 where
   pub edge : StoredEdge
@@ -107,18 +108,15 @@ valueOf G2 m n = m + n
 valueOf G3 m n = m * n
 valueOf G4 m n = m + n
 
+-- the number that is stored for it
 abbrev pub kindOf : Pass → ℕ
-kindOf D1 = 1
-kindOf G1 = 2
-kindOf G2 = 3
-kindOf G3 = 4
-kindOf G4 = 5
+kindOf p = kindNumber (joinedBy p)
 
 unfoldable pub over : Pass → StoredEdge → StoredEdge → ℕ → StoredEdge
 over p l e v = record {
   start = l .start;
   end = e .end;
-  kind = kindOf p;
+  kind = joinedBy p;
   record-at = 0;
   value = v;
   base = e .base;

@@ -5,6 +5,8 @@ ghost use lib.ListN.{length};
 ghost use Rattle.pass_list.specs.StoredEdge.{numData, EdgeIs, Small};
 ghost use Rattle.pass_list.specs.Layout.{SIZE};
 ghost use Rattle.pass_list.specs.Stored.{storedAt};
+use crate::kind::Kind;
+use crate::kind::kind_from;
 use crate::layout;
 use crate::record::PassData;
 use crate::record::PassEdge;
@@ -34,6 +36,14 @@ fn num_at(s: &[u8], at: usize) -> PassData
     }
 }
 
+// The kind of the edge that stands at an offset.
+pub fn kind_at(s: &[u8], at: usize) -> Kind
+    requires { ⌜ at + SIZE ≤ length (now s) ⌝ }
+    ensures { λ r. ⌜ r ≡ storedAt (now (s .entry)) at .kind ⌝ }
+{
+    kind_from(fields::u16_at(s, at + layout::KIND_AT))
+}
+
 // The edge that stands at an offset.
 pub fn read_edge(s: &[u8], at: usize) -> PassEdge
     requires { ⌜ (at + SIZE ≤ length (now s)) × Small (storedAt (now s) at) ⌝ }
@@ -42,7 +52,7 @@ pub fn read_edge(s: &[u8], at: usize) -> PassEdge
     PassEdge {
         start: Place(fields::u16_at(s, at) as usize),
         end: Place(fields::u16_at(s, at + layout::END_AT) as usize),
-        kind: fields::u16_at(s, at + layout::KIND_AT),
+        kind: kind_at(s, at),
         record_at: Offset(fields::u64_at(s, at + layout::RECORD_AT) as usize),
         num: num_at(s, at),
     }

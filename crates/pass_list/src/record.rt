@@ -1,4 +1,5 @@
 // An edge of the pass list. The definitions are in specs/StoredEdge.antt and specs/Stored.antt; `pass_list::read` reads it, and `pass_list::write` stores it.
+use crate::kind::Kind;
 use text::Offset;
 use text::Place;
 
@@ -26,8 +27,7 @@ pub struct PassData {
 pub struct PassEdge {
     pub start: Place,
     pub end: Place,
-    // 0 for a character's edge; 1 to 5 for one that D1, G1, G2, G3, G4 joined
-    pub kind: u16,
+    pub kind: Kind,
     // where the character's record stands in the table; 0 for a joined edge
     pub record_at: Offset,
     pub num: PassData,

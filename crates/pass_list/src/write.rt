@@ -6,6 +6,7 @@ ghost use lib.Seq.{sets};
 ghost use Rattle.pass_list.specs.StoredEdge.{StoredEdge, EdgeIs, NumIs};
 ghost use Rattle.pass_list.specs.Layout.{SIZE, valueAt};
 ghost use Rattle.pass_list.specs.Stored.{mapOf, numBytes, recordBytes};
+use crate::kind::kind_number;
 use crate::layout;
 use crate::record::PassData;
 use crate::record::PassEdge;
@@ -48,7 +49,8 @@ pub fn write_edge(out: &mut [u8], at: usize, e: PassEdge)
 {
     fields::write::put_u16(out, at, e.start.0 as u16);
     fields::write::put_u16(out, at + layout::END_AT, e.end.0 as u16);
-    fields::write::put_u16(out, at + layout::KIND_AT, e.kind);
+    let kind = e.kind;
+    fields::write::put_u16(out, at + layout::KIND_AT, kind_number(kind));
     fields::write::put_u16(out, at + layout::MAP_AT, map_of(e.num));
     put_num(out, at, e.record_at.0 as u64, e.num);
 }

@@ -1,11 +1,13 @@
 // What a pass makes of two edges that it joins: the value over both and the edge over both. The definitions are those of `pass_list`, specs/StoredPass.antt.
 ghost use mathlib.Core.Path.{_≡_};
 ghost use Prim.Native.Nat.{ℕ, _+_, _*_, _≤_};
+ghost use lib.Dec.{eqb};
 ghost use Rattle.whole.specs.Whole.{TOP, ofNat};
 ghost use Rattle.whole.specs.Answers.{value};
 ghost use Rattle.pass_list.specs.StoredEdge.{StoredEdge, passEdge};
 ghost use Rattle.pass_list.specs.StoredPass.{valueOf, kindOf, over};
 ghost use Rattle.pass_list.specs.Answers.{passOf};
+use pass_list::kind::Kind;
 use pass_list::record::PassEdge;
 use pass_list::run::Pass;
 use text::Offset;
@@ -34,15 +36,16 @@ pub fn joined_value(pass: Pass, l: f64, r: f64) -> Bounded
     }
 }
 
-fn kind_of(pass: Pass) -> u16
-    ensures { λ r. ⌜ r ≡ kindOf (passOf pass) ⌝ }
+// G3 makes a large power.
+fn makes_large_power(pass: Pass) -> bool
+    ensures { λ r. ⌜ r ≡ eqb (kindOf (passOf pass)) 4 ⌝ }
 {
     match pass {
-        Pass::D1 => 1,
-        Pass::G1 => 2,
-        Pass::G2 => 3,
-        Pass::G3 => 4,
-        Pass::G4 => 5,
+        Pass::D1 => false,
+        Pass::G1 => false,
+        Pass::G2 => false,
+        Pass::G3 => true,
+        Pass::G4 => false,
     }
 }
 
@@ -50,7 +53,7 @@ fn kind_of(pass: Pass) -> u16
 pub fn joined_edge(pass: Pass, l: PassEdge, r: PassEdge, v: f64) -> PassEdge
     ensures { λ e. ⌜ ((x y : StoredEdge) (n : ℕ) → l ≡ passEdge x → r ≡ passEdge y → v ≡ ofNat n → e ≡ passEdge (over (passOf pass) x y n)) ⌝ }
 {
-    let kind = kind_of(pass);
+    let large_power = makes_large_power(pass);
     let start = l.start;
     let end = r.end;
     let mut num = r.num;
@@ -58,13 +61,13 @@ pub fn joined_edge(pass: Pass, l: PassEdge, r: PassEdge, v: f64) -> PassEdge
     num.has_value = true;
     num.base_multiplier = 0.0;
     num.has_mult = false;
-    num.large_power = kind == 4;
+    num.large_power = large_power;
     num.digit = false;
     num.gap = false;
     PassEdge {
         start: start,
         end: end,
-        kind: kind,
+        kind: Kind::Joined(pass),
         record_at: Offset(0),
         num: num,
     }

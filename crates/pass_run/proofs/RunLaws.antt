@@ -75,18 +75,11 @@ module _ (p : Pass) (x : StoredChain) (y : StoredEdge) where
       go false b t e = absurd (let z : _≡_ {A = ℕ} 0 1 = cc in omega arith)
 
 -- ---- the longer chain
-kind-small : (p : Pass) → kindOf p < 2 ^ 16
-kind-small D1 = omega arith
-kind-small G1 = omega arith
-kind-small G2 = omega arith
-kind-small G3 = omega arith
-kind-small G4 = omega arith
-
 pub longer-fits : (p : Pass) (x : StoredChain) (y : StoredEdge) → Fits (x .edge) → Fits y → joinedValue p x y ≤ TOP → Fits (longer p x y .edge)
 unfolding longer over
 longer-fits p x y f g h =
     let r = counted-fits p (x .edge) y f g in
-    record { small = record { value = h; base = r .small .base; mult = omega arith }; start = f .start; end = r .end; kind = kind-small p; record-at = omega arith; script-at = r .script-at; script-len = r .script-len }
+    record { small = record { value = h; base = r .small .base; mult = omega arith }; start = f .start; end = r .end; record-at = omega arith; script-at = r .script-at; script-len = r .script-len }
 
 -- a chain of two and more that takes another edge has no lower value: only sums and rows of digits go on
 pub joined-grows : (p : Pass) (x : StoredChain) (y : StoredEdge) → x .more ≡ true → joins p x y ≡ true → x .edge .value ≤ joinedValue p x y

@@ -9,6 +9,7 @@ use Rattle.text.specs.Text.{chars}
 use Rattle.table.specs.Table.{Text}
 use Rattle.pass_list.specs.declared.record.PassEdge.{PassEdge}
 use Rattle.pass_list.specs.StoredEdge.{StoredEdge}
+use Rattle.pass_list.specs.Kind.{kindNumber}
 use Rattle.pass_edge.specs.Grounded.{LegalAt, StoredIs}
 use Rattle.pass_edge.specs.Texts.{charTxt, charType, TextsAre}
 use Rattle.pass_edge.specs.Fields.{storedFraction}
@@ -19,8 +20,8 @@ pub no-fraction : (t : List ℕ) (at : ℕ) → LegalAt t at → (getD t (at + 4
 unfolding storedFraction
 no-fraction t at l h = rw (l .reads, fraction-absent t at (l .reads) (ne-eqb (getD t (at + 4) 0 / 4 % 2) 1 h))
 
-module _ (line t : List ℕ) (e : PassEdge) (z : e .kind ≡ 0) where
-  pub char-fraction : storedFraction t 0 (e .«record_at» .0) ≡ storedFraction t (e .kind) (e .«record_at» .0)
+module _ (line t : List ℕ) (e : PassEdge) (z : kindNumber (e .kind) ≡ 0) where
+  pub char-fraction : storedFraction t 0 (e .«record_at» .0) ≡ storedFraction t (kindNumber (e .kind)) (e .«record_at» .0)
   char-fraction = ap (λ (k : ℕ). storedFraction t k (e .«record_at» .0)) (sym z)
 
   pub char-texts : {ty tx : Text} → ty ≡ charType t (e .«record_at» .0) → tx ≡ charTxt (chars line) t (e .«record_at» .0) (e .start .0) (e .end .0) → (x : StoredEdge) → StoredIs line t e x → TextsAre line t e ty tx x

@@ -22,7 +22,6 @@ returns c =
         small = pre .1;
         start = omega arith;
         end = omega arith;
-        kind = omega arith;
         record-at = omega arith;
         script-at = omega arith;
         script-len = omega arith;

@@ -10,6 +10,7 @@ use Rattle.table.specs.Layout.{recordsAt}
 use Rattle.table.specs.declared.shape.Shape.{Shape}
 use Rattle.pass_list.specs.StoredEdge.{StoredEdge}
 use Rattle.pass_list.proofs.in_turn.EveryLaws.{every-map}
+use Rattle.pass_list.specs.Kind.{kindNumber}
 use Rattle.lattice.specs.declared.Lattice.{Lattice}
 use Rattle.lattice.specs.Kept.{END}
 use Rattle.numbers.specs.Ready.{Ready}
@@ -25,7 +26,7 @@ first-list line t h v n few i =
     let f = i .few in
     record {
       sounds = sounds-of (i .stored-edges .made) (i .small) (i .rooted);
-      kinds = every-map (λ (x : StoredEdge). x .kind ≡ 0) (λ (x : StoredEdge). x .kind < 1) (λ x e. omega arith) (behind v n) (i .stored-edges .kinds);
+      kinds = every-map (λ (x : StoredEdge). kindNumber (x .kind) ≡ 0) (λ (x : StoredEdge). kindNumber (x .kind) < 1) (λ x e. omega arith) (behind v n) (i .stored-edges .kinds);
       few = omega arith;
     }
 

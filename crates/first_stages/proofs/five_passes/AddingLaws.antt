@@ -8,9 +8,7 @@ use native.Mathlib.Nat.{zero-add}
 use lib.ListN.{length, drop, length-drop}
 use lib.Dec.{eqb}
 use borrow.Author.Tests.{eq-eqb, ne-eqb}
-use Rattle.fields.specs.Fields.{leAt}
 use Rattle.fields.proofs.PartLaws.{part-of-drop}
-use Rattle.fields.proofs.FieldsLaws.{leAt-of-part}
 use Rattle.text.specs.Text.{chars}
 use Rattle.pass_list.specs.declared.record.PassEdge.{PassEdge}
 use Rattle.pass_list.specs.StoredEdge.{StoredEdge, Every, cons, EdgeIs}
@@ -19,6 +17,7 @@ use Rattle.pass_list.specs.Edges.{edgeOf}
 use Rattle.pass_list.proofs.StoredLaws.{stored-edges-snoc}
 use Rattle.pass_list.specs.InTurn.{ofKind}
 use Rattle.pass_list.specs.Layout.{SIZE}
+use Rattle.pass_list.specs.Kind.{kindNumber}
 use Rattle.edge.specs.Edge.{Edge}
 use Rattle.lattice.specs.Lattice.{add, addAll}
 use Rattle.lattice.specs.declared.Lattice.{Lattice}
@@ -37,9 +36,8 @@ pub stored-edge-behind : (line t : List ℕ) (w : List ℕ) (at : ℕ) (e : Pass
 stored-edge-behind line t w at e s h = record { is = subst (EdgeIs e) (stored-edge-behind-is w at) h; sound = s }
 
 -- its kind can be read alone
-pub kind-behind : (w : List ℕ) (at : ℕ) → leAt w (END + at + 4) 2 ≡ storedAt (drop END w) at .kind
-unfolding storedAt storedOf
-kind-behind w at = sym (leAt-of-part w (END + at) SIZE 4 2 (omega arith)) ∙ ap (λ (x : StoredEdge). x .kind) (stored-edge-behind-is w at)
+pub kind-behind : (w : List ℕ) (at : ℕ) → storedAt w (END + at) .kind ≡ storedAt (drop END w) at .kind
+kind-behind w at = ap (λ (x : StoredEdge). x .kind) (stored-edge-behind-is w at)
 
 -- ---- each stored edge of a list
 every-stored-edges : (P : StoredEdge → Type 0) (s : List ℕ) (i n j : ℕ) → Every P (storedListAt s i n) → j < n → P (storedAt s ((i + j) * SIZE))
@@ -53,16 +51,16 @@ stored-edge-of P s n j e h = rw zero-add at (every-stored-edges P s 0 n j e h)
 
 -- ---- one stored edge
 module _ (w t : List ℕ) (k : ℕ) (es : List Edge) (x : StoredEdge) where
-  adds : x .kind ≡ k → add es (listedEdge (edgeOf w t x)) ≡ addIf w t k es x
+  adds : kindNumber (x .kind) ≡ k → add es (listedEdge (edgeOf w t x)) ≡ addIf w t k es x
   unfolding addIf
-  adds h = rw (eq-eqb (x .kind) k h)
+  adds h = rw (eq-eqb (kindNumber (x .kind)) k h)
 
-  pub passes-over : (x .kind ≡ k → ⊥) → es ≡ addIf w t k es x
+  pub passes-over : (kindNumber (x .kind) ≡ k → ⊥) → es ≡ addIf w t k es x
   unfolding addIf
-  passes-over h = rw (ne-eqb (x .kind) k h)
+  passes-over h = rw (ne-eqb (kindNumber (x .kind)) k h)
 
 -- the stored edge x is of kind k, and was added
-pub added-if : (line t : List ℕ) (k : ℕ) (e : PassEdge) (x : StoredEdge) → StoredIs line t e x → x .kind ≡ k → {s u : List ℕ} {l r : Lattice} → Added line t e s l u r → (es : List Edge) → Holds s l es
+pub added-if : (line t : List ℕ) (k : ℕ) (e : PassEdge) (x : StoredEdge) → StoredIs line t e x → kindNumber (x .kind) ≡ k → {s u : List ℕ} {l r : Lattice} → Added line t e s l u r → (es : List Edge) → Holds s l es
     → Holds u r (addIf (chars line) t k es x)
 added-if line t k e x is z a es h = rw (← adds (chars line) t k es x z) (a .holds es x h is)
 
@@ -70,7 +68,7 @@ added-if line t k e x is z a es h = rw (← adds (chars line) t k es x z) (a .ho
 of-kind-append : (k : ℕ) (l m : List StoredEdge) → ofKind k (l ++ m) ≡ ofKind k l ++ ofKind k m
 unfolding ofKind
 of-kind-append k [] m = refl
-of-kind-append k (x ∷ l) m = go (eqb (x .kind) k) (of-kind-append k l m)
+of-kind-append k (x ∷ l) m = go (eqb (kindNumber (x .kind)) k) (of-kind-append k l m)
   where
     go : (b : Bool) → ofKind k (l ++ m) ≡ ofKind k l ++ ofKind k m → cond b (x ∷ ofKind k (l ++ m)) (ofKind k (l ++ m)) ≡ cond b (x ∷ ofKind k l) (ofKind k l) ++ ofKind k m
     go true e = ap (λ (r : List StoredEdge). x ∷ r) e
@@ -85,7 +83,7 @@ module _ (w t : List ℕ) (k : ℕ) (es : List Edge) where
 
   one-edge : (fs : List Edge) (x : StoredEdge) → addAll fs (kindEdges w t k (x ∷ [])) ≡ addIf w t k fs x
   unfolding ofKind addIf addAll
-  one-edge fs x = go (eqb (x .kind) k)
+  one-edge fs x = go (eqb (kindNumber (x .kind)) k)
     where
       go : (b : Bool) → addAll fs (map listedEdge (map (edgeOf w t) (cond b (x ∷ []) []))) ≡ cond b (add fs (listedEdge (edgeOf w t x))) fs
       go true = refl

@@ -30,6 +30,7 @@ use Rattle.lattice.specs.Lattice.{addAll}
 use Rattle.lattice.specs.Kept.{Holds, END, SameBehind}
 use Rattle.lattice.proofs.HoldsLaws.{add-all-append}
 use Rattle.pass_list.proofs.in_turn.EveryLaws.{every-append}
+use Rattle.pass_list.specs.Kind.{kindNumber}
 use Rattle.pass_edge.specs.Grounded.{Grounded, AllGrounded}
 use Rattle.numbers.specs.Listed.{listedEdge}
 use Rattle.first_stages.specs.declared.five_passes.PassesAnswer.{PassesAnswer}
@@ -56,7 +57,7 @@ module _ {w t : List ℕ} {i : ℕ} {s : List ℕ} {n : ℕ} (scalars : Scalars 
   pub pass-small : AllSmall (behind s n)
   pass-small = sounds-small (q .sounds)
 
-  earlier : Every (λ x. x .kind < kindOf (nth i)) (behind s n)
+  earlier : Every (λ x. kindNumber (x .kind) < kindOf (nth i)) (behind s n)
   earlier = rw (nth-kind i h) (q .kinds)
 
   -- the pass ran over the list behind the lattice, from s to v
@@ -89,12 +90,12 @@ module _ {w t : List ℕ} {i : ℕ} {s : List ℕ} {n : ℕ} (scalars : Scalars 
       pub pass-few : k ≤ 256
       pass-few = let f = few-left in let g = q .few in omega arith
 
-      kinds-after : Every (λ x. x .kind < suc (suc i)) (after (nth i) (behind s n))
+      kinds-after : Every (λ x. kindNumber (x .kind) < suc (suc i)) (after (nth i) (behind s n))
       kinds-after = go (after (nth i) (behind s n)) (after-kind (nth i) (behind s n) earlier)
         where
-          go : (l : List StoredEdge) → Every (λ x. x .kind ≤ kindOf (nth i)) l → Every (λ x. x .kind < suc (suc i)) l
+          go : (l : List StoredEdge) → Every (λ x. kindNumber (x .kind) ≤ kindOf (nth i)) l → Every (λ x. kindNumber (x .kind) < suc (suc i)) l
           go [] nil = nil
-          go (x ∷ l) (cons a b) = cons (let y = nth-kind i h in let z : x .kind < suc (suc i) = omega arith in z) (go l b)
+          go (x ∷ l) (cons a b) = cons (let y = nth-kind i h in let z : kindNumber (x .kind) < suc (suc i) = omega arith in z) (go l b)
 
       new-stored-edges : ofKind (i + 1) (behind v k) ≡ added (nth i) (behind s n)
       new-stored-edges = ap (λ (j : ℕ). ofKind j (behind v k)) (add-one i) ∙ ap (ofKind (suc i)) after-is ∙ ap (λ (j : ℕ). ofKind j (after (nth i) (behind s n))) (sym (nth-kind i h)) ∙ sym (added-of-kind (nth i) (behind s n) earlier)

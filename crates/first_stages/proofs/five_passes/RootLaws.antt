@@ -14,6 +14,7 @@ use Rattle.pass_list.specs.Edges.{WellMade}
 use Rattle.pass_list.proofs.in_turn.KindLaws.{map-same}
 use Rattle.pass_list.proofs.in_turn.Simulation.{Agrees, chains-sound}
 use Rattle.pass_list.specs.InTurn.{ofKind}
+use Rattle.pass_list.specs.Kind.{kindNumber}
 use Rattle.pass_edge.specs.Grounded.{ScriptAt, Rooted, AllGrounded}
 
 module _ (t : List ℕ) where
@@ -84,7 +85,7 @@ module _ (t : List ℕ) where
 pub every-of-kind : {P : StoredEdge → Type 0} (k : ℕ) {l : List StoredEdge} → Every P l → Every P (ofKind k l)
 unfolding ofKind
 every-of-kind k {l = []} nil = nil
-every-of-kind {P} k {l = x ∷ l} (cons p h) = go (eqb (x .kind) k) (every-of-kind k h)
+every-of-kind {P} k {l = x ∷ l} (cons p h) = go (eqb (kindNumber (x .kind)) k) (every-of-kind k h)
   where
     go : (b : Bool) → Every P (ofKind k l) → Every P (cond b (x ∷ ofKind k l) (ofKind k l))
     go true r = cons p r

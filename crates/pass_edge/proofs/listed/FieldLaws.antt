@@ -20,6 +20,7 @@ use Rattle.table.specs.Answers.{optionally}
 use Rattle.pass_list.specs.declared.record.PassEdge.{PassEdge}
 use Rattle.pass_list.specs.StoredEdge.{StoredEdge, passEdge}
 use Rattle.pass_list.specs.Edges.{between, edgeOf, txtOf}
+use Rattle.pass_list.specs.Kind.{kindNumber}
 use Rattle.numbers.specs.Ready.{Offsets}
 use Rattle.edge.specs.declared.NumFields.{NumFields}
 use Rattle.edge.specs.Edge.{Text, Numeric, f64Bits, numericMap}
@@ -78,13 +79,13 @@ unfoldable pub numericIn : List ℕ → List ℕ → StoredEdge → Numeric
 numericIn w t x = record {
   orig = between w (x .start) (x .end);
   value = Option·map f64Bits (optionally (x .has-value) (x .value));
-  fraction = storedFraction t (x .kind) (x .record-at);
+  fraction = storedFraction t (kindNumber (x .kind)) (x .record-at);
   base = optionally (x .has-base) (x .base);
   mult = Option·map f64Bits (optionally (x .has-mult) (x .mult));
   script = optionally (x .has-script) (part t (x .script-at) (x .script-len));
   large = x .large-power;
   active = true;
-  value-s = cond (eqb (x .kind) 1) (some (padded (x .end - x .start) (x .value))) none;
+  value-s = cond (eqb (kindNumber (x .kind)) 1) (some (padded (x .end - x .start) (x .value))) none;
 }
 
 pub listed-is : (w t : List ℕ) (x : StoredEdge) → listedEdge (edgeOf w t x) ≡ record { start = x .start; end = x .end; type = typeOf t x; txt = txtOf w t x; num = some (numericIn w t x) }
@@ -94,7 +95,7 @@ listed-is w t x = refl
 -- ---- the stored edge's map
 -- it is the sum of what the fields that are there are worth
 pub map-summed : (e : PassEdge) (f : Bool) {v r b m s l d : ℕ} → v ≡ 2 * flag (e .num .«has_value») → r ≡ 4 * flag f → b ≡ 8 * flag (e .num .«has_base») → m ≡ 16 * flag (e .num .«has_mult»)
-    → s ≡ 32 * flag (e .num .«has_script») → l ≡ 64 * flag (e .num .«large_power») → d ≡ 256 * flag (eqb (e .kind) 1) → 129 + v + r + b + m + s + l + d ≡ storedMap e f
+    → s ≡ 32 * flag (e .num .«has_script») → l ≡ 64 * flag (e .num .«large_power») → d ≡ 256 * flag (eqb (kindNumber (e .kind)) 1) → 129 + v + r + b + m + s + l + d ≡ storedMap e f
 map-summed e f hv hr hb hm hs hl hd = rw (hv, hr, hb, hm, hs, hl, hd)
 
 there-only : {A : Type 0} (b : Bool) (a : A) → there (optionally b a) ≡ flag b
@@ -109,11 +110,11 @@ there-digits : (b : Bool) (t : Text) → there (cond b (some t) none) ≡ flag b
 there-digits true t = refl
 there-digits false t = refl
 
-module _ (w t : List ℕ) (x : StoredEdge) (f : Fraction) (h : FractionIs f (storedFraction t (x .kind) (x .record-at))) where
+module _ (w t : List ℕ) (x : StoredEdge) (f : Fraction) (h : FractionIs f (storedFraction t (kindNumber (x .kind)) (x .record-at))) where
   pub map-listed : storedMap (passEdge x) (f .there) ≡ numericMap (numericIn w t x)
   unfolding numericMap numericIn
   map-listed =
-      let fraction : there (storedFraction t (x .kind) (x .record-at)) ≡ flag (f .there) = ap there (sym h) ∙ there-only (f .there) (f .numerator, f .denominator) in
+      let fraction : there (storedFraction t (kindNumber (x .kind)) (x .record-at)) ≡ flag (f .there) = ap there (sym h) ∙ there-only (f .there) (f .numerator, f .denominator) in
       rw (
         there-map f64Bits (optionally (x .has-value) (x .value)),
         there-only (x .has-value) (x .value),
@@ -122,7 +123,7 @@ module _ (w t : List ℕ) (x : StoredEdge) (f : Fraction) (h : FractionIs f (sto
         there-map f64Bits (optionally (x .has-mult) (x .mult)),
         there-only (x .has-mult) (x .mult),
         there-only (x .has-script) (part t (x .script-at) (x .script-len)),
-        there-digits (eqb (x .kind) 1) (padded (x .end - x .start) (x .value)),
+        there-digits (eqb (kindNumber (x .kind)) 1) (padded (x .end - x .start) (x .value)),
       )
       (omega arith)
 
@@ -136,7 +137,7 @@ map-small e f =
       flag-le (e .num .«has_mult»),
       flag-le (e .num .«has_script»),
       flag-le (e .num .«large_power»),
-      flag-le (eqb (e .kind) 1),
+      flag-le (eqb (kindNumber (e .kind)) 1),
     )
 
 -- ---- the stored edge's fields
@@ -156,10 +157,10 @@ digits-told : (b : Bool) (txt u a : Text) → (b ≡ true → txt ≡ u) → con
 digits-told true txt u a h e = part-all txt ∙ h refl ∙ Option·some-injective u a e
 digits-told false txt u a h e = absurd (Option·some-ne-none a (sym e))
 
-txt-of-digits : (w t : List ℕ) (x : StoredEdge) → eqb (x .kind) 1 ≡ true → txtOf w t x ≡ padded (x .end - x .start) (x .value)
-txt-of-digits w t x e = let k : x .kind ≡ 1 = eqb-true (x .kind) 1 e in rw (ne-eqb (x .kind) 0 (λ o. omega arith), e)
+txt-of-digits : (w t : List ℕ) (x : StoredEdge) → eqb (kindNumber (x .kind)) 1 ≡ true → txtOf w t x ≡ padded (x .end - x .start) (x .value)
+txt-of-digits w t x e = let k : kindNumber (x .kind) ≡ 1 = eqb-true (kindNumber (x .kind)) 1 e in rw (ne-eqb (kindNumber (x .kind)) 0 (λ o. omega arith), e)
 
-module _ (line offs t : List ℕ) (x : StoredEdge) (f : Fraction) (sound : Grounded (chars line) t x) (o : Offsets line offs) (h : FractionIs f (storedFraction t (x .kind) (x .record-at))) (txt : Text) (is : txt ≡ txtOf (chars line) t x) where
+module _ (line offs t : List ℕ) (x : StoredEdge) (f : Fraction) (sound : Grounded (chars line) t x) (o : Offsets line offs) (h : FractionIs f (storedFraction t (kindNumber (x .kind)) (x .record-at))) (txt : Text) (is : txt ≡ txtOf (chars line) t x) where
   pub fields-are : FieldsAre line t txt (storedFields offs (passEdge x) f (length txt)) (numericIn (chars line) t x)
   unfolding storedFields fieldsOf numericIn f64Bits
   fields-are = record {
@@ -170,7 +171,7 @@ module _ (line offs t : List ℕ) (x : StoredEdge) (f : Fraction) (sound : Groun
     base = only-told (x .has-base) (x .base);
     mult = map-told f64Bits (x .has-mult) (x .mult);
     script = script-told t (x .has-script) (x .script-at) (x .script-len);
-    value-s = λ a e. digits-told (eqb (x .kind) 1) txt (padded (x .end - x .start) (x .value)) a (λ k. is ∙ txt-of-digits (chars line) t x k) e;
+    value-s = λ a e. digits-told (eqb (kindNumber (x .kind)) 1) txt (padded (x .end - x .start) (x .value)) a (λ k. is ∙ txt-of-digits (chars line) t x k) e;
   }
 
 -- ---- what can be written
@@ -185,7 +186,7 @@ part-or-len false at n m h = omega arith
 pub record Room (ty txt : Text) (d : NumFields) : Type 0 where
   pub all : length ty + length txt + d .orig .len + d .script .len + d .«value_s» .len ≤ 1990
 
-module _ (line offs t : List ℕ) (x : StoredEdge) (f : Fraction) (sound : Grounded (chars line) t x) (o : Offsets line offs) (h : FractionIs f (storedFraction t (x .kind) (x .record-at))) (txt : Text) (is : txt ≡ txtOf (chars line) t x) (few : length (chars line) ≤ 256) where
+module _ (line offs t : List ℕ) (x : StoredEdge) (f : Fraction) (sound : Grounded (chars line) t x) (o : Offsets line offs) (h : FractionIs f (storedFraction t (kindNumber (x .kind)) (x .record-at))) (txt : Text) (is : txt ≡ txtOf (chars line) t x) (few : length (chars line) ≤ 256) where
   orig-spans : Spans line offs (x .start) (x .end)
   orig-spans = spans line offs (x .start) (x .end) o (omega (arith, sound .made .ordered)) (sound .made .inside)
 
@@ -198,8 +199,8 @@ module _ (line offs t : List ℕ) (x : StoredEdge) (f : Fraction) (sound : Groun
   script-len : partOr (x .has-script) (x .script-at) (x .script-len) .len ≤ 60
   script-len = part-or-len (x .has-script) (x .script-at) (x .script-len) 60 (λ k. sound .rooted .script k .short)
 
-  value-s-len : partOr (eqb (x .kind) 1) 0 (length txt) .len ≤ 256
-  value-s-len = part-or-len (eqb (x .kind) 1) 0 (length txt) 256 (λ k. txt-len)
+  value-s-len : partOr (eqb (kindNumber (x .kind)) 1) 0 (length txt) .len ≤ 256
+  value-s-len = part-or-len (eqb (kindNumber (x .kind)) 1) 0 (length txt) 256 (λ k. txt-len)
 
   writable-stored-edge : Writable line t txt (storedFields offs (passEdge x) f (length txt))
   unfolding storedFields fieldsOf
@@ -210,7 +211,7 @@ module _ (line offs t : List ℕ) (x : StoredEdge) (f : Fraction) (sound : Groun
         map = map-small (passEdge x) (f .there);
         orig = omega (arith, orig-spans .rises, orig-spans .within);
         script = λ k. part-or-in (x .has-script) (x .script-at) (x .script-len) (length t) (λ b. sound .rooted .script b .within);
-        value-s = λ k. part-or-in (eqb (x .kind) 1) 0 (length txt) (length txt) (λ b. omega arith);
+        value-s = λ k. part-or-in (eqb (kindNumber (x .kind)) 1) 0 (length txt) (length txt) (λ b. omega arith);
         orig-len = omega (arith, orig-len);
         script-len = omega (arith, script-len);
         value-s-len = omega (arith, value-s-len);
@@ -233,9 +234,9 @@ module _ (line offs t : List ℕ) (e : PassEdge) (x : StoredEdge) (h : StoredIs 
         mult = rw (ap (λ (e : PassEdge). e .num .«base_multiplier») (h .is .is)) (ofNat-not-nan (h .sound .small .mult));
       }
 
-module _ (line offs t : List ℕ) (e : PassEdge) (x : StoredEdge) (f : Fraction) (ty txt : Text) (a : TextsAre line t e ty txt x) (o : Offsets line offs) (few : length (chars line) ≤ 256) (h : FractionIs f (storedFraction t (e .kind) (e .«record_at» .0))) (d : NumFields) (is : d ≡ storedFields offs e f (length txt)) where
-  stored-edge-fraction : FractionIs f (storedFraction t (x .kind) (x .record-at))
-  stored-edge-fraction = h ∙ ap (λ (e : PassEdge). storedFraction t (e .kind) (e .«record_at» .0)) (a .stored-edge .is .is)
+module _ (line offs t : List ℕ) (e : PassEdge) (x : StoredEdge) (f : Fraction) (ty txt : Text) (a : TextsAre line t e ty txt x) (o : Offsets line offs) (few : length (chars line) ≤ 256) (h : FractionIs f (storedFraction t (kindNumber (e .kind)) (e .«record_at» .0))) (d : NumFields) (is : d ≡ storedFields offs e f (length txt)) where
+  stored-edge-fraction : FractionIs f (storedFraction t (kindNumber (x .kind)) (x .record-at))
+  stored-edge-fraction = h ∙ ap (λ (e : PassEdge). storedFraction t (kindNumber (e .kind)) (e .«record_at» .0)) (a .stored-edge .is .is)
 
   stored-edge-fields : storedFields offs (passEdge x) f (length txt) ≡ d
   stored-edge-fields = sym (is ∙ ap (λ (e : PassEdge). storedFields offs e f (length txt)) (a .stored-edge .is .is))
@@ -257,8 +258,8 @@ module _ (line offs t : List ℕ) (e : PassEdge) (x : StoredEdge) (f : Fraction)
       rw (num, from, to, a .type, a .txt) (sym (listed-is (chars line) t x))
 
 -- a character's record is legal
-pub legal-there : (line t : List ℕ) (e : PassEdge) (x : StoredEdge) → StoredIs line t e x → e .kind ≡ 0 → LegalAt t (e .«record_at» .0)
+pub legal-there : (line t : List ℕ) (e : PassEdge) (x : StoredEdge) → StoredIs line t e x → kindNumber (e .kind) ≡ 0 → LegalAt t (e .«record_at» .0)
 legal-there line t e x h z =
-    let k : e .kind ≡ x .kind = ap (λ (e : PassEdge). e .kind) (h .is .is) in
+    let k : kindNumber (e .kind) ≡ kindNumber (x .kind) = ap (λ (e : PassEdge). kindNumber (e .kind)) (h .is .is) in
     let at : x .record-at ≡ e .«record_at» .0 = sym (ap (λ (e : PassEdge). e .«record_at» .0) (h .is .is)) in
     subst (LegalAt t) at (h .sound .rooted .legal (sym k ∙ z))

@@ -26,6 +26,7 @@ use Rattle.edge.specs.Check.{each, upToTop, soundFraction}
 use Rattle.pass_list.specs.StoredEdge.{StoredEdge, Every, nil, cons}
 use Rattle.pass_list.specs.Edges.{between, kindName, txtOf}
 use Rattle.pass_list.proofs.in_turn.EveryLaws.{every-append}
+use Rattle.pass_list.specs.Kind.{kindNumber}
 use Rattle.pass_edge.specs.Grounded.{LegalAt, Grounded}
 use Rattle.pass_edge.specs.Texts.{charTxt, charType, typeOf}
 use Rattle.pass_edge.specs.Fields.{storedFraction}
@@ -85,11 +86,11 @@ record-texts r h =
 module _ (w t : List ℕ) (x : StoredEdge) (s : Grounded w t x) where
   pub type-formed : wellFormed (typeOf t x) ≡ true
   unfolding typeOf charType
-  type-formed = go (eqb (x .kind) 0) refl
+  type-formed = go (eqb (kindNumber (x .kind)) 0) refl
     where
-      go : (b : Bool) → eqb (x .kind) 0 ≡ b → wellFormed (cond b (charType t (x .record-at)) (kindName (x .kind))) ≡ true
-      go true e = let l = s .rooted .legal (eqb-true (x .kind) 0 e) in rw (l .reads) (record-texts (l .prop) (l .texts) .0)
-      go false e = name-formed (x .kind)
+      go : (b : Bool) → eqb (kindNumber (x .kind)) 0 ≡ b → wellFormed (cond b (charType t (x .record-at)) (kindName (kindNumber (x .kind)))) ≡ true
+      go true e = let l = s .rooted .legal (eqb-true (kindNumber (x .kind)) 0 e) in rw (l .reads) (record-texts (l .prop) (l .texts) .0)
+      go false e = name-formed (kindNumber (x .kind))
 
 -- ---- the txt
 pub between-formed : (w : List ℕ) (a b : ℕ) → Scalars w → wellFormed (between w a b) ≡ true
@@ -104,11 +105,11 @@ get-formed (some t) d h k = h
 module _ (w t : List ℕ) (x : StoredEdge) (s : Grounded w t x) (scalars : Scalars w) where
   pub txt-formed : wellFormed (txtOf w t x) ≡ true
   unfolding charTxt
-  txt-formed = go (eqb (x .kind) 0) (eqb (x .kind) 1) refl
+  txt-formed = go (eqb (kindNumber (x .kind)) 0) (eqb (kindNumber (x .kind)) 1) refl
     where
-      go : (b c : Bool) → eqb (x .kind) 0 ≡ b → wellFormed (cond b (charTxt w t (x .record-at) (x .start) (x .end)) (cond c (padded (x .end - x .start) (x .value)) (decimal (x .value)))) ≡ true
+      go : (b c : Bool) → eqb (kindNumber (x .kind)) 0 ≡ b → wellFormed (cond b (charTxt w t (x .record-at) (x .start) (x .end)) (cond c (padded (x .end - x .start) (x .value)) (decimal (x .value)))) ≡ true
       go true c e =
-          let l = s .rooted .legal (eqb-true (x .kind) 0 e) in
+          let l = s .rooted .legal (eqb-true (kindNumber (x .kind)) 0 e) in
           rw (l .reads) (get-formed (l .prop .rom) (between w (x .start) (x .end)) (record-texts (l .prop) (l .texts) .1) (between-formed w (x .start) (x .end) scalars))
       go false true e = padded-formed (x .end - x .start) (x .value)
       go false false e = decimal-formed (x .value)
@@ -142,12 +143,12 @@ record-ratio r h =
     and-true (allOf small (r .value)) (allOf legalRatio (r .fraction)) two .1
 
 module _ (w t : List ℕ) (x : StoredEdge) (s : Grounded w t x) where
-  pub fraction-fits : AllFits (storedFraction t (x .kind) (x .record-at))
+  pub fraction-fits : AllFits (storedFraction t (kindNumber (x .kind)) (x .record-at))
   unfolding storedFraction
-  fraction-fits = go (eqb (x .kind) 0) refl
+  fraction-fits = go (eqb (kindNumber (x .kind)) 0) refl
     where
-      go : (b : Bool) → eqb (x .kind) 0 ≡ b → AllFits (cond b (storedFraction t 0 (x .record-at)) none)
-      go true e = let l = s .rooted .legal (eqb-true (x .kind) 0 e) in rw (l .reads) (lowest-fits (l .prop .fraction) (record-ratio (l .prop) (l .numbers)))
+      go : (b : Bool) → eqb (kindNumber (x .kind)) 0 ≡ b → AllFits (cond b (storedFraction t 0 (x .record-at)) none)
+      go true e = let l = s .rooted .legal (eqb-true (kindNumber (x .kind)) 0 e) in rw (l .reads) (lowest-fits (l .prop .fraction) (record-ratio (l .prop) (l .numbers)))
       go false e = tt
 
 pub fits-sound : (o : Option (ℕ × ℕ)) → AllFits o → each soundFraction o ≡ true

@@ -23,6 +23,7 @@ use Rattle.edge.specs.Legal.{Legal}
 use Rattle.edge.proofs.theorems.Theorems.{f64-bits-fit}
 use Rattle.pass_list.specs.StoredEdge.{StoredEdge, Every, nil, cons}
 use Rattle.pass_list.specs.Edges.{between, edgeOf, txtOf}
+use Rattle.pass_list.specs.Kind.{kindNumber}
 use Rattle.numbers.specs.CallEdge.{Short, CallEdge, CallEdges}
 use Rattle.numbers.proofs.stages.CallLaws.{allowed-map}
 use Rattle.numbers.specs.Listed.{listedEdge}
@@ -61,8 +62,8 @@ module _ (w t : List ℕ) (x : StoredEdge) (s : Grounded w t x) (scalars : Scala
       let u : part t (x .script-at) (x .script-len) ≡ a = only-told (x .has-script) (part t (x .script-at) (x .script-len)) a e in
       omega (arith, ap length u, c .short)
 
-  digits-short : (a : Text) → optionally (eqb (x .kind) 1) (padded (x .end - x .start) (x .value)) ≡ some a → length a ≤ 256
-  digits-short a e = omega (arith, ap length (only-told (eqb (x .kind) 1) (padded (x .end - x .start) (x .value)) a e), length-padded (x .end - x .start) (x .value), s .made .inside)
+  digits-short : (a : Text) → optionally (eqb (kindNumber (x .kind)) 1) (padded (x .end - x .start) (x .value)) ≡ some a → length a ≤ 256
+  digits-short a e = omega (arith, ap length (only-told (eqb (kindNumber (x .kind)) 1) (padded (x .end - x .start) (x .value)) a e), length-padded (x .end - x .start) (x .value), s .made .inside)
 
   numeric-fits : NumericFits (numericIn w t x)
   unfolding numericIn
@@ -80,11 +81,11 @@ module _ (w t : List ℕ) (x : StoredEdge) (s : Grounded w t x) (scalars : Scala
   unfolding soundNumeric numericIn
   numeric-sound =
       rw (
-        fits-sound (storedFraction t (x .kind) (x .record-at)) (fraction-fits w t x s),
+        fits-sound (storedFraction t (kindNumber (x .kind)) (x .record-at)) (fraction-fits w t x s),
         each-number (x .has-base) (x .base) (s .small .base),
         between-formed w (x .start) (x .end) scalars,
         each-text (x .has-script) (part t (x .script-at) (x .script-len)) (λ b. s .rooted .script b .formed),
-        each-text (eqb (x .kind) 1) (padded (x .end - x .start) (x .value)) (λ b. padded-formed (x .end - x .start) (x .value)),
+        each-text (eqb (kindNumber (x .kind)) 1) (padded (x .end - x .start) (x .value)) (λ b. padded-formed (x .end - x .start) (x .value)),
       )
 
   -- ---- the edge

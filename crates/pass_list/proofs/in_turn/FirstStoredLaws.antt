@@ -14,6 +14,7 @@ use Rattle.passes.specs.Characters.{charEdge, charEdges, withEdge}
 use Rattle.pass_list.specs.StoredEdge.{StoredEdge, nil, cons}
 use Rattle.pass_list.specs.Edges.{edgeOf, WellMade}
 use Rattle.pass_list.specs.FirstStored.{FirstStored}
+use Rattle.pass_list.specs.Kind.{kindNumber}
 use Rattle.pass_list.proofs.in_turn.EveryLaws.{every-append}
 
 char-edges-snoc : (rs : List Record) (w : List ℕ) (i c : ℕ) → charEdges rs i (w ++ (c ∷ [])) ≡ charEdges rs i w ++ withEdge (i + length w) c (find rs c) []
@@ -45,12 +46,12 @@ module _ (w t : List ℕ) (rs : List Record) where
     first-stored-edges-skip e = record { edges = sym (edges-next ∙ rw (e, append-nil)); made = so-far .made; kinds = so-far .kinds }
 
     -- a character with a record, whose stored edge is x
-    pub first-stored-edges-more : (r : Record) (x : StoredEdge) → find rs c ≡ some r → edgeOf w t x ≡ charEdge n c r → WellMade w t x → x .kind ≡ 0
+    pub first-stored-edges-more : (r : Record) (x : StoredEdge) → find rs c ≡ some r → edgeOf w t x ≡ charEdge n c r → WellMade w t x → kindNumber (x .kind) ≡ 0
         → FirstStored w t rs (n + 1) (l ++ (x ∷ []))
     first-stored-edges-more r x e is made kind = record {
       edges = map-append (edgeOf w t) l (x ∷ []) ∙ rw is (sym (edges-next ∙ rw e));
       made = every-append (WellMade w t) l (x ∷ []) (so-far .made) (cons made nil);
-      kinds = every-append (λ (y : StoredEdge). y .kind ≡ 0) l (x ∷ []) (so-far .kinds) (cons kind nil);
+      kinds = every-append (λ (y : StoredEdge). kindNumber (y .kind) ≡ 0) l (x ∷ []) (so-far .kinds) (cons kind nil);
     }
 
   pub first-stored-edges-all : (l : List StoredEdge) → FirstStored w t rs (length w) l → map (edgeOf w t) l ≡ charEdges rs 0 w

@@ -13,6 +13,7 @@ use Rattle.pass_list.specs.StoredEdge.{StoredEdge, Every, nil, cons}
 use Rattle.pass_list.specs.StoredPass.{StoredChain, kindOf, begin, joins, longer, over, next, chainsOf, edgesOf, joinedOf, after, added}
 use Rattle.pass_list.proofs.in_turn.Simulation.{Agrees, chains-sound}
 use Rattle.pass_list.specs.InTurn.{ofKind}
+use Rattle.pass_list.specs.Kind.{kindNumber}
 
 pub map-same : {A : Type 0} (o : Option A) → o ≡ Option·map (λ a. a) o
 map-same none = refl
@@ -20,11 +21,11 @@ map-same (some a) = refl
 
 module _ (p : Pass) where
   abbrev pub Earlier : StoredEdge → Type 0
-  Earlier x = x .kind < kindOf p
+  Earlier x = kindNumber (x .kind) < kindOf p
 
   record ChainKind (c : StoredChain) : Type 0 where
-    pub joined : c .more ≡ true → c .edge .kind ≡ kindOf p
-    pub single : c .more ≡ false → c .edge .kind < kindOf p
+    pub joined : c .more ≡ true → kindNumber (c .edge .kind) ≡ kindOf p
+    pub single : c .more ≡ false → kindNumber (c .edge .kind) < kindOf p
 
   begin-kind : (x : StoredEdge) → Earlier x → ChainKind (begin x)
   unfolding begin
@@ -64,23 +65,23 @@ module _ (p : Pass) where
       rest : List StoredEdge
       rest = ofKind (kindOf p) (edgesOf cs)
 
-      go : (b : Bool) → c .more ≡ b → joinedOf cs ≡ rest → cond b (c .edge ∷ joinedOf cs) (joinedOf cs) ≡ cond (eqb (c .edge .kind) (kindOf p)) (c .edge ∷ rest) rest
-      go true e ih = rw (eq-eqb (c .edge .kind) (kindOf p) (k .joined e)) (ap {B = List StoredEdge} (λ r. c .edge ∷ r) ih)
-      go false e ih = rw (ne-eqb (c .edge .kind) (kindOf p) (λ q. omega (arith, k .single e))) ih
+      go : (b : Bool) → c .more ≡ b → joinedOf cs ≡ rest → cond b (c .edge ∷ joinedOf cs) (joinedOf cs) ≡ cond (eqb (kindNumber (c .edge .kind)) (kindOf p)) (c .edge ∷ rest) rest
+      go true e ih = rw (eq-eqb (kindNumber (c .edge .kind)) (kindOf p) (k .joined e)) (ap {B = List StoredEdge} (λ r. c .edge ∷ r) ih)
+      go false e ih = rw (ne-eqb (kindNumber (c .edge .kind)) (kindOf p) (λ q. omega (arith, k .single e))) ih
 
   pub added-of-kind : (l : List StoredEdge) → Every Earlier l → added p l ≡ ofKind (kindOf p) (after p l)
   unfolding added after
   added-of-kind l h = joined-of-kind (chainsOf p l) (chains-kind l h)
 
   -- ---- the kinds in the list after the pass: earlier ones for the next
-  edges-kind : (cs : List StoredChain) → Every ChainKind cs → Every (λ x. x .kind ≤ kindOf p) (edgesOf cs)
+  edges-kind : (cs : List StoredChain) → Every ChainKind cs → Every (λ x. kindNumber (x .kind) ≤ kindOf p) (edgesOf cs)
   edges-kind [] nil = nil
   edges-kind (c ∷ cs) (cons k h) = cons (go (c .more) refl) (edges-kind cs h)
     where
-      go : (b : Bool) → c .more ≡ b → c .edge .kind ≤ kindOf p
+      go : (b : Bool) → c .more ≡ b → kindNumber (c .edge .kind) ≤ kindOf p
       go true e = omega (arith, k .joined e)
       go false e = omega (arith, k .single e)
 
-  pub after-kind : (l : List StoredEdge) → Every Earlier l → Every (λ x. x .kind ≤ kindOf p) (after p l)
+  pub after-kind : (l : List StoredEdge) → Every Earlier l → Every (λ x. kindNumber (x .kind) ≤ kindOf p) (after p l)
   unfolding after
   after-kind l h = edges-kind (chainsOf p l) (chains-kind l h)

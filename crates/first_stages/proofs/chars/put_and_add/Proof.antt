@@ -8,6 +8,7 @@ use Rattle.pass_list.specs.declared.record.PassEdge.{PassEdge}
 use Rattle.pass_list.specs.StoredEdge.{StoredEdge}
 use Rattle.pass_list.specs.Layout.{SIZE}
 use Rattle.pass_list.specs.Stored.{recordBytes}
+use Rattle.pass_list.specs.Kind.{kindNumber}
 use Rattle.pass_edge.specs.Grounded.{StoredIs}
 use Rattle.characters.specs.CharStored.{charStored}
 use Rattle.characters.proofs.CharLaws.{char-kind}
@@ -56,7 +57,7 @@ add-char-requires c κs =
         stored-edge = (stored-edge e, is e);
         few = room .few;
       },
-      ap (λ (x : PassEdge). x .kind) (e .char-edge .ensures .is) ∙ char-kind (a .table .now) (a .p) (a .record-at .0) (a .place .0) (a .c),
+      ap (λ (x : PassEdge). kindNumber (x .kind)) (e .char-edge .ensures .is) ∙ char-kind (a .table .now) (a .p) (a .record-at .0) (a .place .0) (a .c),
     )
 
 same-length : tie.Need-same-length

@@ -1,4 +1,5 @@
 -- `first_stages::five_passes::add_if` meets its contract: the stored edge that is read is the one of the list behind the lattice, and what is read first is its kind. Assumes nothing.
+use borrow.Author.Needs.{needs}
 use mathlib.Core.Path.{_≡_, refl, sym, ap, _∙_, subst}
 use Prim.Native.Nat.{_*_}
 use native.Mathlib.Omega.{arith}
@@ -8,23 +9,24 @@ use Rattle.pass_list.specs.declared.record.PassEdge.{PassEdge}
 use Rattle.pass_list.specs.StoredEdge.{StoredEdge, Small}
 use Rattle.pass_list.specs.Layout.{SIZE}
 use Rattle.pass_list.specs.Stored.{storedAt}
+use Rattle.pass_list.specs.Kind.{kindNumber}
 use Rattle.lattice.specs.Kept.{Holds, END}
 use Rattle.pass_edge.specs.Grounded.{StoredIs}
 use Rattle.first_stages.proofs.five_passes.AddingLaws.{kind-behind, stored-edge-behind-is, stored-edge-behind, passes-over, added-if}
 use Rattle.first_stages.proofs.five_passes.add_if.Statement.{statement}
 use Rattle.first_stages.proofs.five_passes.add_if.Tie as tie
 
-abbrev start : tie.After-u16-at → tie.Start
-start c = c .before .before .before .before .before
+abbrev start : tie.After-kind-number → tie.Start
+start c = c .before .before .before .before .before .before
 
-abbrev stored-edge : tie.After-u16-at → StoredEdge
+abbrev stored-edge : tie.After-kind-number → StoredEdge
 stored-edge c = storedAt (drop END (start c .args .w .now)) (start c .args .i * SIZE)
 
-kind : (c : tie.After-u16-at) → c .u16-at .result ≡ stored-edge c .kind
-kind c = c .u16-at .ensures ∙ kind-behind (start c .args .w .now) (start c .args .i * SIZE)
+kind : (c : tie.After-kind-number) → c .kind-number .result ≡ kindNumber (stored-edge c .kind)
+kind c = c .kind-number .ensures ∙ ap kindNumber (c .before .kind-at .ensures ∙ kind-behind (start c .args .w .now) (start c .args .i * SIZE))
 
 -- the stored edge, as it is decoded
-abbrev at-kind : tie.After-read-edge → tie.After-u16-at
+abbrev at-kind : tie.After-read-edge → tie.After-kind-number
 at-kind c = c .before .before .before
 
 is : (c : tie.After-read-edge) → let s = start (at-kind c) in StoredIs (s .args .line .now) (s .args .table .now) (c .read-edge .result) (stored-edge (at-kind c))
@@ -36,11 +38,11 @@ mul-at c = omega (arith, c .before .before .before .pre .4)
 add-at : tie.Need-add-at
 add-at c = omega (arith, c .before .before .before .pre .4)
 
-add-u16-at : tie.Need-add-u16-at
-add-u16-at c = omega (arith, c .before .before .before .before .pre .4)
+kind-at-requires : tie.Need-kind-at-requires
+kind-at-requires c κs = omega (arith, c .before .before .before .before .pre .4)
 
-u16-at-requires : tie.Need-u16-at-requires
-u16-at-requires c κs = omega (arith, c .before .before .before .before .pre .4)
+kind-number-requires : tie.Need-kind-number-requires
+kind-number-requires c κs = search needs
 
 same-length : tie.Need-same-length
 same-length c = refl
@@ -60,7 +62,7 @@ add-joined-requires : tie.Need-add-joined-requires
 add-joined-requires c κs =
     let g = c .before in
     let p = start (at-kind g) .pre in
-    let of-kind : g .read-edge .result .kind ≡ start (at-kind g) .args .kind = ap (λ (e : PassEdge). e .kind) (is g .is .is) ∙ sym (kind (at-kind g)) ∙ g .before .before .if1 .left in
+    let of-kind : kindNumber (g .read-edge .result .kind) ≡ start (at-kind g) .args .kind = ap (λ (e : PassEdge). kindNumber (e .kind)) (is g .is .is) ∙ sym (kind (at-kind g)) ∙ g .before .before .if1 .left in
     (record { holds = p .0; offsets = p .1; stored-edge = (stored-edge (at-kind g), is g); few = p .2 }, λ z. p .5 (sym of-kind ∙ z))
 
 same-length-2 : tie.Need-same-length-2
@@ -80,8 +82,8 @@ add-if-spec =
     (tie.spec
     mul-at
     add-at
-    add-u16-at
-    u16-at-requires
+    kind-at-requires
+    kind-number-requires
     same-length
     returns
     read-edge-requires

@@ -6,6 +6,7 @@ use native.Mathlib.Omega.{arith}
 use lib.ListN.{length, take}
 use lib.Seq.{length-take-le}
 use Rattle.pass_list.specs.StoredEdge.{StoredEdge}
+use Rattle.pass_list.specs.Kind.{kindNumber}
 use Rattle.pass_edge.specs.Grounded.{StoredIs}
 use Rattle.pass_edge.specs.Texts.{TextsAre}
 use Rattle.pass_edge.proofs.listed.FieldLaws.{fraction-joined}
@@ -65,7 +66,7 @@ add-texts-requires c κs =
     let at-arg = c .before .before in
     let s = start at-arg in
     let p = s .pre .0 in
-    (p .holds, p .offsets, texts-there (texts at-arg) p, p .few, fraction-joined (s .args .table .now) (s .args .x .kind) (s .args .x .«record_at» .0) (s .pre .1))
+    (p .holds, p .offsets, texts-there (texts at-arg) p, p .few, fraction-joined (s .args .table .now) (kindNumber (s .args .x .kind)) (s .args .x .«record_at» .0) (s .pre .1))
 
 same-length : tie.Need-same-length
 same-length c = c .before .before .add-texts .kept .0

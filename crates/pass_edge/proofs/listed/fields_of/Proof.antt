@@ -18,11 +18,14 @@ mul-to c = search needs
 element-copy-out-to : tie.Need-element-copy-out-to
 element-copy-out-to c = search needs
 
-sub-t12 : tie.Need-sub-t12
-sub-t12 c = search needs
+sub-t13 : tie.Need-sub-t13
+sub-t13 c = search needs
 
 part-or-requires : tie.Need-part-or-requires
 part-or-requires c κs = search needs
+
+is-row-requires : tie.Need-is-row-requires
+is-row-requires c κs = search needs
 
 part-or-requires-2 : tie.Need-part-or-requires-2
 part-or-requires-2 c κs = search needs
@@ -35,7 +38,7 @@ num-fields-requires c κs = search needs
 
 returns : tie.Need-returns
 unfolding storedFields fieldsOf
-returns c = c .num-fields .ensures ∙ rw (c .before .map-of .ensures, c .before .before .before .before .part-or .ensures, c .before .before .part-or2 .ensures)
+returns c = c .num-fields .ensures ∙ rw (c .before .map-of .ensures, c .before .before .before .before .part-or .ensures, c .before .before .part-or2 .ensures, c .before .before .before .is-row .ensures)
 
 pub fields-of-spec : {M : Type 1} → statement M
 fields-of-spec =
@@ -45,8 +48,9 @@ fields-of-spec =
     element-copy-out-from
     mul-to
     element-copy-out-to
-    sub-t12
+    sub-t13
     part-or-requires
+    is-row-requires
     part-or-requires-2
     map-of-requires
     num-fields-requires

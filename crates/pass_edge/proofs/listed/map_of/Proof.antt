@@ -1,5 +1,9 @@
 -- `pass_edge::listed::map_of` meets its contract: the map is the sum of what each field is worth. Assumes nothing.
 use borrow.Author.Needs.{needs}
+use mathlib.Core.Path.{ap, _∙_}
+use mathlib.Core.Bool.{Bool}
+use Prim.Native.Nat.{_*_}
+use Rattle.fields.specs.Flag.{flag}
 use Rattle.pass_edge.proofs.listed.FieldLaws.{map-summed}
 use Rattle.pass_edge.proofs.listed.map_of.Statement.{statement}
 use Rattle.pass_edge.proofs.listed.map_of.Tie as tie
@@ -40,6 +44,9 @@ bit-if-requires-6 c κs = search needs
 add-result-6 : tie.Need-add-result-6
 add-result-6 c = search needs
 
+is-row-requires : tie.Need-is-row-requires
+is-row-requires c κs = search needs
+
 bit-if-requires-7 : tie.Need-bit-if-requires-7
 bit-if-requires-7 c κs = search needs
 
@@ -54,7 +61,7 @@ returns c =
     let w3 = w4 .before in
     let w2 = w3 .before in
     let w1 = w2 .before in
-    map-summed (w1 .before .args .x) (w1 .before .args .fraction) (w1 .bit-if .ensures .0) (w2 .bit-if2 .ensures .0) (w3 .bit-if3 .ensures .0) (w4 .bit-if4 .ensures .0) (w5 .bit-if5 .ensures .0) (w6 .bit-if6 .ensures .0) (c .bit-if7 .ensures .0)
+    map-summed (w1 .before .args .x) (w1 .before .args .fraction) (w1 .bit-if .ensures .0) (w2 .bit-if2 .ensures .0) (w3 .bit-if3 .ensures .0) (w4 .bit-if4 .ensures .0) (w5 .bit-if5 .ensures .0) (w6 .bit-if6 .ensures .0) (c .bit-if7 .ensures .0 ∙ ap (λ (b : Bool). 256 * flag b) (c .before .is-row .ensures))
 
 pub map-of-spec : {M : Type 1} → statement M
 map-of-spec =
@@ -72,6 +79,7 @@ map-of-spec =
     add-result-5
     bit-if-requires-6
     add-result-6
+    is-row-requires
     bit-if-requires-7
     add-result-7
     returns)

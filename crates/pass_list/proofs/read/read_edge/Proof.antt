@@ -19,11 +19,8 @@ u16-at-requires-2 c κs = search needs
 cast-t8 : tie.Need-cast-t8
 cast-t8 c = search needs
 
-add-u16-at-2 : tie.Need-add-u16-at-2
-add-u16-at-2 c = search needs
-
-u16-at-requires-3 : tie.Need-u16-at-requires-3
-u16-at-requires-3 c κs = search needs
+kind-at-requires : tie.Need-kind-at-requires
+kind-at-requires c κs = search needs
 
 add-u64-at : tie.Need-add-u64-at
 add-u64-at c = search needs
@@ -42,7 +39,7 @@ returns c =
     let bytes = end .before .before in
     let start = bytes .before in
     record {
-      is = edge-read (start .args .s .now) (start .args .at) (end .before .u16-at .ensures) (end .u16-at2 .ensures) (kind .u16-at3 .ensures) (record-at .u64-at .ensures) (c .num-at .ensures);
+      is = edge-read (start .args .s .now) (start .args .at) (end .before .u16-at .ensures) (end .u16-at2 .ensures) (kind .kind-at .ensures) (record-at .u64-at .ensures) (c .num-at .ensures);
       fits = storedAt-fits _ _ (λ j. bytes .shared-slice-known .given j .fits) (start .pre .1);
     }
 
@@ -55,8 +52,7 @@ read-edge-spec =
     add-u16-at
     u16-at-requires-2
     cast-t8
-    add-u16-at-2
-    u16-at-requires-3
+    kind-at-requires
     add-u64-at
     u64-at-requires
     num-at-requires

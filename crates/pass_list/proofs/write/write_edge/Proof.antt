@@ -26,6 +26,9 @@ put-u16-requires-2 c κs = search needs
 add-put-u16-2 : tie.Need-add-put-u16-2
 add-put-u16-2 c = search needs
 
+kind-number-requires : tie.Need-kind-number-requires
+kind-number-requires c κs = search needs
+
 put-u16-requires-3 : tie.Need-put-u16-requires-3
 put-u16-requires-3 c κs = search needs
 
@@ -39,15 +42,22 @@ put-u16-requires-4 : tie.Need-put-u16-requires-4
 put-u16-requires-4 c κs = search needs
 
 put-num-requires : tie.Need-put-num-requires
-put-num-requires c κs = let y = c .before .before .before .before .before .before .before .before .before .before .before .before .before .before .before .before .before .before .before .before .before .pre .1 in (search needs, (y .0, record { is = ap (λ (e : PassEdge). e .num) (y .1 .is); fits = y .1 .fits }))
+put-num-requires c κs = let y = c .before .before .before .before .before .before .before .before .before .before .before .before .before .before .before .before .before .before .before .before .before .before .pre .1 in (search needs, (y .0, record { is = ap (λ (e : PassEdge). e .num) (y .1 .is); fits = y .1 .fits }))
 
 same-length : tie.Need-same-length
 same-length c = search needs
 
 returns : tie.Need-returns
 returns c x y =
-    let n : NumIs (c .before .before .before .before .before .before .before .before .before .before .before .before .before .before .before .before .before .before .before .before .before .before .before .before .args .e .num) x = record { is = ap (λ (e : PassEdge). e .num) (y .is); fits = y .fits } in
-    put-head _ (c .before .before .before .before .before .before .before .before .before .before .before .before .before .before .before .before .before .before .before .before .before .before .before .before .args .at) _ x (rw (y .is) at (c .before .before .before .before .before .before .before .before .before .before .before .before .before .before .before .before .before .before .before .before .put-u16 .ensures)) (rw (y .is) at (c .before .before .before .before .before .before .before .before .before .before .before .before .before .before .before .put-u162 .ensures)) (rw (y .is) at (c .before .before .before .before .before .before .before .before .before .before .before .put-u163 .ensures)) (rw (c .before .before .before .before .before .before .before .map-of .ensures, y .is) at (c .before .before .before .before .before .before .put-u164 .ensures)) (c .before .before .put-num .ensures x n (ap (λ (e : PassEdge). e .«record_at» .0) (y .is)))
+    let at-map = c .before .before .before .before .before .before in
+    let at-kind = at-map .before .before .before .before .before in
+    let at-end = at-kind .before .before .before .before .before in
+    let at-start = at-end .before .before .before .before .before in
+    let a = at-start .before .before .before .before .args in
+    let n : NumIs (a .e .num) x = record { is = ap (λ (e : PassEdge). e .num) (y .is); fits = y .fits } in
+    put-head _ (a .at) _ x (rw (y .is) at (at-start .put-u16 .ensures)) (rw (y .is) at (at-end .put-u162 .ensures))
+    (rw (at-kind .before .kind-number .ensures, y .is) at (at-kind .put-u163 .ensures)) (rw (at-map .before .map-of .ensures, y .is) at (at-map .put-u164 .ensures))
+    (c .before .before .put-num .ensures x n (ap (λ (e : PassEdge). e .«record_at» .0) (y .is)))
 
 pub write-edge-spec : {M : Type 1} → statement M
 write-edge-spec =
@@ -59,6 +69,7 @@ write-edge-spec =
     cast-put-u16-2
     put-u16-requires-2
     add-put-u16-2
+    kind-number-requires
     put-u16-requires-3
     add-put-u16-3
     map-of-requires
