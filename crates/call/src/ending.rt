@@ -13,7 +13,8 @@ use lattice::Lattice;
 // What the call answers for a finished lattice.
 pub fn finish_call(w: &[u8], l: Lattice, out: &mut [u8]) -> Answer
     requires { ⌜ ((es : List Edge) × Holds (now w) l es) ⌝ }
-    ensures { λ r. ⌜ ((es : List Edge) → Holds (now (w .entry)) l es → AnswerIs (now (out .entry)) (now (out .exit)) r (finished (length (now (out .entry))) es)) ⌝ }
+    ensures { λ r. ⌜ ((es : List Edge) → Holds (now (w .entry)) l es
+        → AnswerIs (now (out .entry)) (now (out .exit)) r (finished (length (now (out .entry))) es)) ⌝ }
 {
     match lattice::ends::finish(w, l, out) {
         Finished::Listing(len) => Answer::Listing(len),

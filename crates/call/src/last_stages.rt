@@ -28,8 +28,12 @@ pub fn run_last_stages(
     n: usize,
     k: usize,
 ) -> Lattice
-    requires { ⌜ Ready (now line) (now table) h n × ((es : List Edge) × Holds (now w) l es × CallEdges n es) × Offsets (now line) (now offs) × AllGrounded (chars (now line)) (now table) (behind (now w) k) × CallEdges n (listedStored (chars (now line)) (now table) (behind (now w) k)) × (END + k * SIZE ≤ length (now w)) ⌝ }
-    ensures { λ r. ⌜ ((es : List Edge) → Holds (now (w .entry)) l es → CallEdges n es → Holds (now (w .exit)) r (restOf (tableOf (now (table .entry)) h) (chars (now (line .entry))) (map (edgeOf (chars (now (line .entry))) (now (table .entry))) (behind (now (w .entry)) k)) es)) ⌝ }
+    requires { ⌜ Ready (now line) (now table) h n × ((es : List Edge) × Holds (now w) l es × CallEdges n es)
+        × Offsets (now line) (now offs) × AllGrounded (chars (now line)) (now table) (behind (now w) k)
+        × CallEdges n (listedStored (chars (now line)) (now table) (behind (now w) k))
+        × (END + k * SIZE ≤ length (now w)) ⌝ }
+    ensures { λ r. ⌜ ((es : List Edge) → Holds (now (w .entry)) l es → CallEdges n es
+        → Holds (now (w .exit)) r (restOf (tableOf (now (table .entry)) h) (chars (now (line .entry))) (map (edgeOf (chars (now (line .entry))) (now (table .entry))) (behind (now (w .entry)) k)) es)) ⌝ }
 {
     let made = fractions::fractions(w, l, line, offs, table, h, n);
     let signed = signs::add_signs(w, made, line, offs, table, h, k);

@@ -40,7 +40,8 @@ fn checked_call(
     work: &mut [u8],
     out: &mut [u8],
 ) -> Answer
-    requires { ⌜ Offsets (now line) (now offs) × (workSize ≤ length (now work)) × Accepted (now line) (now table) (now edges) n h count × RecordIndex (now table) h (now index) entries ⌝ }
+    requires { ⌜ Offsets (now line) (now offs) × (workSize ≤ length (now work))
+        × Accepted (now line) (now table) (now edges) n h count × RecordIndex (now table) h (now index) entries ⌝ }
     ensures { λ r. ⌜ AnswerIs (now (out .entry)) (now (out .exit)) r (afterChecks (tableOf (now (table .entry)) h) (chars (now (line .entry))) (length (now (out .entry))) (listed (now (edges .entry)))) ⌝ }
 {
     match first_stages::run_first_stages(work, line, offs, table, h, edges, count, index, entries) {

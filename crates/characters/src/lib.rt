@@ -67,7 +67,8 @@ fn char_num(table: &[u8], p: NumProp, record_at: Offset, place: Place, c: u32) -
 
 // The edge of the code point c at a place of the line; its record p stands at record_at in the table.
 pub fn char_edge(table: &[u8], p: NumProp, record_at: Offset, place: Place, c: u32) -> PassEdge
-    requires { ⌜ Inside (now table) p × Small (charStored (now table) p («record_at» .0) (place .0) c) × (place .0 + 1 < u16Limit) ⌝ }
+    requires { ⌜ Inside (now table) p × Small (charStored (now table) p («record_at» .0) (place .0) c)
+        × (place .0 + 1 < u16Limit) ⌝ }
     ensures { λ r. ⌜ EdgeIs r (charStored (now (table .entry)) p («record_at» .0) (place .0) c) ⌝ }
 {
     PassEdge {

@@ -10,7 +10,8 @@ use text::Place;
 // A string: its u16 length and its bytes.
 fn put_text(out: &mut [u8], at: usize, t: &[u8]) -> usize
     requires { ⌜ (at + 2 + length (now t) ≤ length (now out)) × (length (now t) < u16Limit) ⌝ }
-    ensures { λ r. ⌜ (r ≡ at + 2 + length (now (t .entry))) × Put (now (out .entry)) (now (out .exit)) at r (str (now (t .entry))) ⌝ }
+    ensures { λ r. ⌜ (r ≡ at + 2 + length (now (t .entry)))
+        × Put (now (out .entry)) (now (out .exit)) at r (str (now (t .entry))) ⌝ }
 {
     fields::write::put_u16(out, at, t.len() as u16);
     fields::copy::copy_in(out, at + 2, t);
@@ -27,8 +28,10 @@ pub fn put_head(
     ty: &[u8],
     txt: &[u8],
 ) -> usize
-    requires { ⌜ (at + 10 + length (now ty) + length (now txt) ≤ length (now out)) × (length (now ty) < u16Limit) × (length (now txt) < u16Limit) × (start .0 < u16Limit) × (end .0 < u16Limit) ⌝ }
-    ensures { λ r. ⌜ (r ≡ at + 10 + length (now (ty .entry)) + length (now (txt .entry))) × Put (now (out .entry)) (now (out .exit)) at r (headBytes map (start .0) (end .0) (now (ty .entry)) (now (txt .entry))) ⌝ }
+    requires { ⌜ (at + 10 + length (now ty) + length (now txt) ≤ length (now out)) × (length (now ty) < u16Limit)
+        × (length (now txt) < u16Limit) × (start .0 < u16Limit) × (end .0 < u16Limit) ⌝ }
+    ensures { λ r. ⌜ (r ≡ at + 10 + length (now (ty .entry)) + length (now (txt .entry)))
+        × Put (now (out .entry)) (now (out .exit)) at r (headBytes map (start .0) (end .0) (now (ty .entry)) (now (txt .entry))) ⌝ }
 {
     fields::write::put_u16(out, at, map);
     fields::write::put_u16(out, at + 2, start.0 as u16);

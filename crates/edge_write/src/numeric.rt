@@ -19,7 +19,8 @@ use text::Place;
 // A string that is a part of a slice.
 fn put_part(out: &mut [u8], at: usize, s: &[u8], t: Part) -> usize
     requires { ⌜ (at + 2 + t .len ≤ length (now out)) × (t .len < u16Limit) × (t .at + t .len ≤ length (now s)) ⌝ }
-    ensures { λ r. ⌜ (r ≡ at + 2 + t .len) × Put (now (out .entry)) (now (out .exit)) at r (str (textOf (now (s .entry)) t)) ⌝ }
+    ensures { λ r. ⌜ (r ≡ at + 2 + t .len)
+        × Put (now (out .entry)) (now (out .exit)) at r (str (textOf (now (s .entry)) t)) ⌝ }
 {
     let from = t.at;
     let to = from + t.len;
@@ -30,8 +31,10 @@ fn put_part(out: &mut [u8], at: usize, s: &[u8], t: Part) -> usize
 
 // The same, only if a bit stands.
 fn put_part_if(map: u16, p: u16, out: &mut [u8], at: usize, s: &[u8], t: Part) -> usize
-    requires { ⌜ (0 < p) × (textPastIf (eqb (map / p % 2) 1) (t .len) at ≤ length (now out)) × (t .len < u16Limit) × (eqb (map / p % 2) 1 ≡ true → t .at + t .len ≤ length (now s)) ⌝ }
-    ensures { λ r. ⌜ (r ≡ textPastIf (eqb (map / p % 2) 1) (t .len) at) × Put (now (out .entry)) (now (out .exit)) at r (bytesIf str (only (eqb (map / p % 2) 1) (textOf (now (s .entry)) t))) ⌝ }
+    requires { ⌜ (0 < p) × (textPastIf (eqb (map / p % 2) 1) (t .len) at ≤ length (now out)) × (t .len < u16Limit)
+        × (eqb (map / p % 2) 1 ≡ true → t .at + t .len ≤ length (now s)) ⌝ }
+    ensures { λ r. ⌜ (r ≡ textPastIf (eqb (map / p % 2) 1) (t .len) at)
+        × Put (now (out .entry)) (now (out .exit)) at r (bytesIf str (only (eqb (map / p % 2) 1) (textOf (now (s .entry)) t))) ⌝ }
 {
     if edge::bit(map, p) {
         put_part(out, at, s, t)
@@ -43,7 +46,8 @@ fn put_part_if(map: u16, p: u16, out: &mut [u8], at: usize, s: &[u8], t: Part) -
 // A number, only if a bit stands.
 fn put_u64_if(map: u16, p: u16, out: &mut [u8], at: usize, v: u64) -> usize
     requires { ⌜ (0 < p) × (at + 8 * (map / p % 2) ≤ length (now out)) ⌝ }
-    ensures { λ r. ⌜ (r ≡ at + 8 * (map / p % 2)) × Put (now (out .entry)) (now (out .exit)) at r (bytesIf (bytesOf 8) (only (eqb (map / p % 2) 1) v)) ⌝ }
+    ensures { λ r. ⌜ (r ≡ at + 8 * (map / p % 2))
+        × Put (now (out .entry)) (now (out .exit)) at r (bytesIf (bytesOf 8) (only (eqb (map / p % 2) 1) v)) ⌝ }
 {
     if edge::bit(map, p) {
         fields::write::put_u64(out, at, v);
@@ -87,7 +91,8 @@ fn text_past_if(map: u16, p: u16, len: usize, at: usize) -> usize
 
 // Where fields end that are written from an offset on.
 fn fields_past(d: NumFields, at: usize) -> usize
-    requires { ⌜ (d .orig .len < u16Limit) × (d .script .len < u16Limit) × (d .«value_s» .len < u16Limit) × (at ≤ 9500000000000000000) ⌝ }
+    requires { ⌜ (d .orig .len < u16Limit) × (d .script .len < u16Limit) × (d .«value_s» .len < u16Limit)
+        × (at ≤ 9500000000000000000) ⌝ }
     ensures { λ r. ⌜ r ≡ fieldsPast d at ⌝ }
 {
     let script = edge::script_at(d.map, at + 2 + d.orig.len);
@@ -108,7 +113,8 @@ pub fn write_numeric(
     c: &[u8],
     v: &[u8],
 ) -> Written
-    requires { ⌜ (at ≤ length (now out)) × (length (now ty) < u16Limit) × (length (now txt) < u16Limit) × (start .0 < u16Limit) × (end .0 < u16Limit) × Writable (now o) (now c) (now v) d ⌝ }
+    requires { ⌜ (at ≤ length (now out)) × (length (now ty) < u16Limit) × (length (now txt) < u16Limit)
+        × (start .0 < u16Limit) × (end .0 < u16Limit) × Writable (now o) (now c) (now v) d ⌝ }
     ensures answer { λ r. ⌜ r ≡ written (now (out .entry)) at (edgeBytes (numeric (start .0) (end .0) (now (ty .entry)) (now (txt .entry)) (now (o .entry)) (now (c .entry)) (now (v .entry)) d)) ⌝ }
     ensures bytes { λ _. ⌜ now (out .exit) ≡ writtenTo (now (out .entry)) at (edgeBytes (numeric (start .0) (end .0) (now (ty .entry)) (now (txt .entry)) (now (o .entry)) (now (c .entry)) (now (v .entry)) d)) ⌝ }
 {

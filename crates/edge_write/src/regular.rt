@@ -17,7 +17,8 @@ pub fn write_regular(
     ty: &[u8],
     txt: &[u8],
 ) -> Written
-    requires { ⌜ (at ≤ length (now out)) × (length (now ty) < u16Limit) × (length (now txt) < u16Limit) × (start .0 < u16Limit) × (end .0 < u16Limit) ⌝ }
+    requires { ⌜ (at ≤ length (now out)) × (length (now ty) < u16Limit) × (length (now txt) < u16Limit)
+        × (start .0 < u16Limit) × (end .0 < u16Limit) ⌝ }
     ensures answer { λ r. ⌜ r ≡ written (now (out .entry)) at (edgeBytes (regular (start .0) (end .0) (now (ty .entry)) (now (txt .entry)))) ⌝ }
     ensures bytes { λ _. ⌜ now (out .exit) ≡ writtenTo (now (out .entry)) at (edgeBytes (regular (start .0) (end .0) (now (ty .entry)) (now (txt .entry)))) ⌝ }
 {

@@ -20,7 +20,8 @@ use text::check::PLACES;
 // The edge of a character at a place, by its first byte, if it is a digit whose place has no mark.
 fn add_digit(w: &mut [u8], l: Lattice, b: u8, place: Place, marked: bool) -> Lattice
     requires { ⌜ ((es : List Edge) × Holds (now w) l es) × (place .0 < maxChars) ⌝ }
-    ensures { λ r. ⌜ SameBehind (now (w .entry)) (now (w .exit)) × ((es : List Edge) → Holds (now (w .entry)) l es → Holds (now (w .exit)) r (addAll es (digitEdge b (place .0) marked))) ⌝ }
+    ensures { λ r. ⌜ SameBehind (now (w .entry)) (now (w .exit)) × ((es : List Edge) → Holds (now (w .entry)) l es
+        → Holds (now (w .exit)) r (addAll es (digitEdge b (place .0) marked))) ⌝ }
 {
     if marked | (b < 48) | (57 < b) {
         return l;
@@ -38,8 +39,10 @@ fn add_unmarked(
     n: usize,
     marks: &[bool; PLACES],
 ) -> Lattice
-    requires { ⌜ ((es : List Edge) × Holds (now w) l es) × Offsets (now line) (now offs) × (length (chars (now line)) ≡ n) × (n ≤ maxChars) ⌝ }
-    ensures { λ r. ⌜ SameBehind (now (w .entry)) (now (w .exit)) × ((es : List Edge) → Holds (now (w .entry)) l es → Holds (now (w .exit)) r (addAll es (unmarked (now (marks .entry)) 0 (chars (now (line .entry)))))) ⌝ }
+    requires { ⌜ ((es : List Edge) × Holds (now w) l es) × Offsets (now line) (now offs)
+        × (length (chars (now line)) ≡ n) × (n ≤ maxChars) ⌝ }
+    ensures { λ r. ⌜ SameBehind (now (w .entry)) (now (w .exit)) × ((es : List Edge) → Holds (now (w .entry)) l es
+        → Holds (now (w .exit)) r (addAll es (unmarked (now (marks .entry)) 0 (chars (now (line .entry)))))) ⌝ }
 {
     let mut grown = l;
     let mut place = 0;
@@ -67,8 +70,10 @@ pub fn any_digit(line: &[u8]) -> bool
 
 // The fallback's edges are added, for a line of n characters. The marks are those of the lattice before the first of them.
 pub fn fallback(w: &mut [u8], l: Lattice, line: &[u8], offs: &[usize; PLACES], n: usize) -> Lattice
-    requires { ⌜ Offsets (now line) (now offs) × (length (chars (now line)) ≡ n) × (n ≤ maxChars) × ((es : List Edge) × Holds (now w) l es × Legals n es) ⌝ }
-    ensures { λ r. ⌜ SameBehind (now (w .entry)) (now (w .exit)) × ((es : List Edge) → Holds (now (w .entry)) l es → Legals n es → Holds (now (w .exit)) r (addAll es (fallback es 0 (chars (now (line .entry)))))) ⌝ }
+    requires { ⌜ Offsets (now line) (now offs) × (length (chars (now line)) ≡ n) × (n ≤ maxChars)
+        × ((es : List Edge) × Holds (now w) l es × Legals n es) ⌝ }
+    ensures { λ r. ⌜ SameBehind (now (w .entry)) (now (w .exit)) × ((es : List Edge) → Holds (now (w .entry)) l es
+        → Legals n es → Holds (now (w .exit)) r (addAll es (fallback es 0 (chars (now (line .entry)))))) ⌝ }
 {
     if l.len == 0 {
         return l;

@@ -54,8 +54,11 @@ fn put_and_add(
     place: Place,
     c: u32,
 ) -> Lattice
-    requires { ⌜ Room (now w) l (now line) (now offs) × (n < maxChars) × (place .0 < maxChars) × Inside (now table) p × Grounded (chars (now line)) (now table) (charStored (now table) p («record_at» .0) (place .0) c) ⌝ }
-    ensures { λ r. ⌜ (behind (now (w .exit)) (n + 1) ≡ behind (now (w .entry)) n ++ (charStored (now (table .entry)) p («record_at» .0) (place .0) c ∷ [])) × ((es : List Edge) → Holds (now (w .entry)) l es → Holds (now (w .exit)) r (add es (listedEdge (edgeOf (chars (now (line .entry))) (now (table .entry)) (charStored (now (table .entry)) p («record_at» .0) (place .0) c))))) ⌝ }
+    requires { ⌜ Room (now w) l (now line) (now offs) × (n < maxChars) × (place .0 < maxChars) × Inside (now table) p
+        × Grounded (chars (now line)) (now table) (charStored (now table) p («record_at» .0) (place .0) c) ⌝ }
+    ensures { λ r. ⌜ (behind (now (w .exit)) (n + 1) ≡ behind (now (w .entry)) n ++ (charStored (now (table .entry)) p («record_at» .0) (place .0) c ∷ []))
+        × ((es : List Edge) → Holds (now (w .entry)) l es
+        → Holds (now (w .exit)) r (add es (listedEdge (edgeOf (chars (now (line .entry))) (now (table .entry)) (charStored (now (table .entry)) p («record_at» .0) (place .0) c))))) ⌝ }
 {
     let e = char_edge(table, p, record_at, place, c);
     write_edge(w, lattice::END + n * SIZE, e);
@@ -75,8 +78,12 @@ fn add_char(
     place: Place,
     c: u32,
 ) -> CharsAnswer
-    requires { ⌜ Room (now w) (done .lattice) (now line) (now offs) × Records (now table) all × Indexed (now table) (recordsIn (now table) all) (now index) (all .left) entries × (done .count ≤ place .0) × (place .0 < length (chars (now line))) × (getD (chars (now line)) (place .0) 0 ≡ c) ⌝ }
-    ensures { λ r. ⌜ ((s : List ℕ) (l : Lattice) → Adding (now (line .entry)) (now (table .entry)) (recordsIn (now (table .entry)) all) (place .0) s l (now (w .entry)) done → Adding (now (line .entry)) (now (table .entry)) (recordsIn (now (table .entry)) all) (place .0 + 1) s l (now (w .exit)) r) ⌝ }
+    requires { ⌜ Room (now w) (done .lattice) (now line) (now offs) × Records (now table) all
+        × Indexed (now table) (recordsIn (now table) all) (now index) (all .left) entries × (done .count ≤ place .0)
+        × (place .0 < length (chars (now line))) × (getD (chars (now line)) (place .0) 0 ≡ c) ⌝ }
+    ensures { λ r. ⌜ ((s : List ℕ) (l : Lattice)
+        → Adding (now (line .entry)) (now (table .entry)) (recordsIn (now (table .entry)) all) (place .0) s l (now (w .entry)) done
+        → Adding (now (line .entry)) (now (table .entry)) (recordsIn (now (table .entry)) all) (place .0 + 1) s l (now (w .exit)) r) ⌝ }
 {
     let l = done.lattice;
     let n = done.count;
@@ -100,7 +107,8 @@ fn add_chars(
     index: &[u32; INDEX_SIZE],
     entries: usize,
 ) -> CharsAnswer
-    requires { ⌜ Room (now w) l (now line) (now offs) × (wellFormed (now line) ≡ true) × Records (now table) all × Indexed (now table) (recordsIn (now table) all) (now index) (all .left) entries ⌝ }
+    requires { ⌜ Room (now w) l (now line) (now offs) × (wellFormed (now line) ≡ true) × Records (now table) all
+        × Indexed (now table) (recordsIn (now table) all) (now index) (all .left) entries ⌝ }
     ensures { λ r. ⌜ Adding (now (line .entry)) (now (table .entry)) (recordsIn (now (table .entry)) all) (length (chars (now (line .entry)))) (now (w .entry)) l (now (w .exit)) r ⌝ }
 {
     let mut done = CharsAnswer {
@@ -140,7 +148,8 @@ pub fn initialize_num_edges(
     index: &[u32; INDEX_SIZE],
     entries: usize,
 ) -> CharsAnswer
-    requires { ⌜ ((es : List Edge) × Holds (now w) l es) × Offsets (now line) (now offs) × (workSize ≤ length (now w)) × ((n : ℕ) × Ready (now line) (now table) h n) × RecordIndex (now table) h (now index) entries ⌝ }
+    requires { ⌜ ((es : List Edge) × Holds (now w) l es) × Offsets (now line) (now offs) × (workSize ≤ length (now w))
+        × ((n : ℕ) × Ready (now line) (now table) h n) × RecordIndex (now table) h (now index) entries ⌝ }
     ensures { λ r. ⌜ FirstDone (now (line .entry)) (now (table .entry)) h (now (w .entry)) l (now (w .exit)) r ⌝ }
 {
     // the table begins with the count of its records

@@ -79,8 +79,12 @@ fn add_if(
     i: usize,
     kind: u16,
 ) -> Lattice
-    requires { ⌜ ((es : List Edge) × Holds (now w) l es) × Offsets (now line) (now offs) × (length (chars (now line)) ≤ maxChars) × Grounded (chars (now line)) (now table) (storedAt (drop END (now w)) (i * SIZE)) × (END + i * SIZE + SIZE ≤ length (now w)) × (kind ≡ 0 → ⊥) ⌝ }
-    ensures { λ r. ⌜ SameBehind (now (w .entry)) (now (w .exit)) × ((es : List Edge) → Holds (now (w .entry)) l es → Holds (now (w .exit)) r (addIf (chars (now (line .entry))) (now (table .entry)) kind es (storedAt (drop END (now (w .entry))) (i * SIZE)))) ⌝ }
+    requires { ⌜ ((es : List Edge) × Holds (now w) l es) × Offsets (now line) (now offs)
+        × (length (chars (now line)) ≤ maxChars)
+        × Grounded (chars (now line)) (now table) (storedAt (drop END (now w)) (i * SIZE))
+        × (END + i * SIZE + SIZE ≤ length (now w)) × (kind ≡ 0 → ⊥) ⌝ }
+    ensures { λ r. ⌜ SameBehind (now (w .entry)) (now (w .exit)) × ((es : List Edge) → Holds (now (w .entry)) l es
+        → Holds (now (w .exit)) r (addIf (chars (now (line .entry))) (now (table .entry)) kind es (storedAt (drop END (now (w .entry))) (i * SIZE)))) ⌝ }
 {
     let at = lattice::END + i * SIZE;
     let found = kind_number(kind_at(w, at));
@@ -101,8 +105,12 @@ fn add_of_kind(
     n: usize,
     kind: u16,
 ) -> Lattice
-    requires { ⌜ ((es : List Edge) × Holds (now w) l es) × Offsets (now line) (now offs) × (length (chars (now line)) ≤ maxChars) × AllGrounded (chars (now line)) (now table) (storedListAt (drop END (now w)) 0 n) × (END + n * SIZE ≤ length (now w)) × (kind ≡ 0 → ⊥) ⌝ }
-    ensures { λ r. ⌜ SameBehind (now (w .entry)) (now (w .exit)) × ((es : List Edge) → Holds (now (w .entry)) l es → Holds (now (w .exit)) r (addAll es (map listedEdge (map (edgeOf (chars (now (line .entry))) (now (table .entry))) (ofKind kind (storedListAt (drop END (now (w .entry))) 0 n)))))) ⌝ }
+    requires { ⌜ ((es : List Edge) × Holds (now w) l es) × Offsets (now line) (now offs)
+        × (length (chars (now line)) ≤ maxChars)
+        × AllGrounded (chars (now line)) (now table) (storedListAt (drop END (now w)) 0 n)
+        × (END + n * SIZE ≤ length (now w)) × (kind ≡ 0 → ⊥) ⌝ }
+    ensures { λ r. ⌜ SameBehind (now (w .entry)) (now (w .exit)) × ((es : List Edge) → Holds (now (w .entry)) l es
+        → Holds (now (w .exit)) r (addAll es (map listedEdge (map (edgeOf (chars (now (line .entry))) (now (table .entry))) (ofKind kind (storedListAt (drop END (now (w .entry))) 0 n)))))) ⌝ }
 {
     // two words, not a structure: one that is handed back in two pieces and copied as a whole makes the processor wait
     let mut count = l.count;
@@ -127,7 +135,9 @@ fn one_pass(
     n: usize,
     i: usize,
 ) -> PassesAnswer
-    requires { ⌜ ((es : List Edge) × Holds (now w) l es) × Offsets (now line) (now offs) × (length (chars (now line)) ≤ maxChars) × (workSize ≤ length (now w)) × PassList (chars (now line)) (now table) (suc i) (now w) n × (i < 5) ⌝ }
+    requires { ⌜ ((es : List Edge) × Holds (now w) l es) × Offsets (now line) (now offs)
+        × (length (chars (now line)) ≤ maxChars) × (workSize ≤ length (now w))
+        × PassList (chars (now line)) (now table) (suc i) (now w) n × (i < 5) ⌝ }
     ensures { λ r. ⌜ OnePass (chars (now (line .entry))) (now (table .entry)) i (now (w .entry)) l n (now (w .exit)) r ⌝ }
 {
     match pass_run::nth::pass_behind(w, lattice::END, n, i) {
@@ -152,7 +162,9 @@ pub fn five_passes(
     table: &[u8],
     n: usize,
 ) -> PassesAnswer
-    requires { ⌜ ((es : List Edge) × Holds (now w) l es) × Offsets (now line) (now offs) × (length (chars (now line)) ≤ maxChars) × (workSize ≤ length (now w)) × PassList (chars (now line)) (now table) 1 (now w) n ⌝ }
+    requires { ⌜ ((es : List Edge) × Holds (now w) l es) × Offsets (now line) (now offs)
+        × (length (chars (now line)) ≤ maxChars) × (workSize ≤ length (now w))
+        × PassList (chars (now line)) (now table) 1 (now w) n ⌝ }
     ensures { λ r. ⌜ FivePasses (chars (now (line .entry))) (now (table .entry)) (now (w .entry)) l n (now (w .exit)) r ⌝ }
 {
     let mut grown = l;

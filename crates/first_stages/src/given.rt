@@ -14,7 +14,8 @@ use lattice::Lattice;
 // The edges of an accepted listing are added, one after the other from its front.
 pub fn add_all_given(w: &mut [u8], l: Lattice, given: &[u8], count: usize) -> Lattice
     requires { ⌜ ((es : List Edge) × Holds (now w) l es) × ((n : ℕ) × (checkListing true n (now given) ≡ Edges count)) ⌝ }
-    ensures { λ r. ⌜ SameBehind (now (w .entry)) (now (w .exit)) × ((es : List Edge) → Holds (now (w .entry)) l es → Holds (now (w .exit)) r (addAll es (listed (now (given .entry))))) ⌝ }
+    ensures { λ r. ⌜ SameBehind (now (w .entry)) (now (w .exit)) × ((es : List Edge) → Holds (now (w .entry)) l es
+        → Holds (now (w .exit)) r (addAll es (listed (now (given .entry))))) ⌝ }
 {
     let mut grown = l;
     let mut at = 2;

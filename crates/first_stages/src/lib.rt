@@ -29,7 +29,9 @@ pub fn run_first_stages(
     index: &[u32; INDEX_SIZE],
     entries: usize,
 ) -> PassesAnswer
-    requires { ⌜ Offsets (now line) (now offs) × (workSize ≤ length (now w)) × ((n : ℕ) × Ready (now line) (now table) h n × (checkListing true n (now edges) ≡ Edges count)) × RecordIndex (now table) h (now index) entries ⌝ }
+    requires { ⌜ Offsets (now line) (now offs) × (workSize ≤ length (now w))
+        × ((n : ℕ) × Ready (now line) (now table) h n × (checkListing true n (now edges) ≡ Edges count))
+        × RecordIndex (now table) h (now index) entries ⌝ }
     ensures { λ r. ⌜ CallPassed (now (line .entry)) (now (table .entry)) h (now (edges .entry)) (now (w .exit)) r ⌝ }
 {
     let none = lattice::ends::empty(w);

@@ -213,7 +213,9 @@ fn marked(
     n: usize,
 ) -> Choice
     requires { ⌜ ((es : List Edge) × HoldsNeighbors (now w) l (now lefts) (now rights) es) × (place .0 + n ≤ maxChars) ⌝ }
-    ensures { λ r. ⌜ ((es : List Edge) → HoldsNeighbors (now (w .entry)) l (now (lefts .entry)) (now (rights .entry)) es → (outcomeOf es (place .0) r ≡ marked percent es (place .0) n) × Valid es r) ⌝ }
+    ensures { λ r. ⌜ ((es : List Edge)
+        → HoldsNeighbors (now (w .entry)) l (now (lefts .entry)) (now (rights .entry)) es
+        → (outcomeOf es (place .0) r ≡ marked percent es (place .0) n) × Valid es r) ⌝ }
 {
     let p = place.0;
     let left = lefts[p];
@@ -231,8 +233,11 @@ pub fn outcome_at(
     marker: Marker,
     p: Place,
 ) -> Choice
-    requires { ⌜ ((es : List Edge) × HoldsNeighbors (now w) l (now lefts) (now rights) es) × (p .0 + sizeOf (markerOf marker) ≤ maxChars) ⌝ }
-    ensures { λ r. ⌜ ((es : List Edge) → HoldsNeighbors (now (w .entry)) l (now (lefts .entry)) (now (rights .entry)) es → (outcomeOf es (p .0) r ≡ byMarker es (p .0) (markerOf marker)) × Valid es r) ⌝ }
+    requires { ⌜ ((es : List Edge) × HoldsNeighbors (now w) l (now lefts) (now rights) es)
+        × (p .0 + sizeOf (markerOf marker) ≤ maxChars) ⌝ }
+    ensures { λ r. ⌜ ((es : List Edge)
+        → HoldsNeighbors (now (w .entry)) l (now (lefts .entry)) (now (rights .entry)) es
+        → (outcomeOf es (p .0) r ≡ byMarker es (p .0) (markerOf marker)) × Valid es r) ⌝ }
 {
     match marker {
         Marker::Percentage(n) => marked(w, l, lefts, rights, true, p, n),

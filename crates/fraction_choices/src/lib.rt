@@ -34,8 +34,12 @@ fn choice_at(
     behind: &[usize; PLACES],
     p: Place,
 ) -> Choice
-    requires { ⌜ ((n : ℕ) × Ready (now line) (now table) h n) × Offsets (now line) (now offs) × ((es : List Edge) × HoldsNeighbors (now w) l (now before) (now behind) es) × (p .0 < length (chars (now line))) ⌝ }
-    ensures { λ r. ⌜ ((es : List Edge) → HoldsNeighbors (now (w .entry)) l (now (before .entry)) (now (behind .entry)) es → (outcomeOf es (p .0) r ≡ outcomeAt (tableOf (now (table .entry)) h) (chars (now (line .entry))) es (p .0)) × Valid es r) ⌝ }
+    requires { ⌜ ((n : ℕ) × Ready (now line) (now table) h n) × Offsets (now line) (now offs)
+        × ((es : List Edge) × HoldsNeighbors (now w) l (now before) (now behind) es)
+        × (p .0 < length (chars (now line))) ⌝ }
+    ensures { λ r. ⌜ ((es : List Edge)
+        → HoldsNeighbors (now (w .entry)) l (now (before .entry)) (now (behind .entry)) es
+        → (outcomeOf es (p .0) r ≡ outcomeAt (tableOf (now (table .entry)) h) (chars (now (line .entry))) es (p .0)) × Valid es r) ⌝ }
 {
     let marker = markers::find::marker_at(line, offs, table, h, p);
     crate::decision::outcome_at(w, l, before, behind, marker, p)
@@ -56,8 +60,12 @@ fn choose_all(
     lefts: &mut [usize; MAX_CHARS],
     rights: &mut [usize; MAX_CHARS],
 )
-    requires { ⌜ Ready (now line) (now table) h n × Offsets (now line) (now offs) × ((es : List Edge) × HoldsNeighbors (now w) l (now before) (now behind) es) × (length (now forms) ≡ maxChars) × (length (now lefts) ≡ maxChars) × (length (now rights) ≡ maxChars) ⌝ }
-    ensures { λ _. ⌜ ((es : List Edge) → HoldsNeighbors (now (w .entry)) l (now (before .entry)) (now (behind .entry)) es → Decided (tableOf (now (table .entry)) h) (chars (now (line .entry))) es (now (forms .exit)) (now (lefts .exit)) (now (rights .exit)) n) ⌝ }
+    requires { ⌜ Ready (now line) (now table) h n × Offsets (now line) (now offs)
+        × ((es : List Edge) × HoldsNeighbors (now w) l (now before) (now behind) es) × (length (now forms) ≡ maxChars)
+        × (length (now lefts) ≡ maxChars) × (length (now rights) ≡ maxChars) ⌝ }
+    ensures { λ _. ⌜ ((es : List Edge)
+        → HoldsNeighbors (now (w .entry)) l (now (before .entry)) (now (behind .entry)) es
+        → Decided (tableOf (now (table .entry)) h) (chars (now (line .entry))) es (now (forms .exit)) (now (lefts .exit)) (now (rights .exit)) n) ⌝ }
 {
     let mut p = 0;
     while p < n {
@@ -83,8 +91,11 @@ pub fn choose(
     lefts: &mut [usize; MAX_CHARS],
     rights: &mut [usize; MAX_CHARS],
 )
-    requires { ⌜ Ready (now line) (now table) h n × Offsets (now line) (now offs) × ((es : List Edge) × HoldsLine (now w) l es) × (length (now forms) ≡ maxChars) × (length (now lefts) ≡ maxChars) × (length (now rights) ≡ maxChars) ⌝ }
-    ensures { λ _. ⌜ ((es : List Edge) → HoldsLine (now (w .entry)) l es → Decided (tableOf (now (table .entry)) h) (chars (now (line .entry))) es (now (forms .exit)) (now (lefts .exit)) (now (rights .exit)) n) ⌝ }
+    requires { ⌜ Ready (now line) (now table) h n × Offsets (now line) (now offs)
+        × ((es : List Edge) × HoldsLine (now w) l es) × (length (now forms) ≡ maxChars)
+        × (length (now lefts) ≡ maxChars) × (length (now rights) ≡ maxChars) ⌝ }
+    ensures { λ _. ⌜ ((es : List Edge) → HoldsLine (now (w .entry)) l es
+        → Decided (tableOf (now (table .entry)) h) (chars (now (line .entry))) es (now (forms .exit)) (now (lefts .exit)) (now (rights .exit)) n) ⌝ }
 {
     let mut before = [0usize; PLACES];
     let mut behind = [0usize; PLACES];

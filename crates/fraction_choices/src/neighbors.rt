@@ -43,7 +43,8 @@ fn scored_neighbors(
     tops: &mut [usize; PLACES],
     table: &mut [usize; PLACES],
 )
-    requires { ⌜ ((es : List Edge) × HoldsLine (now w) l es) × (now tops ≡ replicate PLACES 0) × (now table ≡ replicate PLACES 0) ⌝ }
+    requires { ⌜ ((es : List Edge) × HoldsLine (now w) l es) × (now tops ≡ replicate PLACES 0)
+        × (now table ≡ replicate PLACES 0) ⌝ }
     ensures { λ _. ⌜ ((es : List Edge) → HoldsLine (now (w .entry)) l es → Neighbors right es (now (table .exit))) ⌝ }
 {
     let mut at = 2;

@@ -26,7 +26,8 @@ fn turn_off_both(w: &mut [u8], l: Lattice, left: usize, right: usize)
 // The edges that a choice uses turn inactive.
 fn turn_off_used(w: &mut [u8], l: Lattice, c: Choice)
     requires { ⌜ ((es : List Edge) × Holds (now w) l es × Valid es c) × (l .len ≡ 0 → ⊥) ⌝ }
-    ensures { λ _. ⌜ SameBehind (now (w .entry)) (now (w .exit)) × ((es : List Edge) → Holds (now (w .entry)) l es → Holds (now (w .exit)) l (turnOff es (usedBy c))) ⌝ }
+    ensures { λ _. ⌜ SameBehind (now (w .entry)) (now (w .exit))
+        × ((es : List Edge) → Holds (now (w .entry)) l es → Holds (now (w .exit)) l (turnOff es (usedBy c))) ⌝ }
 {
     let left = c.left;
     let right = c.right;
@@ -48,8 +49,11 @@ pub fn turn_off_all(
     rights: &[usize; MAX_CHARS],
     n: usize,
 )
-    requires { ⌜ ((es : List Edge) × Holds (now w) l es × AllValid es (now forms) (now lefts) (now rights) n) × (l .len ≡ 0 → ⊥) × (n ≤ maxChars) ⌝ }
-    ensures { λ _. ⌜ SameBehind (now (w .entry)) (now (w .exit)) × ((es : List Edge) → Holds (now (w .entry)) l es → AllValid es (now (forms .entry)) (now (lefts .entry)) (now (rights .entry)) n → Holds (now (w .exit)) l (turnOff es (usedEdges (outcomesOf es (now (forms .entry)) (now (lefts .entry)) (now (rights .entry)) 0 n)))) ⌝ }
+    requires { ⌜ ((es : List Edge) × Holds (now w) l es × AllValid es (now forms) (now lefts) (now rights) n)
+        × (l .len ≡ 0 → ⊥) × (n ≤ maxChars) ⌝ }
+    ensures { λ _. ⌜ SameBehind (now (w .entry)) (now (w .exit)) × ((es : List Edge) → Holds (now (w .entry)) l es
+        → AllValid es (now (forms .entry)) (now (lefts .entry)) (now (rights .entry)) n
+        → Holds (now (w .exit)) l (turnOff es (usedEdges (outcomesOf es (now (forms .entry)) (now (lefts .entry)) (now (rights .entry)) 0 n)))) ⌝ }
 {
     let mut p = 0;
     while p < n {

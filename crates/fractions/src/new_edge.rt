@@ -19,7 +19,9 @@ use text::Place;
 // "right%" over all three.
 fn add_percent(w: &mut [u8], l: Lattice, left: usize, right: usize) -> Lattice
     requires { ⌜ ((n : ℕ) × ((es : List Edge) × HoldsCall n (now w) l es × Two es left right)) × (l .len ≡ 0 → ⊥) ⌝ }
-    ensures { λ r. ⌜ SameBehind (now (w .entry)) (now (w .exit)) × ((n : ℕ) (es : List Edge) → HoldsCall n (now (w .entry)) l es → Two es left right → Holds (now (w .exit)) r (add es (percentOf es left right))) ⌝ }
+    ensures { λ r. ⌜ SameBehind (now (w .entry)) (now (w .exit)) × ((n : ℕ) (es : List Edge)
+        → HoldsCall n (now (w .entry)) l es → Two es left right
+        → Holds (now (w .exit)) r (add es (percentOf es left right))) ⌝ }
 {
     let a = crate::parts::head_of(w, l, left);
     let b = crate::parts::head_of(w, l, right);
@@ -31,8 +33,11 @@ fn add_percent(w: &mut [u8], l: Lattice, left: usize, right: usize) -> Lattice
 
 // "right/left" over all three.
 fn add_fraction(w: &mut [u8], l: Lattice, left: usize, right: usize) -> Lattice
-    requires { ⌜ ((n : ℕ) × ((es : List Edge) × HoldsCall n (now w) l es × Two es left right × (0 < valueOr (getD es left noEdge)))) × (l .len ≡ 0 → ⊥) ⌝ }
-    ensures { λ r. ⌜ SameBehind (now (w .entry)) (now (w .exit)) × ((n : ℕ) (es : List Edge) → HoldsCall n (now (w .entry)) l es → Two es left right → Holds (now (w .exit)) r (add es (fractionOf es left right))) ⌝ }
+    requires { ⌜ ((n : ℕ) × ((es : List Edge) × HoldsCall n (now w) l es × Two es left right × (0 < valueOr (getD es left noEdge))))
+        × (l .len ≡ 0 → ⊥) ⌝ }
+    ensures { λ r. ⌜ SameBehind (now (w .entry)) (now (w .exit)) × ((n : ℕ) (es : List Edge)
+        → HoldsCall n (now (w .entry)) l es → Two es left right
+        → Holds (now (w .exit)) r (add es (fractionOf es left right))) ⌝ }
 {
     let a = crate::parts::head_of(w, l, left);
     let b = crate::parts::head_of(w, l, right);
@@ -49,7 +54,8 @@ fn add_fraction(w: &mut [u8], l: Lattice, left: usize, right: usize) -> Lattice
 // The edge that the choice at a place makes is added; a lattice that is full stays as it is.
 pub fn add_choice(w: &mut [u8], l: Lattice, p: Place, c: Choice) -> Lattice
     requires { ⌜ ((n : ℕ) × ((es : List Edge) × HoldsChoice n (now w) l es c)) × (p .0 < u16Limit) ⌝ }
-    ensures { λ r. ⌜ SameBehind (now (w .entry)) (now (w .exit)) × ((n : ℕ) (es : List Edge) → HoldsChoice n (now (w .entry)) l es c → Holds (now (w .exit)) r (addOutcome es (outcomeOf es (p .0) c))) ⌝ }
+    ensures { λ r. ⌜ SameBehind (now (w .entry)) (now (w .exit)) × ((n : ℕ) (es : List Edge)
+        → HoldsChoice n (now (w .entry)) l es c → Holds (now (w .exit)) r (addOutcome es (outcomeOf es (p .0) c))) ⌝ }
 {
     if l.len == 0 {
         return l;

@@ -34,8 +34,10 @@ pub enum Script {
 
 // The script of a numeric edge with this map, whose fields stand at an offset.
 pub fn copy_script(buf: &mut [u8; TEXT_ROOM], w: &[u8], map: u16, at: usize) -> Script
-    requires { ⌜ (fieldsEnd map (now w) at ≤ length (now w)) × ((t : Text) → numericAt map (now w) at .script ≡ some t → length t ≤ maxString) ⌝ }
-    ensures { λ r. ⌜ (scriptFrom (now (buf .exit)) r ≡ numericAt map (now (w .entry)) at .script) × (scriptLen r ≤ maxString) ⌝ }
+    requires { ⌜ (fieldsEnd map (now w) at ≤ length (now w))
+        × ((t : Text) → numericAt map (now w) at .script ≡ some t → length t ≤ maxString) ⌝ }
+    ensures { λ r. ⌜ (scriptFrom (now (buf .exit)) r ≡ numericAt map (now (w .entry)) at .script)
+        × (scriptLen r ≤ maxString) ⌝ }
 {
     let d = edge::numeric::fields_at(map, w, at);
     if !edge::bit(map, bits::SCRIPT) {
@@ -91,8 +93,10 @@ pub fn head_of(w: &[u8], l: Lattice, i: usize) -> EdgeView
 
 // The value of the i-th edge, which has one.
 pub fn value_of(w: &[u8], l: Lattice, i: usize) -> u64
-    requires { ⌜ ((n : ℕ) × ((es : List Edge) × HoldsCall n (now w) l es × HasValue (getD es i noEdge))) × (l .len ≡ 0 → ⊥) × (i < l .count) ⌝ }
-    ensures { λ r. ⌜ ((n : ℕ) (es : List Edge) → HoldsCall n (now (w .entry)) l es → HasValue (getD es i noEdge) → r ≡ valueOr (getD es i noEdge)) ⌝ }
+    requires { ⌜ ((n : ℕ) × ((es : List Edge) × HoldsCall n (now w) l es × HasValue (getD es i noEdge)))
+        × (l .len ≡ 0 → ⊥) × (i < l .count) ⌝ }
+    ensures { λ r. ⌜ ((n : ℕ) (es : List Edge) → HoldsCall n (now (w .entry)) l es → HasValue (getD es i noEdge)
+        → r ≡ valueOr (getD es i noEdge)) ⌝ }
 {
     let e = head_of(w, l, i);
     let d = edge::numeric::fields_at(e.map, w, e.fields);
@@ -103,8 +107,11 @@ pub fn value_of(w: &[u8], l: Lattice, i: usize) -> u64
 
 // The right edge's txt and "%", from a place on.
 pub fn add_txt_percent(w: &mut [u8], l: Lattice, p: Place, right: usize) -> Lattice
-    requires { ⌜ ((n : ℕ) × ((es : List Edge) × HoldsCall n (now w) l es × One es right)) × (l .len ≡ 0 → ⊥) × (p .0 < u16Limit) ⌝ }
-    ensures { λ r. ⌜ SameBehind (now (w .entry)) (now (w .exit)) × ((n : ℕ) (es : List Edge) → HoldsCall n (now (w .entry)) l es → One es right → Holds (now (w .exit)) r (add es (txtPercentOf es (p .0) right))) ⌝ }
+    requires { ⌜ ((n : ℕ) × ((es : List Edge) × HoldsCall n (now w) l es × One es right)) × (l .len ≡ 0 → ⊥)
+        × (p .0 < u16Limit) ⌝ }
+    ensures { λ r. ⌜ SameBehind (now (w .entry)) (now (w .exit)) × ((n : ℕ) (es : List Edge)
+        → HoldsCall n (now (w .entry)) l es → One es right
+        → Holds (now (w .exit)) r (add es (txtPercentOf es (p .0) right))) ⌝ }
 {
     let b = head_of(w, l, right);
     let mut buf = [0u8; TEXT_ROOM];
@@ -123,8 +130,10 @@ pub fn add_composed(
     s: Script,
     script: &[u8; TEXT_ROOM],
 ) -> Lattice
-    requires { ⌜ ((es : List Edge) × Holds (now w) l es) × (start .0 < u16Limit) × (end .0 < u16Limit) × (length (now txt) ≤ textRoom) × (scriptLen s ≤ maxString) ⌝ }
-    ensures { λ r. ⌜ SameBehind (now (w .entry)) (now (w .exit)) × ((es : List Edge) → Holds (now (w .entry)) l es → Holds (now (w .exit)) r (add es (fractionWith (start .0) (end .0) (now (txt .entry)) (q .numerator, q .denominator) (scriptFrom (now (script .entry)) s)))) ⌝ }
+    requires { ⌜ ((es : List Edge) × Holds (now w) l es) × (start .0 < u16Limit) × (end .0 < u16Limit)
+        × (length (now txt) ≤ textRoom) × (scriptLen s ≤ maxString) ⌝ }
+    ensures { λ r. ⌜ SameBehind (now (w .entry)) (now (w .exit)) × ((es : List Edge) → Holds (now (w .entry)) l es
+        → Holds (now (w .exit)) r (add es (fractionWith (start .0) (end .0) (now (txt .entry)) (q .numerator, q .denominator) (scriptFrom (now (script .entry)) s)))) ⌝ }
 {
     let d = fraction_fields(txt.len(), q, s);
     lattice_add::numeric::add_numeric(w, l, start, end, b"fraction", txt, d, txt, script, b"")

@@ -68,7 +68,8 @@ fn has_key(w: &[u8], s: &[u8], at: usize, n: usize, bucket: usize) -> bool
 // tested: one that is there already is no overflow.
 pub fn plan_add(w: &[u8], l: Lattice, s: &[u8], at: usize, n: usize, to: usize) -> Adding
     requires { ⌜ ((es : List Edge) × Holds (now w) l es) × ((e : Edge) × Stands (now s) at n to e) ⌝ }
-    ensures { λ r. ⌜ ((es : List Edge) (e : Edge) → Holds (now (w .entry)) l es → Stands (now (s .entry)) at n to e → AddingIs l es e r) ⌝ }
+    ensures { λ r. ⌜ ((es : List Edge) (e : Edge) → Holds (now (w .entry)) l es → Stands (now (s .entry)) at n to e
+        → AddingIs l es e r) ⌝ }
 {
     if l.len == 0 {
         return Adding::Nothing;

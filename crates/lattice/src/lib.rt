@@ -71,7 +71,8 @@ fn inactive_map(map: u16) -> u16
 // The i-th edge turns inactive.
 pub fn turn_off(w: &mut [u8], l: Lattice, i: usize)
     requires { ⌜ ((es : List Edge) × Holds (now w) l es) × (l .len ≡ 0 → ⊥) × (i < l .count) ⌝ }
-    ensures { λ _. ⌜ SameBehind (now (w .entry)) (now (w .exit)) × ((es : List Edge) → Holds (now (w .entry)) l es → Holds (now (w .exit)) l (turnOffAt es i)) ⌝ }
+    ensures { λ _. ⌜ SameBehind (now (w .entry)) (now (w .exit))
+        × ((es : List Edge) → Holds (now (w .entry)) l es → Holds (now (w .exit)) l (turnOffAt es i)) ⌝ }
 {
     let at = offset_at(w, l, i);
     let map = inactive_map(fields::u16_at(w, at));

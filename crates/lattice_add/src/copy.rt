@@ -87,8 +87,10 @@ fn compose(
     to: usize,
     sep: &[u8],
 ) -> usize
-    requires { ⌜ (at + 2 ≤ txt) × (txt ≤ to) × (to ≤ len) × (len + (to - at) + length (now sep) ≤ length (now w)) × (length (now sep) + n < u16Limit) ⌝ }
-    ensures { λ r. ⌜ (r ≡ len + (to - at) + length (now (sep .entry))) × Put (now (w .entry)) (now (w .exit)) len r (prefixedBytes (now (w .entry)) at txt n to (now (sep .entry))) ⌝ }
+    requires { ⌜ (at + 2 ≤ txt) × (txt ≤ to) × (to ≤ len) × (len + (to - at) + length (now sep) ≤ length (now w))
+        × (length (now sep) + n < u16Limit) ⌝ }
+    ensures { λ r. ⌜ (r ≡ len + (to - at) + length (now (sep .entry)))
+        × Put (now (w .entry)) (now (w .exit)) len r (prefixedBytes (now (w .entry)) at txt n to (now (sep .entry))) ⌝ }
 {
     let head = txt - 2 - at;
     let behind = len + head + 2;
@@ -101,8 +103,11 @@ fn compose(
 
 // The edge that stands in the listing from at to the offset next is added once more, with sep before its txt.
 pub fn add_copy(w: &mut [u8], l: Lattice, at: usize, next: usize, sep: &[u8]) -> Lattice
-    requires { ⌜ ((es : List Edge) × Holds (now w) l es) × ((e : Edge) × Source (now w) (l .len) at next (length (now sep)) e) ⌝ }
-    ensures { λ r. ⌜ SameBehind (now (w .entry)) (now (w .exit)) × ((es : List Edge) (e : Edge) → Holds (now (w .entry)) l es → Source (now (w .entry)) (l .len) at next (length (now (sep .entry))) e → Holds (now (w .exit)) r (add es (prefixed (now (sep .entry)) e))) ⌝ }
+    requires { ⌜ ((es : List Edge) × Holds (now w) l es)
+        × ((e : Edge) × Source (now w) (l .len) at next (length (now sep)) e) ⌝ }
+    ensures { λ r. ⌜ SameBehind (now (w .entry)) (now (w .exit)) × ((es : List Edge) (e : Edge)
+        → Holds (now (w .entry)) l es → Source (now (w .entry)) (l .len) at next (length (now (sep .entry))) e
+        → Holds (now (w .exit)) r (add es (prefixed (now (sep .entry)) e))) ⌝ }
 {
     let len = l.len;
     let v = edge::head::edge_at(w, at);

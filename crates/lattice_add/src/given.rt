@@ -12,8 +12,10 @@ use lattice::Lattice;
 
 // The regular edge that stands in a listing from at to the offset to is added. It may be longer than the room behind the lattice's listing.
 pub fn add_given(w: &mut [u8], l: Lattice, s: &[u8], at: usize, to: usize) -> Lattice
-    requires { ⌜ ((es : List Edge) × Holds (now w) l es) × (mapAt (now s) at ≡ 0) × (to ≡ nextAt (now s) at) × (to ≤ length (now s)) ⌝ }
-    ensures { λ r. ⌜ SameBehind (now (w .entry)) (now (w .exit)) × ((es : List Edge) → Holds (now (w .entry)) l es → Holds (now (w .exit)) r (add es (edgeAt (now (s .entry)) at))) ⌝ }
+    requires { ⌜ ((es : List Edge) × Holds (now w) l es) × (mapAt (now s) at ≡ 0) × (to ≡ nextAt (now s) at)
+        × (to ≤ length (now s)) ⌝ }
+    ensures { λ r. ⌜ SameBehind (now (w .entry)) (now (w .exit)) × ((es : List Edge) → Holds (now (w .entry)) l es
+        → Holds (now (w .exit)) r (add es (edgeAt (now (s .entry)) at))) ⌝ }
 {
     let count = l.count;
     let len = l.len;

@@ -15,7 +15,8 @@ use lattice::Lattice;
 // The edge that is composed behind the listing, up to an offset and with a key of n bytes, is added.
 pub fn add_edge(w: &mut [u8], l: Lattice, n: usize, to: usize) -> Lattice
     requires { ⌜ ((es : List Edge) × Holds (now w) l es) × ((e : Edge) × Stands (now w) (l .len) n to e) ⌝ }
-    ensures { λ r. ⌜ SameBehind (now (w .entry)) (now (w .exit)) × ((es : List Edge) (e : Edge) → Holds (now (w .entry)) l es → Stands (now (w .entry)) (l .len) n to e → Holds (now (w .exit)) r (add es e)) ⌝ }
+    ensures { λ r. ⌜ SameBehind (now (w .entry)) (now (w .exit)) × ((es : List Edge) (e : Edge)
+        → Holds (now (w .entry)) l es → Stands (now (w .entry)) (l .len) n to e → Holds (now (w .exit)) r (add es e)) ⌝ }
 {
     let count = l.count;
     let len = l.len;

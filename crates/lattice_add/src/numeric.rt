@@ -25,8 +25,11 @@ pub fn add_numeric(
     c: &[u8],
     v: &[u8],
 ) -> Lattice
-    requires { ⌜ ((es : List Edge) × Holds (now w) l es) × (start .0 < u16Limit) × (end .0 < u16Limit) × Writable (now o) (now c) (now v) d × (length (now ty) + length (now txt) + d .orig .len + d .script .len + d .«value_s» .len ≤ 1990) ⌝ }
-    ensures { λ r. ⌜ SameBehind (now (w .entry)) (now (w .exit)) × ((es : List Edge) → Holds (now (w .entry)) l es → Holds (now (w .exit)) r (add es (numeric (start .0) (end .0) (now (ty .entry)) (now (txt .entry)) (now (o .entry)) (now (c .entry)) (now (v .entry)) d))) ⌝ }
+    requires { ⌜ ((es : List Edge) × Holds (now w) l es) × (start .0 < u16Limit) × (end .0 < u16Limit)
+        × Writable (now o) (now c) (now v) d
+        × (length (now ty) + length (now txt) + d .orig .len + d .script .len + d .«value_s» .len ≤ 1990) ⌝ }
+    ensures { λ r. ⌜ SameBehind (now (w .entry)) (now (w .exit)) × ((es : List Edge) → Holds (now (w .entry)) l es
+        → Holds (now (w .exit)) r (add es (numeric (start .0) (end .0) (now (ty .entry)) (now (txt .entry)) (now (o .entry)) (now (c .entry)) (now (v .entry)) d))) ⌝ }
 {
     let len = l.len;
     match edge_write::numeric::write_numeric(w, len, start, end, ty, txt, d, o, c, v) {

@@ -20,8 +20,10 @@ pub fn add_regular(
     ty: &[u8],
     txt: &[u8],
 ) -> Lattice
-    requires { ⌜ ((es : List Edge) × Holds (now w) l es) × (start .0 < u16Limit) × (end .0 < u16Limit) × (length (now ty) + length (now txt) ≤ 2000) ⌝ }
-    ensures { λ r. ⌜ SameBehind (now (w .entry)) (now (w .exit)) × ((es : List Edge) → Holds (now (w .entry)) l es → Holds (now (w .exit)) r (add es (regular (start .0) (end .0) (now (ty .entry)) (now (txt .entry))))) ⌝ }
+    requires { ⌜ ((es : List Edge) × Holds (now w) l es) × (start .0 < u16Limit) × (end .0 < u16Limit)
+        × (length (now ty) + length (now txt) ≤ 2000) ⌝ }
+    ensures { λ r. ⌜ SameBehind (now (w .entry)) (now (w .exit)) × ((es : List Edge) → Holds (now (w .entry)) l es
+        → Holds (now (w .exit)) r (add es (regular (start .0) (end .0) (now (ty .entry)) (now (txt .entry))))) ⌝ }
 {
     let len = l.len;
     match edge_write::regular::write_regular(w, len, start, end, ty, txt) {

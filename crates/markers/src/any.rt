@@ -17,7 +17,8 @@ ghost use Rattle.markers.specs.Marks.{Formed, standsFrom, anyStands, mar
 
 // Whether the bytes m stand at one of the n places of the line.
 fn stands_somewhere(line: &[u8], offs: &[usize; PLACES], n: usize, m: &[u8]) -> bool
-    requires { ⌜ Offsets (now line) (now offs) × (length (chars (now line)) ≡ n) × (n ≤ maxChars) × (wellFormed (now m) ≡ true) ⌝ }
+    requires { ⌜ Offsets (now line) (now offs) × (length (chars (now line)) ≡ n) × (n ≤ maxChars)
+        × (wellFormed (now m) ≡ true) ⌝ }
     ensures { λ r. ⌜ r ≡ standsFrom (chars (now (line .entry))) 0 n (now (m .entry)) ⌝ }
 {
     let mut p = 0;
@@ -33,7 +34,8 @@ fn stands_somewhere(line: &[u8], offs: &[usize; PLACES], n: usize, m: &[u8]) -> 
 
 // The same of a text of the table.
 fn text_somewhere(line: &[u8], offs: &[usize; PLACES], n: usize, table: &[u8], m: Part) -> bool
-    requires { ⌜ Offsets (now line) (now offs) × (length (chars (now line)) ≡ n) × (n ≤ maxChars) × Within (now table) m × (wellFormed (partOf (now table) m) ≡ true) ⌝ }
+    requires { ⌜ Offsets (now line) (now offs) × (length (chars (now line)) ≡ n) × (n ≤ maxChars)
+        × Within (now table) m × (wellFormed (partOf (now table) m) ≡ true) ⌝ }
     ensures { λ r. ⌜ r ≡ standsFrom (chars (now (line .entry))) 0 n (partOf (now (table .entry)) m) ⌝ }
 {
     let from = m.at;
@@ -43,7 +45,8 @@ fn text_somewhere(line: &[u8], offs: &[usize; PLACES], n: usize, table: &[u8], m
 
 // Whether a text of a list of the table stands at one of the n places.
 fn any_of(line: &[u8], offs: &[usize; PLACES], n: usize, table: &[u8], list: usize) -> bool
-    requires { ⌜ Offsets (now line) (now offs) × (length (chars (now line)) ≡ n) × (n ≤ maxChars) × Formed (listAt (now table) list) ⌝ }
+    requires { ⌜ Offsets (now line) (now offs) × (length (chars (now line)) ≡ n) × (n ≤ maxChars)
+        × Formed (listAt (now table) list) ⌝ }
     ensures { λ r. ⌜ r ≡ anyStands (chars (now (line .entry))) 0 n (listAt (now (table .entry)) list) ⌝ }
 {
     if table.len() <= list {

@@ -87,7 +87,8 @@ fn longer_of(percentage: usize, connector: usize) -> Marker
 
 // The marker that counts at a place.
 pub fn marker_at(line: &[u8], offs: &[usize; PLACES], table: &[u8], h: Shape, p: Place) -> Marker
-    requires { ⌜ ((n : ℕ) × Ready (now line) (now table) h n) × Offsets (now line) (now offs) × (p .0 < length (chars (now line))) ⌝ }
+    requires { ⌜ ((n : ℕ) × Ready (now line) (now table) h n) × Offsets (now line) (now offs)
+        × (p .0 < length (chars (now line))) ⌝ }
     ensures { λ r. ⌜ markerOf r ≡ markerAt (tableOf (now (table .entry)) h) (chars (now (line .entry))) (p .0) ⌝ }
 {
     let place = p.0;

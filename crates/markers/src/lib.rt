@@ -57,7 +57,8 @@ pub fn stands(line: &[u8], at: usize, m: &[u8]) -> bool
 
 // By the sign's characters, counted back from the place.
 fn counted_back(line: &[u8], offs: &[usize; PLACES], p: Place, m: &[u8]) -> Sign
-    requires { ⌜ (length (chars (now line)) ≤ maxChars) × Offsets (now line) (now offs) × (p .0 ≤ length (chars (now line))) × (wellFormed (now m) ≡ true) ⌝ }
+    requires { ⌜ (length (chars (now line)) ≤ maxChars) × Offsets (now line) (now offs)
+        × (p .0 ≤ length (chars (now line))) × (wellFormed (now m) ≡ true) ⌝ }
     ensures { λ r. ⌜ r ≡ signOf (chars (now (line .entry))) (p .0) (now (m .entry)) ⌝ }
 {
     let place = p.0;
@@ -76,7 +77,8 @@ fn counted_back(line: &[u8], offs: &[usize; PLACES], p: Place, m: &[u8]) -> Sign
 
 // The sign m of the table directly before a place of the line. Its characters are counted only where its last byte stands there.
 pub fn sign_before(line: &[u8], offs: &[usize; PLACES], p: Place, m: &[u8]) -> Sign
-    requires { ⌜ (length (chars (now line)) ≤ maxChars) × Offsets (now line) (now offs) × (p .0 ≤ length (chars (now line))) × (wellFormed (now m) ≡ true) ⌝ }
+    requires { ⌜ (length (chars (now line)) ≤ maxChars) × Offsets (now line) (now offs)
+        × (p .0 ≤ length (chars (now line))) × (wellFormed (now m) ≡ true) ⌝ }
     ensures { λ r. ⌜ r ≡ signOf (chars (now (line .entry))) (p .0) (now (m .entry)) ⌝ }
 {
     let place = p.0;

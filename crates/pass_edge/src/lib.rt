@@ -42,7 +42,8 @@ pub fn rom_at(table: &[u8], at: usize) -> &[u8]
 
 // The bytes of the line between two places.
 pub fn line_part<'a>(line: &'a [u8], offs: &[usize; PLACES], start: Place, end: Place) -> &'a [u8]
-    requires { ⌜ Offsets (now line) (now offs) × (start .0 ≤ end .0) × (end .0 ≤ length (chars (now line))) × (length (chars (now line)) ≤ maxChars) ⌝ }
+    requires { ⌜ Offsets (now line) (now offs) × (start .0 ≤ end .0) × (end .0 ≤ length (chars (now line)))
+        × (length (chars (now line)) ≤ maxChars) ⌝ }
     ensures { λ r. ⌜ now r ≡ between (chars (now (line .entry))) (start .0) (end .0) ⌝ }
 {
     let first = start.0;

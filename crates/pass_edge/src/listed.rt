@@ -96,8 +96,14 @@ pub fn add_texts(
     ty: &[u8],
     txt: &[u8],
 ) -> Lattice
-    requires { ⌜ ((es : List Edge) × Holds (now w) l es) × Offsets (now line) (now offs) × ((i : StoredEdge) × TextsAre (now line) (now table) x (now ty) (now txt) i) × (length (chars (now line)) ≤ maxChars) × FractionIs f (storedFraction (now table) (kindNumber (x .kind)) (x .«record_at» .0)) ⌝ }
-    ensures { λ r. ⌜ SameBehind (now (w .entry)) (now (w .exit)) × ((es : List Edge) (i : StoredEdge) → Holds (now (w .entry)) l es → TextsAre (now (line .entry)) (now (table .entry)) x (now (ty .entry)) (now (txt .entry)) i → Holds (now (w .exit)) r (add es (listedEdge (edgeOf (chars (now (line .entry))) (now (table .entry)) i)))) ⌝ }
+    requires { ⌜ ((es : List Edge) × Holds (now w) l es) × Offsets (now line) (now offs)
+        × ((i : StoredEdge) × TextsAre (now line) (now table) x (now ty) (now txt) i)
+        × (length (chars (now line)) ≤ maxChars)
+        × FractionIs f (storedFraction (now table) (kindNumber (x .kind)) (x .«record_at» .0)) ⌝ }
+    ensures { λ r. ⌜ SameBehind (now (w .entry)) (now (w .exit)) × ((es : List Edge) (i : StoredEdge)
+        → Holds (now (w .entry)) l es
+        → TextsAre (now (line .entry)) (now (table .entry)) x (now (ty .entry)) (now (txt .entry)) i
+        → Holds (now (w .exit)) r (add es (listedEdge (edgeOf (chars (now (line .entry))) (now (table .entry)) i)))) ⌝ }
 {
     let d = fields_of(offs, x, f, txt.len());
     lattice_add::numeric::add_numeric(w, l, x.start, x.end, ty, txt, d, line, table, txt)

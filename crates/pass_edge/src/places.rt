@@ -11,7 +11,8 @@ ghost use Rattle.numbers.specs.Ready.{Offsets};
 
 // The offset of each place of a well-formed line of at most 256 characters, its end included; the rest of offs stays as it was.
 pub fn place_offsets(line: &[u8], offs: &mut [usize; PLACES])
-    requires { ⌜ (wellFormed (now line) ≡ true) × (length (chars (now line)) ≤ maxChars) × (length (now offs) ≡ PLACES) ⌝ }
+    requires { ⌜ (wellFormed (now line) ≡ true) × (length (chars (now line)) ≤ maxChars)
+        × (length (now offs) ≡ PLACES) ⌝ }
     ensures { λ _. ⌜ Offsets (now (line .entry)) (now (offs .exit)) ⌝ }
 {
     let mut count = 0;

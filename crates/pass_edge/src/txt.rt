@@ -25,7 +25,10 @@ fn char_txt(
     start: Place,
     end: Place,
 ) -> usize
-    requires { ⌜ Offsets (now line) (now offs) × (start .0 ≤ end .0) × (end .0 ≤ length (chars (now line))) × (length (chars (now line)) ≤ maxChars) × (length (charTxt (chars (now line)) (now table) at (start .0) (end .0)) ≤ length (now buf)) × LegalAt (now table) at ⌝ }
+    requires { ⌜ Offsets (now line) (now offs) × (start .0 ≤ end .0) × (end .0 ≤ length (chars (now line)))
+        × (length (chars (now line)) ≤ maxChars)
+        × (length (charTxt (chars (now line)) (now table) at (start .0) (end .0)) ≤ length (now buf))
+        × LegalAt (now table) at ⌝ }
     ensures { λ r. ⌜ Front (now (buf .entry)) (now (buf .exit)) r (charTxt (chars (now (line .entry))) (now (table .entry)) at (start .0) (end .0)) ⌝ }
 {
     if table[at + 4] / bits::ROM % 2 == 1 {
@@ -42,8 +45,10 @@ pub fn txt_of(
     table: &[u8],
     x: PassEdge,
 ) -> usize
-    requires { ⌜ Offsets (now line) (now offs) × ((i : StoredEdge) × StoredIs (now line) (now table) x i) × (length (chars (now line)) ≤ maxChars) × (maxChars ≤ length (now buf)) ⌝ }
-    ensures { λ r. ⌜ ((i : StoredEdge) → EdgeIs x i → Front (now (buf .entry)) (now (buf .exit)) r (txtOf (chars (now (line .entry))) (now (table .entry)) i)) ⌝ }
+    requires { ⌜ Offsets (now line) (now offs) × ((i : StoredEdge) × StoredIs (now line) (now table) x i)
+        × (length (chars (now line)) ≤ maxChars) × (maxChars ≤ length (now buf)) ⌝ }
+    ensures { λ r. ⌜ ((i : StoredEdge) → EdgeIs x i
+        → Front (now (buf .entry)) (now (buf .exit)) r (txtOf (chars (now (line .entry))) (now (table .entry)) i)) ⌝ }
 {
     let kind = x.kind;
     if is_character(kind) {

@@ -28,7 +28,8 @@ fn map_of(n: PassData) -> u16
 // The numbers of the edge at an offset, from its value on.
 fn put_num(out: &mut [u8], at: usize, record_at: u64, n: PassData)
     requires { ⌜ (at + SIZE ≤ length (now out)) × ((x : StoredEdge) × NumIs n x) ⌝ }
-    ensures { λ _. ⌜ ((x : StoredEdge) → NumIs n x → «record_at» ≡ x .record-at → now (out .exit) ≡ sets (now (out .entry)) (at + valueAt) (numBytes x)) ⌝ }
+    ensures { λ _. ⌜ ((x : StoredEdge) → NumIs n x → «record_at» ≡ x .record-at
+        → now (out .exit) ≡ sets (now (out .entry)) (at + valueAt) (numBytes x)) ⌝ }
 {
     fields::write::put_u64(out, at + layout::VALUE_AT, whole::exact_u64(n.value));
     fields::write::put_u64(out, at + layout::BASE_AT, n.base);

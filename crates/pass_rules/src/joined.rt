@@ -51,7 +51,8 @@ fn makes_large_power(pass: Pass) -> bool
 
 // The edge over l and r, of value v.
 pub fn joined_edge(pass: Pass, l: PassEdge, r: PassEdge, v: f64) -> PassEdge
-    ensures { λ e. ⌜ ((x y : StoredEdge) (n : ℕ) → l ≡ passEdge x → r ≡ passEdge y → v ≡ ofNat n → e ≡ passEdge (over (passOf pass) x y n)) ⌝ }
+    ensures { λ e. ⌜ ((x y : StoredEdge) (n : ℕ) → l ≡ passEdge x → r ≡ passEdge y → v ≡ ofNat n
+        → e ≡ passEdge (over (passOf pass) x y n)) ⌝ }
 {
     let large_power = makes_large_power(pass);
     let start = l.start;

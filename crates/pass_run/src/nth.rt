@@ -29,7 +29,8 @@ fn pass_of(i: usize) -> Pass
 // The i-th pass over the list that stands in the work space from an offset on; what stands before it stays as it is.
 pub fn pass_behind(w: &mut [u8], from: usize, n: usize, i: usize) -> PassAnswer
     requires { ⌜ (from + n * SIZE ≤ length (now w)) × AllSmall (storedListAt (drop from (now w)) 0 n) × (i < 5) ⌝ }
-    ensures { λ r. ⌜ (take from (now (w .exit)) ≡ take from (now (w .entry))) × PassedIs (nth i) (storedListAt (drop from (now (w .entry))) 0 n) (drop from (now (w .exit))) r ⌝ }
+    ensures { λ r. ⌜ (take from (now (w .exit)) ≡ take from (now (w .entry)))
+        × PassedIs (nth i) (storedListAt (drop from (now (w .entry))) 0 n) (drop from (now (w .exit))) r ⌝ }
 {
     run_pass(&mut w[from..], n, pass_of(i))
 }

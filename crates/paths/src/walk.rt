@@ -76,7 +76,8 @@ pub fn write_path(
     end: Place,
     out: &mut [u8],
 )
-    requires { ⌜ Steps (now s) (now tops) (now ats) × (end .0 ≤ maxChars) × (2 + length (edgeParts (now s) (path (byTable (now s) (now tops) (now ats)) (start .0) (end .0))) ≤ length (now out)) ⌝ }
+    requires { ⌜ Steps (now s) (now tops) (now ats) × (end .0 ≤ maxChars)
+        × (2 + length (edgeParts (now s) (path (byTable (now s) (now tops) (now ats)) (start .0) (end .0))) ≤ length (now out)) ⌝ }
     ensures { λ _. ⌜ now (out .exit) ≡ sets (now (out .entry)) 2 (edgeParts (now (s .entry)) (path (byTable (now (s .entry)) (now (tops .entry)) (now (ats .entry))) (start .0) (end .0))) ⌝ }
 {
     let last = end.0;

@@ -42,7 +42,8 @@ fn mark(map: u16) -> u8
 
 // The row of an edge, for which there is room.
 fn put_columns(out: &mut [u8], at: usize, s: &[u8], e: EdgeView) -> usize
-    requires { ⌜ (at + length (viewRow (now s) e) ≤ length (now out)) × (e .ty .at + e .ty .len ≤ length (now s)) × (e .txt .at + e .txt .len ≤ length (now s)) ⌝ }
+    requires { ⌜ (at + length (viewRow (now s) e) ≤ length (now out)) × (e .ty .at + e .ty .len ≤ length (now s))
+        × (e .txt .at + e .txt .len ≤ length (now s)) ⌝ }
     ensures { λ r. ⌜ Put (now (out .entry)) (now (out .exit)) at r (viewRow (now (s .entry)) e) ⌝ }
 {
     let end = crate::columns::put_number(out, at, e.start.0 as u64, b'\t');

@@ -40,7 +40,9 @@ fn is_apart(s: &[u8], at: usize, marks: &[bool; PLACES]) -> bool
 // The copy of an edge that stands in the listing is added, with its separator: a space if it has a fraction, else "·".
 fn add_separated(w: &mut [u8], l: Lattice, at: usize, next: usize) -> Lattice
     requires { ⌜ ((es : List Edge) × Holds (now w) l es) × ((e : Edge) × Source (now w) (l .len) at next 2 e) ⌝ }
-    ensures { λ r. ⌜ SameBehind (now (w .entry)) (now (w .exit)) × ((es : List Edge) (e : Edge) → Holds (now (w .entry)) l es → Source (now (w .entry)) (l .len) at next 2 e → Holds (now (w .exit)) r (add es (copyOf e))) ⌝ }
+    ensures { λ r. ⌜ SameBehind (now (w .entry)) (now (w .exit)) × ((es : List Edge) (e : Edge)
+        → Holds (now (w .entry)) l es → Source (now (w .entry)) (l .len) at next 2 e
+        → Holds (now (w .exit)) r (add es (copyOf e))) ⌝ }
 {
     let map = fields::u16_at(w, at);
     if edge::bit(map, bits::FRACTION) {
@@ -63,7 +65,9 @@ fn end_of(w: &[u8], l: Lattice, i: usize) -> usize
 // The i-th edge is set apart, if the marks say so. The copy is made before its original turns inactive: it is active as that was.
 fn set_apart(w: &mut [u8], l: Lattice, i: usize, marks: &[bool; PLACES]) -> Lattice
     requires { ⌜ ((n : ℕ) × (n ≤ maxChars) × ((es : List Edge) × Holds (now w) l es × (i < length es) × CallEdge n (getD es i noEdge))) ⌝ }
-    ensures { λ r. ⌜ SameBehind (now (w .entry)) (now (w .exit)) × ((n : ℕ) (es : List Edge) → n ≤ maxChars → Holds (now (w .entry)) l es → i < length es → CallEdge n (getD es i noEdge) → Holds (now (w .exit)) r (setApart (now (marks .entry)) es i)) ⌝ }
+    ensures { λ r. ⌜ SameBehind (now (w .entry)) (now (w .exit)) × ((n : ℕ) (es : List Edge) → n ≤ maxChars
+        → Holds (now (w .entry)) l es → i < length es → CallEdge n (getD es i noEdge)
+        → Holds (now (w .exit)) r (setApart (now (marks .entry)) es i)) ⌝ }
 {
     if l.len == 0 {
         return l;
@@ -84,7 +88,9 @@ fn set_apart(w: &mut [u8], l: Lattice, i: usize, marks: &[bool; PLACES]) -> Latt
 // All edges that are there are set apart in turn, if the marks say so. The copies are not looked at.
 fn set_all_apart(w: &mut [u8], l: Lattice, marks: &[bool; PLACES]) -> Lattice
     requires { ⌜ ((n : ℕ) × (n ≤ maxChars) × ((es : List Edge) × Holds (now w) l es × (length es ≡ l .count) × CallEdges n es)) ⌝ }
-    ensures { λ r. ⌜ SameBehind (now (w .entry)) (now (w .exit)) × ((n : ℕ) (es : List Edge) → n ≤ maxChars → Holds (now (w .entry)) l es → length es ≡ l .count → CallEdges n es → Holds (now (w .exit)) r (allApart (now (marks .entry)) es 0 (length es))) ⌝ }
+    ensures { λ r. ⌜ SameBehind (now (w .entry)) (now (w .exit)) × ((n : ℕ) (es : List Edge) → n ≤ maxChars
+        → Holds (now (w .entry)) l es → length es ≡ l .count → CallEdges n es
+        → Holds (now (w .exit)) r (allApart (now (marks .entry)) es 0 (length es))) ⌝ }
 {
     let count = l.count;
     let mut grown = l;
@@ -99,7 +105,8 @@ fn set_all_apart(w: &mut [u8], l: Lattice, marks: &[bool; PLACES]) -> Lattice
 // F1: numbers that follow a digit are set apart.
 pub fn separate(w: &mut [u8], l: Lattice) -> Lattice
     requires { ⌜ ((n : ℕ) × (n ≤ maxChars) × ((es : List Edge) × Holds (now w) l es × CallEdges n es)) ⌝ }
-    ensures { λ r. ⌜ SameBehind (now (w .entry)) (now (w .exit)) × ((n : ℕ) (es : List Edge) → n ≤ maxChars → Holds (now (w .entry)) l es → CallEdges n es → Holds (now (w .exit)) r (separate es)) ⌝ }
+    ensures { λ r. ⌜ SameBehind (now (w .entry)) (now (w .exit)) × ((n : ℕ) (es : List Edge) → n ≤ maxChars
+        → Holds (now (w .entry)) l es → CallEdges n es → Holds (now (w .exit)) r (separate es)) ⌝ }
 {
     if l.len == 0 {
         return l;

@@ -30,8 +30,10 @@ ghost use Rattle.signs.specs.SignEdges.{Signs, Begins};
 
 // The type of a sign's edge goes to the front of a buffer: the stored edge's, a space and the sign.
 fn sign_type(buf: &mut [u8], table: &[u8], x: PassEdge, sign: u8) -> usize
-    requires { ⌜ (2 + maxString ≤ length (now buf)) × ((i : StoredEdge) × EdgeIs x i × (length (typeOf (now table) i) ≤ maxString) × Rooted (now table) i) ⌝ }
-    ensures { λ r. ⌜ ((i : StoredEdge) → EdgeIs x i → Begins (now (buf .exit)) r (typeOf (now (table .entry)) i ++ (32 ∷ sign ∷ []))) ⌝ }
+    requires { ⌜ (2 + maxString ≤ length (now buf))
+        × ((i : StoredEdge) × EdgeIs x i × (length (typeOf (now table) i) ≤ maxString) × Rooted (now table) i) ⌝ }
+    ensures { λ r. ⌜ ((i : StoredEdge) → EdgeIs x i
+        → Begins (now (buf .exit)) r (typeOf (now (table .entry)) i ++ (32 ∷ sign ∷ []))) ⌝ }
 {
     let n = pass_edge::edge_type::type_of(buf, table, x);
     buf[n] = b' ';
@@ -48,8 +50,10 @@ fn sign_txt(
     x: PassEdge,
     sign: u8,
 ) -> usize
-    requires { ⌜ Offsets (now line) (now offs) × ((i : StoredEdge) × StoredIs (now line) (now table) x i) × (length (chars (now line)) ≤ maxChars) × (1 + maxChars ≤ length (now buf)) ⌝ }
-    ensures { λ r. ⌜ ((i : StoredEdge) → EdgeIs x i → Begins (now (buf .exit)) r (sign ∷ txtOf (chars (now (line .entry))) (now (table .entry)) i)) ⌝ }
+    requires { ⌜ Offsets (now line) (now offs) × ((i : StoredEdge) × StoredIs (now line) (now table) x i)
+        × (length (chars (now line)) ≤ maxChars) × (1 + maxChars ≤ length (now buf)) ⌝ }
+    ensures { λ r. ⌜ ((i : StoredEdge) → EdgeIs x i
+        → Begins (now (buf .exit)) r (sign ∷ txtOf (chars (now (line .entry))) (now (table .entry)) i)) ⌝ }
 {
     buf[0] = sign;
     let n = pass_edge::txt::txt_of(&mut buf[1..], line, offs, table, x);
@@ -68,7 +72,9 @@ fn add_signed(
     start: Place,
 ) -> Lattice
     requires { ⌜ Addable (now w) l (now line) (now offs) (now table) x × (start .0 ≤ maxChars) ⌝ }
-    ensures { λ r. ⌜ SameBehind (now (w .entry)) (now (w .exit)) × ((es : List Edge) (i : StoredEdge) → Holds (now (w .entry)) l es → EdgeIs x i → Holds (now (w .exit)) r (add es (signEdge (start .0) sign (edgeOf (chars (now (line .entry))) (now (table .entry)) i)))) ⌝ }
+    ensures { λ r. ⌜ SameBehind (now (w .entry)) (now (w .exit)) × ((es : List Edge) (i : StoredEdge)
+        → Holds (now (w .entry)) l es → EdgeIs x i
+        → Holds (now (w .exit)) r (add es (signEdge (start .0) sign (edgeOf (chars (now (line .entry))) (now (table .entry)) i)))) ⌝ }
 {
     let mut ty = [0u8; 62];
     let mut txt = [0u8; 257];
@@ -88,7 +94,8 @@ fn add_sign(
     sign: u8,
     m: Part,
 ) -> Lattice
-    requires { ⌜ Addable (now w) l (now line) (now offs) (now table) x × Within (now table) m × (wellFormed (partOf (now table) m) ≡ true) ⌝ }
+    requires { ⌜ Addable (now w) l (now line) (now offs) (now table) x × Within (now table) m
+        × (wellFormed (partOf (now table) m) ≡ true) ⌝ }
     ensures { λ r. ⌜ Signs (now (line .entry)) (now (table .entry)) x sign (partOf (now (table .entry)) m ∷ []) (now (w .entry)) l (now (w .exit)) r ⌝ }
 {
     let from = m.at;

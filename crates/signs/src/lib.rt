@@ -33,8 +33,11 @@ fn add_edge_signs(
     h: Shape,
     x: PassEdge,
 ) -> Lattice
-    requires { ⌜ ((es : List Edge) × Holds (now w) l es) × Offsets (now line) (now offs) × ((i : StoredEdge) × StoredIs (now line) (now table) x i) × ((n : ℕ) × Ready (now line) (now table) h n) ⌝ }
-    ensures { λ r. ⌜ SameBehind (now (w .entry)) (now (w .exit)) × ((es : List Edge) (i : StoredEdge) → Holds (now (w .entry)) l es → EdgeIs x i → Holds (now (w .exit)) r (addAll es (signsOf (tableOf (now (table .entry)) h) (chars (now (line .entry))) (edgeOf (chars (now (line .entry))) (now (table .entry)) i)))) ⌝ }
+    requires { ⌜ ((es : List Edge) × Holds (now w) l es) × Offsets (now line) (now offs)
+        × ((i : StoredEdge) × StoredIs (now line) (now table) x i) × ((n : ℕ) × Ready (now line) (now table) h n) ⌝ }
+    ensures { λ r. ⌜ SameBehind (now (w .entry)) (now (w .exit)) × ((es : List Edge) (i : StoredEdge)
+        → Holds (now (w .entry)) l es → EdgeIs x i
+        → Holds (now (w .exit)) r (addAll es (signsOf (tableOf (now (table .entry)) h) (chars (now (line .entry))) (edgeOf (chars (now (line .entry))) (now (table .entry)) i)))) ⌝ }
 {
     if x.start.0 == 0 {
         return l;
@@ -56,8 +59,12 @@ pub fn add_signs(
     h: Shape,
     n: usize,
 ) -> Lattice
-    requires { ⌜ ((es : List Edge) × Holds (now w) l es) × Offsets (now line) (now offs) × ((m : ℕ) × Ready (now line) (now table) h m) × AllGrounded (chars (now line)) (now table) (storedListAt (drop END (now w)) 0 n) × (END + n * SIZE ≤ length (now w)) ⌝ }
-    ensures { λ r. ⌜ SameBehind (now (w .entry)) (now (w .exit)) × ((es : List Edge) → Holds (now (w .entry)) l es → Holds (now (w .exit)) r (addAll es (signs (tableOf (now (table .entry)) h) (chars (now (line .entry))) (map (edgeOf (chars (now (line .entry))) (now (table .entry))) (storedListAt (drop END (now (w .entry))) 0 n))))) ⌝ }
+    requires { ⌜ ((es : List Edge) × Holds (now w) l es) × Offsets (now line) (now offs)
+        × ((m : ℕ) × Ready (now line) (now table) h m)
+        × AllGrounded (chars (now line)) (now table) (storedListAt (drop END (now w)) 0 n)
+        × (END + n * SIZE ≤ length (now w)) ⌝ }
+    ensures { λ r. ⌜ SameBehind (now (w .entry)) (now (w .exit)) × ((es : List Edge) → Holds (now (w .entry)) l es
+        → Holds (now (w .exit)) r (addAll es (signs (tableOf (now (table .entry)) h) (chars (now (line .entry))) (map (edgeOf (chars (now (line .entry))) (now (table .entry))) (storedListAt (drop END (now (w .entry))) 0 n))))) ⌝ }
 {
     let list = lattice::END;
     let mut grown = l;

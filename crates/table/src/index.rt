@@ -77,7 +77,8 @@ fn wide(x: u32) -> usize
 pub fn index_record(offs: &mut [u32], index: Index, all: usize, here: RecordRun) -> Index
     requires { ⌜ (index .due ≡ all - index .n * strideOf all) × (0 < here .left) × (length (now offs) ≡ indexSize) ⌝ }
     ensures next { λ r. ⌜ r .due ≡ all - r .n * strideOf all ⌝ }
-    ensures grows { λ r. ⌜ ((t : List ℕ) (rs : List Record) → Entry t rs (here .at) (here .left) → IndexGrowing t rs (now (offs .entry)) all index → IndexGrowing t rs (now (offs .exit)) all r) ⌝ }
+    ensures grows { λ r. ⌜ ((t : List ℕ) (rs : List Record) → Entry t rs (here .at) (here .left)
+        → IndexGrowing t rs (now (offs .entry)) all index → IndexGrowing t rs (now (offs .exit)) all r) ⌝ }
 {
     if here.left != index.due {
         return index;
@@ -101,7 +102,8 @@ fn nearest_entry(
     n: usize,
     c: u32,
 ) -> RecordRun
-    requires { ⌜ Whole (now table) (all .at) (all .left) × Indexed (now table) (recordsAt (all .left) (now table) (all .at)) (now offs) (all .left) n ⌝ }
+    requires { ⌜ Whole (now table) (all .at) (all .left)
+        × Indexed (now table) (recordsAt (all .left) (now table) (all .at)) (now offs) (all .left) n ⌝ }
     ensures { λ r. ⌜ RecordsAhead (now (table .entry)) (recordsAt (all .left) (now (table .entry)) (all .at)) c (r .at) (r .left) ⌝ }
 {
     let stride = stride_of(all.left);
@@ -132,7 +134,8 @@ pub fn find_char(
     n: usize,
     c: u32,
 ) -> CharRecord
-    requires { ⌜ Whole (now table) (all .at) (all .left) × Indexed (now table) (recordsAt (all .left) (now table) (all .at)) (now offs) (all .left) n ⌝ }
+    requires { ⌜ Whole (now table) (all .at) (all .left)
+        × Indexed (now table) (recordsAt (all .left) (now table) (all .at)) (now offs) (all .left) n ⌝ }
     ensures { λ r. ⌜ FoundIs (now (table .entry)) (recordsAt (all .left) (now (table .entry)) (all .at)) c r ⌝ }
 {
     let from = nearest_entry(table, all, offs, n, c);

@@ -58,7 +58,8 @@ fn numbers_here(s: &[u8], map: u8, at: usize) -> Numbers
 // The record at an offset.
 pub fn record_here(s: &[u8], at: usize) -> NumProp
     requires { ⌜ ((next : ℕ) × Stands (now s) at next) ⌝ }
-    ensures { λ r. ⌜ (Is (recordOf (now (s .entry)) r) (r .next) ≡ readRecord (now (s .entry)) at) × Inside (now (s .entry)) r ⌝ }
+    ensures { λ r. ⌜ (Is (recordOf (now (s .entry)) r) (r .next) ≡ readRecord (now (s .entry)) at)
+        × Inside (now (s .entry)) r ⌝ }
 {
     let map = s[at + 4];
     let num_type = part_if(s, at + 5, true);
