@@ -2,3 +2,4 @@
 pub mod Theorems
 pub mod First
 pub mod PathRead
+pub mod PathShorter

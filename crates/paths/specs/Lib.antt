@@ -5,5 +5,5 @@ pub mod Reading
 pub mod Shown
 pub mod Path
 pub mod Table
-
--- theorems: No definitions of its own.
+-- theorems: What the theorem on a path's length says.
+pub mod Shorter

@@ -2,7 +2,7 @@
 --     best-answers    the edge given is one of those asked for, of the longest span that has an edge to give, and of that span's best class
 --     best-first      it is the first of them in listing order
 --     first-best      and the first of them is given
---     best-none       none is given exactly where every edge asked for is one that is never given
+--     best-none       none is given exactly where every edge asked for is one that is never given: both ways
 --     read-edges      the edges that a call looks at are those of the listing, in its order
 --     shown-is        the part handed out for a place is the best right neighbour's txt, or the character's own bytes
 -- Assumes nothing.
@@ -32,7 +32,7 @@ use Rattle.paths.specs.declared.ReadCheck.the-variants as ReadCheck
 use Rattle.paths.specs.Best.{class, asked, score, Best, highest, firstOf, best, withOffsets, found}
 use Rattle.paths.specs.Reading.{readCheck}
 use Rattle.paths.specs.Shown.{shownBy, shown, shownPart}
-use Rattle.paths.proofs.BestLaws.{Each, each-map, each-append, OfBest, scored, bestFrom, best-walk, class-le, score-asks, score-never, score-asked}
+use Rattle.paths.proofs.BestLaws.{Each, each-map, each-append, OfBest, scored, bestFrom, best-walk, class-le, score-asks, score-never, score-asked, best-holds}
 use Rattle.paths.proofs.ReadingLaws.{Reads, reads, Listed, best-listed}
 use Rattle.paths.proofs.ShownLaws.{shown-inside}
 
@@ -158,12 +158,25 @@ module _ (skip : Bool) (q : Query) where
       by-class (yes c) = absurd (omega (arith, scores e a c))
       by-class (no c) = omega arith
 
-  pub best-none : (xs : List (ℕ × Edge)) → best skip q xs ≡ none → Each (λ y. asked q (y .1 .start) (y .1 .end) ≡ true → class skip (y .1) ≡ 0) xs
-  best-none xs e = by-end (best skip q xs) (ends-best skip q xs) e
+  abbrev pub NeverGiven : ℕ × Edge → Type 0
+  NeverGiven y = asked q (y .1 .start) (y .1 .end) ≡ true → class skip (y .1) ≡ 0
+
+  none-never : (xs : List (ℕ × Edge)) → best skip q xs ≡ none → Each NeverGiven xs
+  none-never xs e = by-end (best skip q xs) (ends-best skip q xs) e
     where
-      by-end : (b : Best) → Ends skip q none xs b → b ≡ none → Each (λ y. asked q (y .1 .start) (y .1 .end) ≡ true → class skip (y .1) ≡ 0) xs
+      by-end : (b : Best) → Ends skip q none xs b → b ≡ none → Each NeverGiven xs
       by-end b (stays h) e = each-map _ _ (λ y. no-class (y .1)) xs h
       by-end b (first y h i) e = let z : _≡_ {A = ℕ} 0 1 = cc in absurd (omega arith)
+
+  never-none : (xs : List (ℕ × Edge)) → Each NeverGiven xs → best skip q xs ≡ none
+  never-none xs h = by-best (best skip q xs) refl (best-holds skip q NeverGiven xs h)
+    where
+      by-best : (b : Best) → best skip q xs ≡ b → OfBest NeverGiven b → best skip q xs ≡ none
+      by-best none e n = e
+      by-best (some x) e n = let a = best-answers xs e in absurd (omega (arith, n (a .is-asked), a .given))
+
+  pub best-none : (xs : List (ℕ × Edge)) → (best skip q xs ≡ none → Each NeverGiven xs) × (Each NeverGiven xs → best skip q xs ≡ none)
+  best-none xs = (none-never xs, never-none xs)
 
 -- ---- the edges that are looked at
 offsets-edges : (k : ℕ) (s : List ℕ) (at : ℕ) → map (λ (x : ℕ × Edge). x .1) (withOffsets k s at) ≡ edgesAt k s at
