@@ -1,10 +1,8 @@
 // Refusals 4 and 5 of the whole table: the first faulty item decides, its layout (4) before its content (5).
 pub mod items; // items.rt: the strings of a list, and the records, whose index is made on the way
 
-ghost use mathlib.Core.Path.{_≡_};
-ghost use Rattle.table.specs.Check.{readTable};
-ghost use Rattle.table.specs.Answers.{tableAnswer};
 ghost use Rattle.table_check.specs.Indexed.{TableIndexed};
+ghost use Rattle.table_check.specs.Shape.{TableIs};
 use crate::items::list_end;
 use crate::items::records_end;
 use table::index::INDEX_SIZE;
@@ -14,7 +12,7 @@ use table::shape::TableCheck;
 
 // The table that the bytes are, or why they are none. The index over its records is left in offs, with so many entries.
 pub fn check_table(s: &[u8], offs: &mut [u32; INDEX_SIZE], entries: &mut usize) -> TableCheck
-    ensures { λ r. ⌜ tableAnswer (now (s .entry)) r ≡ readTable (now (s .entry)) ⌝ }
+    ensures { λ r. ⌜ TableIs (now (s .entry)) r ⌝ }
     ensures indexed { λ r. ⌜ TableIndexed (now (s .entry)) (now (offs .exit)) (now (entries .exit)) r ⌝ }
 {
     if s.len() < 2 {

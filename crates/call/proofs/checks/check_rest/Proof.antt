@@ -30,15 +30,15 @@ enum-known-count c = search needs
 
 returns : tie.Need-returns
 unfolding LentIndexed
-returns c = let k = c .before .before in (rest-table _ _ _ (k .before .before .check-table .ensures .0) (k .number .given .1) (c .table-refusal .ensures), tt)
+returns c = let k = c .before .before in (rest-table _ _ _ (k .before .before .check-table .ensures .0 .table) (k .number .given .1) (c .table-refusal .ensures), tt)
 
 returns-2 : tie.Need-returns-2
 unfolding LentIndexed
-returns-2 c = let l = c .before .before .before in let h = l .before .before in (rest-edges _ _ _ (h .before .before .check-table .ensures .0) (h .h .given .1) (l .check-listing .ensures .is) (c .before .at .given .1), tt)
+returns-2 c = let l = c .before .before .before in let h = l .before .before in (rest-edges _ _ _ (h .before .before .check-table .ensures .0 .table) (h .h .given .1) (l .check-listing .ensures .is) (c .before .at .given .1), tt)
 
 returns-3 : tie.Need-returns-3
 unfolding LentIndexed TableIndexed
-returns-3 c = let l = c .before .before .before in let h = l .before .before in (rest-sound _ _ _ (h .before .before .check-table .ensures .0) (h .h .given .1) (l .check-listing .ensures .is) (c .before .count .given .1), subst (TableIndexed _ _ _) (h .h .given .1) (h .before .before .check-table .ensures .1))
+returns-3 c = let l = c .before .before .before in let h = l .before .before in (rest-sound _ _ _ (h .before .before .check-table .ensures .0 .table) (h .h .given .1) (l .check-listing .ensures .is) (c .before .count .given .1), subst (TableIndexed _ _ _) (h .h .given .1) (h .before .before .check-table .ensures .1))
 
 pub check-rest-spec : {M : Type 1} → statement M
 check-rest-spec =
