@@ -1,5 +1,5 @@
 -- Laws of the pass list before D1 (`specs/Initial.antt`), for a loop over the line. No contract cites this file.
--- In order: the records by the table's count; what the table's check gives; the stored edge of a character; one character more, without and with a record; no character;
+-- In order: the records by the table's count; the stored edge of a character; what the table's check gives; one character more, without and with a record; no character;
 -- the end of the line.
 use mathlib.Core.Path.{_≡_, sym, ap, _∙_}
 use mathlib.Core.Bool.{true}
@@ -46,27 +46,27 @@ module _ (t : List ℕ) (h : Shape) (ok : readTable t ≡ Fine (tableOf t h) (le
   pub said-initial : (line : List ℕ) {s : List ℕ} {n : ℕ} → SoFar (chars line) t (recordsAt left t (h .records)) (length (chars line)) s n → Initial line t h s n
   said-initial line so = rw (← said-same) so
 
+-- ---- c stands at place k of the line; rs are records that may stand in the table's bytes t
+module _ (t : List ℕ) (rs : List Record) (lawful : Every (Lawful t) rs) (w : List ℕ) (scalars : Scalars w) (k c : ℕ) (inside : k < length w) (here : getD w k 0 ≡ c) where
+  pub lawful-grounded : (p : NumProp) (at : ℕ) → FoundAt t rs c p at → Grounded w t (charStored t p at k c)
+  lawful-grounded p at f =
+      let l = found-lawful rs c lawful (f .found) in
+      let legal = legal-parts (l .least) (recordOf t p) (l .legal) in
+      record {
+        made = char-made w t p at k c inside here (f .reads) scalars (legal .1);
+        small = char-small t p at k c (legal .0);
+        rooted = char-rooted t rs c p at (l .least) f (l .legal) (legal .0) k;
+      }
+
 -- ---- what the table's check gives
 module _ (t : List ℕ) (all : RecordRun) (ok : Records t all) where
   pub records-whole : Whole t (all .at) (all .left)
   records-whole = record { full = ok .full; rises = rw (← (ok .these)) (table-rises t (ok .checked)) }
 
-  each-lawful : Every Lawful (recordsIn t all)
-  each-lawful = rw (← (ok .these)) (table-told t (ok .checked) .lawful)
-
-  module _ (c : ℕ) (p : NumProp) (at : ℕ) (f : FoundAt t (recordsIn t all) c p at) where
-    legal : (legalNumbers (numbersIn (recordOf t p)) ≡ true) × (digitRule (recordOf t p) ≡ true)
-    legal = let l = found-lawful (recordsIn t all) c each-lawful (f .found) in legal-parts (l .0) (recordOf t p) (l .1)
-
-    found-rooted : (i : ℕ) → Rooted t (charStored t p at i c)
-    found-rooted i =
-        let l = found-lawful (recordsIn t all) c each-lawful (f .found) in
-        char-rooted t (recordsIn t all) c p at (l .0) f (l .1) (legal .0) i
-
   -- ---- c stands at place k of the line
   module _ (w : List ℕ) (scalars : Scalars w) (k c : ℕ) (inside : k < length w) (here : getD w k 0 ≡ c) where
     pub found-sound : (p : NumProp) (at : ℕ) → FoundAt t (recordsIn t all) c p at → Grounded w t (charStored t p at k c)
-    found-sound p at f = record { made = char-made w t p at k c inside here (f .reads) scalars (legal c p at f .1); small = char-small t p at k c (legal c p at f .0); rooted = found-rooted c p at f k }
+    found-sound = lawful-grounded t (recordsIn t all) (rw (← (ok .these)) (table-told t (ok .checked) .lawful)) w scalars k c inside here
 
     -- ---- a turn: s begins with the n stored edges of the characters before place k
     module _ (n : ℕ) (s : List ℕ) (so : SoFar w t (recordsIn t all) k s n) where

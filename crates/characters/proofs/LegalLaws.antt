@@ -1,5 +1,5 @@
 -- What the table's check (dicts/specs/Check.antt) says of each record, and so of the one that is found for a character. No contract cites this file.
--- In order: one item; the records one by one; the table and its count; a count that is too high; the record of a character.
+-- In order: the records one by one; the table and its count; a count that is too high; the record of a character.
 use mathlib.Core.Path.{_≡_, refl, sym, ap, _∙_}
 use mathlib.Core.Bool.{Bool, true, false, cond}
 use mathlib.Core.List.{List, [], _∷_}
@@ -14,23 +14,19 @@ use Rattle.table.specs.Table.{Text, Record, Table, find}
 use Rattle.table.specs.Layout.{Field, Is, Fault, onField, number, readRecord, manyAt, recordsAt}
 use Rattle.table.specs.Check.{Fine, Refused, item, legalRecord, readList, readRecords, readTable}
 use Rattle.table.proofs.LayoutLaws.{number-is, number-cut}
-use Rattle.table.proofs.LookupLaws.{then-fine}
+use Rattle.table.proofs.LookupLaws.{item-fine, then-fine}
 use Rattle.pass_list.specs.StoredEdge.{Every, nil, cons}
 
-abbrev pub Lawful : Record → Type 0
-Lawful r = (least : ℕ) × (legalRecord least r ≡ true)
-
-item-legal : {A : Type 0} (at : ℕ) (legal : A → Bool) (f : Field A) {a : A} {next : ℕ} → item at legal f ≡ Fine a next → legal a ≡ true
-unfolding item
-item-legal at legal Fault e = let z : _≡_ {A = ℕ} 0 1 = cc in absurd (omega arith)
-item-legal at legal (Is b m) {a} {next} e = go (legal b) refl e
-  where
-    go : (t : Bool) → legal b ≡ t → cond t (Fine b m) (Refused 5 at) ≡ Fine a next → legal a ≡ true
-    go true t f = let q : b ≡ a = cc in ap legal (sym q) ∙ t
-    go false t f = let z : _≡_ {A = ℕ} 0 1 = cc in absurd (omega arith)
+-- the record r stands in the table's bytes s, and may
+pub record Lawful (s : List ℕ) (r : Record) : Type 0 where
+  pub at : ℕ
+  pub next : ℕ
+  pub reads : readRecord s at ≡ Is r next
+  pub least : ℕ
+  pub legal : legalRecord least r ≡ true
 
 -- records that were read: each is lawful, and there are as many as were asked for
-records-told : (n least : ℕ) (s : List ℕ) (at : ℕ) {rs : List Record} {end : ℕ} → readRecords n least s at ≡ Fine rs end → Every Lawful rs × (length rs ≡ n)
+records-told : (n least : ℕ) (s : List ℕ) (at : ℕ) {rs : List Record} {end : ℕ} → readRecords n least s at ≡ Fine rs end → Every (Lawful s) rs × (length rs ≡ n)
 unfolding readRecords
 records-told zero least s at {rs} e = let q : [] ≡ rs = cc in rw (← q) (nil, refl)
 records-told (suc n) least s at {rs} e =
@@ -39,7 +35,8 @@ records-told (suc n) least s at {rs} e =
     let more = then-fine (readRecords n (r .code-point + 1) s (one .next)) _ (one .rest) in
     let q : r ∷ more .value ≡ rs = cc in
     let told = records-told n (r .code-point + 1) s (one .next) (more .first) in
-    rw (← q) (cons (least, item-legal at (legalRecord least) (readRecord s at) (one .first)) (told .0), ap suc (told .1))
+    let here = item-fine at (legalRecord least) (readRecord s at) (one .first) in
+    rw (← q) (cons (record { at = at; next = one .next; reads = here .0; least = least; legal = here .1 }) (told .0), ap suc (told .1))
 
 -- a table begins with the count of its records
 head-told : (s : List ℕ) {n next : ℕ} → item 0 (λ n. true) (number 2 s 0) ≡ Fine n next → (2 ≤ length s) × (n ≡ leAt s 0 2)
@@ -52,7 +49,7 @@ head-told s {n} {next} e = go (decLe 2 (length s))
 
 pub record Told (s : List ℕ) (rs : List Record) : Type 0 where
   pub long : 2 ≤ length s
-  pub lawful : Every Lawful rs
+  pub lawful : Every (Lawful s) rs
   pub counted : length rs ≡ leAt s 0 2
 
 pub table-told : (s : List ℕ) {t : Table} {end : ℕ} → readTable s ≡ Fine t end → Told s (t .records)
@@ -84,11 +81,11 @@ records-first (suc n) s at = go (λ next. records-first n s next) (readRecord s 
     go behind (Is r next) e = rw e (ap (λ (l : List Record). r ∷ l) (behind next))
     go behind Fault e = refl
 
-pub found-lawful : (rs : List Record) (c : ℕ) {r : Record} → Every Lawful rs → find rs c ≡ some r → Lawful r
+pub found-lawful : {s : List ℕ} (rs : List Record) (c : ℕ) {r : Record} → Every (Lawful s) rs → find rs c ≡ some r → Lawful s r
 unfolding find
 found-lawful [] c h e = let z : _≡_ {A = ℕ} 0 1 = cc in absurd (omega arith)
-found-lawful (x ∷ rs) c {r} (cons p h) e = go (λ f. found-lawful rs c h f) (eqb (x .code-point) c) e
+found-lawful {s} (x ∷ rs) c {r} (cons p h) e = go (λ f. found-lawful rs c h f) (eqb (x .code-point) c) e
   where
-    go : (find rs c ≡ some r → Lawful r) → (b : Bool) → cond b (some x) (find rs c) ≡ some r → Lawful r
+    go : (find rs c ≡ some r → Lawful s r) → (b : Bool) → cond b (some x) (find rs c) ≡ some r → Lawful s r
     go more true f = let q : x ≡ r = cc in rw (← q) p
     go more false f = more f

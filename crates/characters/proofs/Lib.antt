@@ -3,4 +3,5 @@ pub mod CharLaws
 pub mod LegalLaws
 pub mod RootLaws
 pub mod InitialLaws
+pub mod FirstLaws
 pub mod Theorems

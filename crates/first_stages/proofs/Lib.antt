@@ -1,2 +1,3 @@
 -- The proofs of `first_stages`.
+pub mod PassedLaws
 pub mod StageLaws

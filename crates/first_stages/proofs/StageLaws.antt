@@ -14,7 +14,7 @@ use Rattle.table.specs.declared.shape.Shape.{Shape}
 use Rattle.passes.specs.NumEdge.{NumEdge}
 use Rattle.passes.specs.Characters.{firstList}
 use Rattle.passes.specs.Passes.{five, joinedEdges}
-use Rattle.pass_list.specs.StoredEdge.{StoredEdge, nil}
+use Rattle.pass_list.specs.StoredEdge.{StoredEdge}
 use Rattle.pass_list.specs.Edges.{edgeOf}
 use Rattle.pass_list.specs.InTurn.{addedBy}
 use Rattle.edge.specs.Edge.{Edge}
@@ -27,12 +27,10 @@ use Rattle.lattice.specs.Kept.{Holds, END}
 use Rattle.lattice.proofs.HoldsLaws.{add-all-append}
 use Rattle.numbers.specs.Ready.{Ready}
 use Rattle.numbers.specs.CallEdge.{CallEdges}
-use Rattle.numbers.proofs.stages.CallLaws.{add-all-call}
-use Rattle.pass_edge.specs.Grounded.{AllGrounded}
-use Rattle.pass_edge.proofs.theorems.Theorems.{stored-edges-call}
 use Rattle.characters.specs.Initial.{Initial}
 use Rattle.characters.proofs.Theorems.{initial-five}
 use Rattle.first_stages.proofs.given.GivenLaws.{given-call}
+use Rattle.first_stages.proofs.PassedLaws.{after-passes-call}
 use Rattle.first_stages.specs.declared.five_passes.PassesAnswer.{PassesAnswer}
 use Rattle.first_stages.specs.declared.five_passes.PassesAnswer.the-variants.{Added, Above}
 use Rattle.first_stages.specs.Five.{listedStored, behind, FivePasses}
@@ -70,23 +68,23 @@ module _ (line t : List ℕ) (h : Shape) (given : List ℕ) {n count : ℕ} (rea
   given-edges : CallEdges (length w) (listed given)
   given-edges = rw (ready .count) (given-call n given bytes count legal)
 
-  pub call-done : (u : List ℕ) (m : Lattice) (k : ℕ) → Holds s (r .lattice) (addAll (addAll [] (listed given)) (listedStored w t first)) → AllGrounded w t first
+  pub call-done : (u : List ℕ) (m : Lattice) (k : ℕ) → Holds s (r .lattice) (addAll (addAll [] (listed given)) (listedStored w t first))
       → FivePasses w t s (r .lattice) (r .count) u (Added m k) → CallPassed line t h given u (Added m k)
   unfolding FivePasses CallPassed afterPasses
-  call-done u m k q sounds f =
+  call-done u m k q f =
       let a = initial-five line t h (drop END s) (r .count) i in
+      let below = sym (a .above) ∙ f .below in
       let e = in-a-row (addAll [] (listed given)) in
       record {
-        above = sym (a .above) ∙ f .below;
+        above = below;
         holds = subst (Holds u m) e (f .holds (addAll (addAll [] (listed given)) (listedStored w t first)) q);
-        call = subst (CallEdges (length w)) e
-            (add-all-call (add-all-call (add-all-call nil given-edges) (stored-edges-call w t (chars-scalars line) few-chars first sounds)) (stored-edges-call w t (chars-scalars line) few-chars (addedBy five first) (f .joined)));
+        call = after-passes-call t table (ready .checked) w (chars-scalars line) few-chars below (listed given) given-edges;
         fifth = ap (map (edgeOf w t)) (f .list) ∙ a .fifth;
         sounds = f .sounds;
         few = f .few;
       }
 
-  pub call-passed : (u : List ℕ) (x : PassesAnswer) → Holds s (r .lattice) (addAll (addAll [] (listed given)) (listedStored w t first)) → AllGrounded w t first
+  pub call-passed : (u : List ℕ) (x : PassesAnswer) → Holds s (r .lattice) (addAll (addAll [] (listed given)) (listedStored w t first))
       → FivePasses w t s (r .lattice) (r .count) u x → CallPassed line t h given u x
-  call-passed u (Above p) q sounds f = call-above u p f
-  call-passed u (Added m k) q sounds f = call-done u m k q sounds f
+  call-passed u (Above p) q f = call-above u p f
+  call-passed u (Added m k) q f = call-done u m k q f

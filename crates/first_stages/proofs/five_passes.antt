@@ -1,6 +1,7 @@
 -- The proofs of `five`.
 pub mod FrontLaws
 pub mod RootLaws
+pub mod GroundLaws
 pub mod KeptLaws
 pub mod FiveLaws
 pub mod JoinedLaws

@@ -42,7 +42,6 @@ pub record OneDone (w t : List ℕ) (i : ℕ) (s : List ℕ) (l : Lattice) (n : 
   pub below : firstAbove (added (nth i) (behind s n)) ≡ none
   pub list : behind u k ≡ after (nth i) (behind s n)
   pub next : PassList w t (suc (suc i)) u k
-  pub joined : AllGrounded w t (added (nth i) (behind s n))
   pub holds : (es : List Edge) → Holds s l es → Holds u m (addAll es (listedStored w t (added (nth i) (behind s n))))
 
 unfoldable pub OnePass : List ℕ → List ℕ → ℕ → List ℕ → Lattice → ℕ → List ℕ → PassesAnswer → Type 0
@@ -54,7 +53,6 @@ pub record FiveDone (w t s : List ℕ) (l : Lattice) (n : ℕ) (u : List ℕ) (m
   pub list : behind u k ≡ through five (behind s n)
   pub sounds : AllGrounded w t (behind u k)
   pub few : k ≤ maxChars
-  pub joined : AllGrounded w t (addedBy five (behind s n))
   pub holds : (es : List Edge) → Holds s l es → Holds u m (addAll es (listedStored w t (addedBy five (behind s n))))
 
 unfoldable pub FivePasses : List ℕ → List ℕ → List ℕ → Lattice → ℕ → List ℕ → PassesAnswer → Type 0

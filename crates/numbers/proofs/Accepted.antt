@@ -1,17 +1,15 @@
 -- What a call that answers a listing says of its line, and what a call answers that gets past the checks 1 to 6. Laws for theorems on the call, of any table and given edges.
 -- In order: answers; a call that answers a listing; a call that gets past the checks 1 to 6.
 use Prim.Native.Nat.{ℕ, _≤_}
-use mathlib.Core.Path.{_≡_, refl}
+use mathlib.Core.Path.{_≡_, refl, subst}
 use mathlib.Core.Bool.{Bool, true, false, cond, _||_}
 use mathlib.Core.List.{List, [], _∷_}
 use mathlib.Core.Option.{Option, none, some}
-use lib.Dec.{ltb, leb, eqb}
+use lib.Dec.{ltb, eqb}
 use lib.ListN.{length}
 use borrow.Author.Tests.{le-leb, le-ltb}
-use Rattle.text.specs.declared.LineCheck.the-variants.{Chars, IllFormed, TooLong}
-use Rattle.text.specs.declared.Offset.{Offset}
-use Rattle.text.specs.Text.{chars, wellFormed, offsetOf, illAt}
-use Rattle.text.specs.Line.{lineCheck, maxChars}
+use Rattle.text.specs.Text.{chars, wellFormed}
+use Rattle.text.specs.Line.{maxChars}
 use Rattle.fields.specs.Fields.{le, leAt}
 use Rattle.fields.specs.Part.{part}
 use Rattle.table.specs.Table.{Table}
@@ -19,20 +17,16 @@ use Rattle.table.specs.Check.{Fine, readTable}
 use Rattle.edge.specs.Edge.{Edge, listingBytes}
 use Rattle.edge.specs.Layout.{listed, edgesAt}
 use Rattle.edge.specs.Check.{checkListing, checkEdges}
-use Rattle.edge.specs.declared.ListingCheck.{ListingCheck}
 use Rattle.edge.specs.declared.ListingCheck.the-variants as ListingCheck
 use Rattle.passes.specs.Passes.{aboveAt}
 use Rattle.lattice.specs.Lattice.{overfull}
-use Rattle.numbers.specs.Call.{Answer, listing, refused, addNumbers, afterLineCheck, afterTableCheck, afterEdgesCheck, afterChecks, unlessAbove, finished, latticeOf, noEdges}
+use Rattle.numbers.specs.Call.{Answer, listing, refused, addNumbers, afterChecks, unlessAbove, finished, latticeOf, noEdges}
+use Rattle.numbers.proofs.Passed.{call-passed}
 
 -- the answer is a listing
 abbrev pub Listed : Answer → Type 0
 Listed (listing bytes) = Unit {0}
 Listed (refused number at) = ⊥
-
-above : (o : Option ℕ) (a : Answer) → Listed (unlessAbove o a) → o ≡ none
-above none a h = refl
-above (some p) a h = absurd h
 
 -- the place of refusal 7, where the answer is that
 abbrev pub sevenAt : Answer → Option ℕ
@@ -57,29 +51,17 @@ none-listed = refl
 
 -- the table's bytes, and the table that they say
 module _ (table : List ℕ) (t : Table) (at : ℕ) (reads : readTable table ≡ Fine t at) where
-  given-accepted : (w given : List ℕ) (out : ℕ) (c : ListingCheck) → Listed (afterEdgesCheck t w out given c) → aboveAt t w ≡ none
-  unfolding afterChecks
-  given-accepted w given out (ListingCheck.Refused at) h = absurd h
-  given-accepted w given out (ListingCheck.Edges n) h = above (aboveAt t w) _ h
-
-  table-accepted : (w given : List ℕ) (out : ℕ) → Listed (afterTableCheck w out given (readTable table)) → aboveAt t w ≡ none
-  table-accepted w given out h = given-accepted w given out (checkListing true (length w) given) (rw reads at h)
-
-  line-accepted : (line given : List ℕ) (out n : ℕ) (at long : Offset) (ok fits : Bool) → wellFormed line ≡ ok
-      → Listed (afterLineCheck line table given out (cond ok (cond fits (Chars n) (TooLong long)) (IllFormed at)))
-      → (wellFormed line ≡ true) × (aboveAt t (chars line) ≡ none)
-  line-accepted line given out n at long true true e h = (e, table-accepted (chars line) given out h)
-  line-accepted line given out n at long true false e h = absurd h
-  line-accepted line given out n at long false fits e h = absurd h
-
   -- an accepted line is well-formed, and refusal 7 has no place in it
   pub accepted : (line given : List ℕ) (work out : ℕ) → Listed (addNumbers line table given work out) → (wellFormed line ≡ true) × (aboveAt t (chars line) ≡ none)
-  unfolding addNumbers
-  accepted line given work out h = go (ltb work 65536) h
+  accepted line given work out h = go (addNumbers line table given work out) refl h
     where
-      go : (short : Bool) → Listed (cond short (refused 1 0) (afterLineCheck line table given out (lineCheck line))) → (wellFormed line ≡ true) × (aboveAt t (chars line) ≡ none)
-      go true h = absurd h
-      go false h = line-accepted line given out (length (chars line)) (record { 0 = illAt line }) (record { 0 = offsetOf line maxChars }) (wellFormed line) (leb (length (chars line)) maxChars) refl h
+      go : (a : Answer) → addNumbers line table given work out ≡ a → Listed a → (wellFormed line ≡ true) × (aboveAt t (chars line) ≡ none)
+      go (listing bytes) e h =
+          let p = call-passed line table given out bytes work e in
+          let r = p .reads in
+          let is : p .t ≡ t = cc in
+          (p .well-formed, subst (λ (x : Table). aboveAt x (chars line) ≡ none) is (p .below))
+      go (refused number place) e h = absurd h
 
   -- ---- a call that gets past the checks of work space, line and table, with no edges given
   pub checked : (line : List ℕ) (work out : ℕ) → 65536 ≤ work → wellFormed line ≡ true → length (chars line) ≤ maxChars

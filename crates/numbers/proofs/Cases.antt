@@ -33,7 +33,7 @@ use Rattle.numbers.specs.Fractions.{standsAt, longest, markerAt, fractio
 use Rattle.numbers.specs.Signs.{signed, signs}
 use Rattle.numbers.specs.Separators.{endsBefore, apart, copyOf, copies, separate}
 use Rattle.numbers.specs.Fallback.{covered, fallback}
-use Rattle.numbers.specs.Call.{listing, refused, afterPasses, afterSigns, latticeOf, afterChecks, addNumbers}
+use Rattle.numbers.specs.Call.{noEdges, listing, refused, afterPasses, afterSigns, latticeOf, afterChecks, addNumbers}
 
 -- what the program prints of an edge: start, end, type, txt, and whether it is active, none for a regular one
 abbrev row : Edge → ℕ × ℕ × Text × Text × Option Bool
@@ -66,10 +66,6 @@ surrogate = 1 ∷ 0 ∷ 0 ∷ 0 ∷ 0 ∷ 0 ∷ 0x00 ∷ 0xD8 ∷ 0 ∷ 0 ∷ 0 
 -- a table of one record, for the digit 9: type "digit", rom "9", value 9
 abbrev onlyNine : List ℕ
 onlyNine = 1 ∷ 0 ∷ 0 ∷ 0 ∷ 0 ∷ 0 ∷ 57 ∷ 0 ∷ 0 ∷ 0 ∷ 3 ∷ 5 ∷ 100 ∷ 105 ∷ 103 ∷ 105 ∷ 116 ∷ 1 ∷ 57 ∷ 9 ∷ 0 ∷ 0 ∷ 0 ∷ 0 ∷ 0 ∷ 0 ∷ 0 ∷ []
-
--- a listing without edges
-abbrev noEdges : List ℕ
-noEdges = 0 ∷ 0 ∷ []
 
 -- each check against the next: a call with both faults is refused by the first, and without that fault by the second
 pub order :

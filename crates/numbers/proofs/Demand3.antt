@@ -1,5 +1,5 @@
 -- Demand 3 (00) for the call: a line of the sixteen characters, read with the plain table's bytes, whatever edges are given; where the call answers a listing, what
--- `grammar` shows of the list after the fifth pass holds of the list that the call's definition uses. Assumes nothing.
+-- `grammar` shows of the list after the fifth pass holds of the list that the call's definition uses. Of the answered bytes themselves: `finished`. Assumes nothing.
 use Prim.Native.Nat.{ℕ}
 use mathlib.Core.Path.{_≡_, refl, ap}
 use mathlib.Core.Bool.{false}

@@ -17,8 +17,7 @@ use Rattle.pass_list.specs.StoredEdge.{StoredEdge, Every, AllSmall, nil, cons}
 use Rattle.pass_list.specs.StoredPass.{kindOf, after, added, firstAbove}
 use Rattle.pass_list.specs.Stored.{storedListAt}
 use Rattle.pass_list.specs.Answers.{passed, PassedIs}
-use Rattle.pass_list.specs.Edges.{edgeOf, WellMade}
-use Rattle.pass_list.proofs.in_turn.Simulation.{after-made}
+use Rattle.pass_list.specs.Edges.{edgeOf}
 use Rattle.pass_list.proofs.StoredLaws.{length-stored-edges}
 use Rattle.pass_list.specs.InTurn.{through, addedBy, ofKind}
 use Rattle.pass_list.proofs.in_turn.InTurnLaws.{above-here, above-later}
@@ -38,7 +37,8 @@ use Rattle.first_stages.specs.declared.five_passes.PassesAnswer.the-vari
 use Rattle.first_stages.specs.Five.{listedStored, behind, PassList, OneDone, OnePass, FiveDone, FivePasses}
 use Rattle.first_stages.proofs.five_passes.FrontLaws.{holds-front}
 use Rattle.first_stages.proofs.five_passes.KeptLaws.{added-none}
-use Rattle.first_stages.proofs.five_passes.RootLaws.{after-rooted, every-of-kind, sounds-of, sounds-made, sounds-small, sounds-rooted}
+use Rattle.first_stages.proofs.five_passes.RootLaws.{sounds-small}
+use Rattle.first_stages.proofs.five_passes.GroundLaws.{after-grounded}
 
 -- ---- the i-th pass
 nth-first : (i : ℕ) → i < 5 → drop i five ≡ nth i ∷ drop (i + 1) five
@@ -85,7 +85,7 @@ module _ {w t : List ℕ} {i : ℕ} {s : List ℕ} {n : ℕ} (scalars : Scalars 
       few-left = let f = p .fewer (not-above .0) in let l = length-stored-edges (drop END s) 0 n in let g = not-above .1 in omega arith
 
       pub pass-sounds : AllGrounded w t (behind v k)
-      pass-sounds = rw after-is (sounds-of (after-made w t scalars (nth i) (behind s n) (sounds-made (q .sounds))) (p .small (not-above .0)) (after-rooted t (nth i) (behind s n) (sounds-rooted (q .sounds))))
+      pass-sounds = rw after-is (after-grounded w t scalars (nth i) (behind s n) (q .sounds) (not-above .0))
 
       pub pass-few : k ≤ 256
       pass-few = let f = few-left in let g = q .few in omega arith
@@ -110,7 +110,6 @@ module _ {w t : List ℕ} {i : ℕ} {s : List ℕ} {n : ℕ} (scalars : Scalars 
             below = not-above .0;
             list = same ∙ after-is;
             next = record { sounds = rw same pass-sounds; kinds = rw (same, after-is) kinds-after; few = pass-few };
-            joined = rw (added-of-kind (nth i) (behind s n) earlier) (every-of-kind (kindOf (nth i)) (rw after-is at pass-sounds));
             holds = λ es x. rw (← new-stored-edges) (g es (holds-front s v front long x));
           }
 
@@ -131,12 +130,11 @@ pub record Going (w t s : List ℕ) (l : Lattice) (n : ℕ) (u : List ℕ) (m : 
   pub list : PassList w t (suc i) u k
   pub above : firstAbove (addedBy five (behind s n)) ≡ firstAbove (addedBy (drop i five) (behind u k))
   pub after : through five (behind s n) ≡ through (drop i five) (behind u k)
-  pub joined : AllGrounded w t (addedBy (drop i five) (behind u k)) → AllGrounded w t (addedBy five (behind s n))
   pub holds : (es : List Edge) → Holds s l es
       → (ds : List Edge) × Holds u m ds × (addAll ds (listedStored w t (addedBy (drop i five) (behind u k))) ≡ addAll es (listedStored w t (addedBy five (behind s n))))
 
 pub going-start : {w t s : List ℕ} {l : Lattice} {n : ℕ} → PassList w t 1 s n → Going w t s l n s l n 0
-going-start q = record { long = refl; list = q; above = refl; after = refl; joined = λ x. x; holds = λ es x. (es, x, refl) }
+going-start q = record { long = refl; list = q; above = refl; after = refl; holds = λ es x. (es, x, refl) }
 
 module _ {w t s : List ℕ} {l : Lattice} {n : ℕ} {u : List ℕ} {m : Lattice} {k i : ℕ} (g : Going w t s l n u m k i) where
   pub going-above : i < 5 → (v : List ℕ) (a : Place) (x : List ℕ) → OnePass w t i u m k v (Above a) → FivePasses w t s l n x (Above a)
@@ -156,8 +154,6 @@ module _ {w t s : List ℕ} {l : Lattice} {n : ℕ} {u : List ℕ} {m : Lattice}
         above = g .above ∙ ap (λ (ps : List Pass). firstAbove (addedBy ps (behind u k))) (nth-first i h)
             ∙ above-later (nth i) (drop (i + 1) five) (behind u k) (o .below) ∙ ap (λ (z : List StoredEdge). firstAbove (addedBy (drop (i + 1) five) z)) (sym (o .list));
         after = g .after ∙ ap (λ (ps : List Pass). through ps (behind u k)) (nth-first i h) ∙ ap (through (drop (i + 1) five)) (sym (o .list));
-        joined = λ x. g .joined (subst (λ (ps : List Pass). AllGrounded w t (addedBy ps (behind u k))) (sym (nth-first i h))
-            (every-append (Grounded w t) (added (nth i) (behind u k)) (addedBy (drop (i + 1) five) (after (nth i) (behind u k))) (o .joined) (subst (λ (z : List StoredEdge). AllGrounded w t (addedBy (drop (i + 1) five) z)) (o .list) x)));
         holds = λ es x.
             let d = g .holds es x in (
               addAll (d .0) (listedStored w t (added (nth i) (behind u k))),
@@ -175,7 +171,6 @@ module _ {w t s : List ℕ} {l : Lattice} {n : ℕ} {u : List ℕ} {m : Lattice}
         list = sym (rw z at (g .after));
         sounds = g .list .sounds;
         few = g .list .few;
-        joined = (rw z at (g .joined)) nil;
         holds = λ es x.
             let d = g .holds es x in
             let e : d .0 ≡ addAll es (listedStored w t (addedBy five (behind s n))) = rw z at (d .2) in

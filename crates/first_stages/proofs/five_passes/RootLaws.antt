@@ -6,15 +6,11 @@ use mathlib.Core.List.{List, [], _∷_}
 use mathlib.Core.Option.{none, some, Option·some-injective, Option·some-ne-none}
 use Prim.Native.Nat.{ℕ}
 use native.Mathlib.Omega.{arith}
-use lib.Dec.{eqb}
 use Rattle.passes.specs.Passes.{Pass, D1, G1, G2, G3, G4}
 use Rattle.pass_list.specs.StoredEdge.{StoredEdge, Every, AllSmall, nil, cons}
 use Rattle.pass_list.specs.StoredPass.{StoredChain, kindOf, begin, joins, longer, over, counted, withNumbers, retags, retagged, joinedValue, next, chainsOf, edgesOf, after}
 use Rattle.pass_list.specs.Edges.{WellMade}
-use Rattle.pass_list.proofs.in_turn.KindLaws.{map-same}
-use Rattle.pass_list.proofs.in_turn.Simulation.{Agrees, chains-sound}
-use Rattle.pass_list.specs.InTurn.{ofKind}
-use Rattle.pass_list.specs.Kind.{kindNumber}
+use Rattle.pass_list.proofs.in_turn.Simulation.{chains-every}
 use Rattle.pass_edge.specs.Grounded.{ScriptAt, Rooted, AllGrounded}
 
 module _ (t : List ℕ) where
@@ -65,32 +61,15 @@ module _ (t : List ℕ) where
       go true e = subst RootedChain (Option·some-injective (longer p c x) d e) (longer-rooted p c x h)
       go false e = absurd (Option·some-ne-none d (sym e))
 
-  roots-agree : (p : Pass) → Agrees begin (next p) begin (next p) (λ x. x) (λ c. c) (Rooted t) RootedChain
-  roots-agree p = record {
-    begins = λ x h. refl;
-    sound = begin-rooted;
-    steps = λ c x k h. map-same (next p c x);
-    stays = λ c x d k h e. next-rooted p c x d h e;
-  }
-
   edges-rooted : (cs : List StoredChain) → Every RootedChain cs → Every (Rooted t) (edgesOf cs)
   edges-rooted [] nil = nil
   edges-rooted (c ∷ cs) (cons r h) = cons r (edges-rooted cs h)
 
   pub after-rooted : (p : Pass) (l : List StoredEdge) → Every (Rooted t) l → Every (Rooted t) (after p l)
   unfolding after chainsOf
-  after-rooted p l h = edges-rooted (chainsOf p l) (chains-sound begin (next p) begin (next p) (λ x. x) (λ c. c) (Rooted t) RootedChain (roots-agree p) l h)
+  after-rooted p l h = edges-rooted (chainsOf p l) (chains-every begin (next p) (Rooted t) RootedChain begin-rooted (λ c x d k h e. next-rooted p c x d h e) l h)
 
 -- ---- sound stored edges
-pub every-of-kind : {P : StoredEdge → Type 0} (k : ℕ) {l : List StoredEdge} → Every P l → Every P (ofKind k l)
-unfolding ofKind
-every-of-kind k {l = []} nil = nil
-every-of-kind {P} k {l = x ∷ l} (cons p h) = go (eqb (kindNumber (x .kind)) k) (every-of-kind k h)
-  where
-    go : (b : Bool) → Every P (ofKind k l) → Every P (cond b (x ∷ ofKind k l) (ofKind k l))
-    go true r = cons p r
-    go false r = r
-
 module _ {w t : List ℕ} where
   pub sounds-of : {l : List StoredEdge} → Every (WellMade w t) l → AllSmall l → Every (Rooted t) l → AllGrounded w t l
   sounds-of {l = []} nil nil nil = nil

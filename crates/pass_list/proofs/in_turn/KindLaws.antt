@@ -5,19 +5,15 @@ use native.Mathlib.Omega.{arith}
 use mathlib.Core.Path.{_≡_, refl, sym, ap, subst}
 use mathlib.Core.Bool.{Bool, true, false, cond, true≢false, false≢true}
 use mathlib.Core.List.{List, [], _∷_}
-use mathlib.Core.Option.{Option, none, some, Option·map, Option·some-injective, Option·some-ne-none}
+use mathlib.Core.Option.{none, some, Option·some-injective, Option·some-ne-none}
 use lib.Dec.{eqb}
 use borrow.Author.Tests.{eq-eqb, ne-eqb}
 use Rattle.passes.specs.Passes.{Pass}
 use Rattle.pass_list.specs.StoredEdge.{StoredEdge, Every, nil, cons}
 use Rattle.pass_list.specs.StoredPass.{StoredChain, kindOf, begin, joins, longer, over, next, chainsOf, edgesOf, joinedOf, after, added}
-use Rattle.pass_list.proofs.in_turn.Simulation.{Agrees, chains-sound}
+use Rattle.pass_list.proofs.in_turn.Simulation.{chains-every}
 use Rattle.pass_list.specs.InTurn.{ofKind}
 use Rattle.pass_list.specs.Kind.{kindNumber}
-
-pub map-same : {A : Type 0} (o : Option A) → o ≡ Option·map (λ a. a) o
-map-same none = refl
-map-same (some a) = refl
 
 module _ (p : Pass) where
   abbrev pub Earlier : StoredEdge → Type 0
@@ -43,18 +39,9 @@ module _ (p : Pass) where
       go true e = subst ChainKind (Option·some-injective (longer p c x) d e) (longer-kind c x)
       go false e = absurd (Option·some-ne-none d (sym e))
 
-  -- the law of chains, with each list as it is
-  kinds-agree : Agrees begin (next p) begin (next p) (λ x. x) (λ c. c) Earlier ChainKind
-  kinds-agree = record {
-    begins = λ x h. refl;
-    sound = begin-kind;
-    steps = λ c x k h. map-same (next p c x);
-    stays = λ c x d k h e. next-kind c x d e;
-  }
-
   chains-kind : (l : List StoredEdge) → Every Earlier l → Every ChainKind (chainsOf p l)
   unfolding chainsOf
-  chains-kind = chains-sound begin (next p) begin (next p) (λ x. x) (λ c. c) Earlier ChainKind kinds-agree
+  chains-kind = chains-every begin (next p) Earlier ChainKind begin-kind (λ c x d k h e. next-kind c x d e)
 
   -- ---- the joined stored edges
   joined-of-kind : (cs : List StoredChain) → Every ChainKind cs → joinedOf cs ≡ ofKind (kindOf p) (edgesOf cs)

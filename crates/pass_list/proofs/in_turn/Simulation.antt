@@ -1,5 +1,5 @@
 -- The passes on stored edges are the passes on the edges that the stored edges stand for (`pass_list`, specs/Edges.antt), for any line of scalar values and any table's bytes.
--- In order: one generic law of chains; numbers that may be absent; texts; the rules; the joined edges; one step; whole lists.
+-- In order: one generic law of chains; what holds of every chain; numbers that may be absent; texts; the rules; the joined edges; one step; whole lists.
 -- No contract cites this file.
 -- Assumes nothing.
 use mathlib.Core.Path.{_≡_, refl, sym, ap, _∙_, subst}
@@ -70,6 +70,16 @@ module _ {A S B T : Type 0} (begin₁ : A → S) (next₁ : S → A → Option S
     unfolding chains
     chains-sound [] nil = nil
     chains-sound (a ∷ l) (cons m r) = from-sound (begin₁ a) l (agrees .sound a m) r
+
+-- ---- what holds of each element as it begins a chain, and of each chain that takes another element, holds of every chain
+map-same : {A : Type 0} (o : Option A) → o ≡ Option·map (λ a. a) o
+map-same none = refl
+map-same (some a) = refl
+
+pub chains-every : {A S : Type 0} (begin : A → S) (next : S → A → Option S) (Q : A → Type 0) (R : S → Type 0) → ((a : A) → Q a → R (begin a))
+    → ((c : S) (a : A) (d : S) → R c → Q a → next c a ≡ some d → R d) → (l : List A) → Every Q l → Every R (chains begin next l)
+chains-every begin next Q R first more l h =
+    chains-sound begin next begin next (λ a. a) (λ c. c) Q R (record { begins = λ a q. refl; sound = first; steps = λ c a r q. map-same (next c a); stays = more }) l h
 
 -- ---- numbers that may be absent, and tests
 zero-or : (b : Bool) (v : ℕ) → (b ≡ false → v ≡ 0) → orZero (optionally b v) ≡ v
