@@ -3,6 +3,7 @@
 // contracts are in specs/LineRows.antt.
 pub mod read; // read.rt: a line from standard input
 
+ghost use Prim.Native.Nat.{_≤_};
 ghost use lib.ListN.{length};
 ghost use Rattle.numbers.specs.Call.{addNumbers, noEdges};
 ghost use Rattle.rows.specs.Printed.{TextIs};
@@ -10,17 +11,11 @@ ghost use Rattle.print_line.specs.LineRows.{plainAnswer};
 use crate::read::Got;
 use call::Answer;
 use call::WORK_SIZE;
-use edge::Written;
 use lattice::MOST_BYTES;
 
-// The text of a line with a table and no given edges.
-fn answer_line(
-    line: &[u8],
-    table: &[u8],
-    work: &mut [u8],
-    out: &mut [u8],
-    text: &mut [u8],
-) -> Written
+// The text of a line with a table and no given edges. The rows of a listing that the call answers fit 65,536 bytes.
+fn answer_line(line: &[u8], table: &[u8], work: &mut [u8], out: &mut [u8], text: &mut [u8]) -> usize
+    requires { ⌜ 65536 ≤ length (now text) ⌝ }
     ensures { λ r. ⌜ TextIs (now (text .entry)) (now (text .exit)) r (addNumbers (now (line .entry)) (now (table .entry)) noEdges (length (now (work .entry))) (length (now (out .entry)))) ⌝ }
 {
     match call::add_numbers(line, table, b"\x00\x00", work, out) {
@@ -29,8 +24,8 @@ fn answer_line(
     }
 }
 
-// The text of a line with the plain table, in the program's own work space and output.
-fn plain_rows(line: &[u8], text: &mut [u8]) -> Written
+// The text of a line with the plain table, in the program's own work space and output: up to where it goes.
+fn plain_rows(line: &[u8], text: &mut [u8; 65536]) -> usize
     ensures { λ r. ⌜ TextIs (now (text .entry)) (now (text .exit)) r (plainAnswer (now (line .entry))) ⌝ }
 {
     let table = grammar::plain_table::plain_table();
@@ -48,17 +43,14 @@ fn print(text: &[u8]) {
 // Prints the rows of a line, or of its refusal.
 pub fn print_rows(line: &[u8]) {
     let mut text = io::large_buffer();
-    match plain_rows(line, &mut text) {
-        Written::To(n) => print(&text[..n]),
-        Written::NoRoom => {
-            io::write_all(libc::STDERR_FILENO, b"the rows are too long\n");
-        }
-    }
+    let n = plain_rows(line, &mut text);
+    print(&text[..n]);
 }
 
 fn answer_into(buf: &mut [u8]) {
     match crate::read::read_line(buf) {
         Got::Line(n) => print_rows(&buf[..n]),
+        Got::LastLine(n) => print_rows(&buf[..n]),
         Got::Failed => os::fail(b"standard input"),
     }
 }

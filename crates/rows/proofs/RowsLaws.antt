@@ -13,13 +13,12 @@ use Rattle.fields.specs.Part.{part}
 use Rattle.fields.proofs.PartLaws.{length-part}
 use Rattle.edge.specs.declared.Part.{Part}
 use Rattle.edge.specs.declared.EdgeView.{EdgeView}
-use Rattle.edge.specs.declared.Written.the-variants.{To, NoRoom}
 use Rattle.edge.specs.Edge.{Text, Numeric}
 use Rattle.edge.specs.Layout.{stands, only, mapAt, textAt, stringEnd, headEnd, nextAt, numericAt, edgeAt}
 use Rattle.edge.specs.View.{textOf, viewAt}
-use Rattle.edge.specs.Write.{written, writtenTo, Put}
+use Rattle.edge.specs.Write.{Put}
 use Rattle.edge.proofs.CheckLaws.{head-within, type-within, txt-within}
-use Rattle.edge.proofs.WriteLaws.{put-then, no-room, put-there}
+use Rattle.edge.proofs.WriteLaws.{put-then}
 use Rattle.rows.specs.Columns.{ended}
 use Rattle.rows.specs.Rows.{mark, row, rowBytes, viewMark, viewRow}
 
@@ -118,18 +117,8 @@ module _ (s : List ℕ) (from : ℕ) (e : EdgeView) (read : e ≡ viewAt s from)
   pub txt-in : e .txt .at + e .txt .len ≤ length s
   txt-in = txt-within s from (length s) e read (head-within s from (length s) there)
 
-  pub texts-in : e .ty .len + e .txt .len ≤ length s
-  unfolding viewAt stringEnd
-  texts-in = rw read (let h = head-within s from (length s) there in omega arith)
+  pub row-room : (at : ℕ) {n : ℕ} → at + length (rowBytes (edgeAt s from)) ≤ n → at + length (viewRow s e) ≤ n
+  row-room at h = rw row-is h
 
-  module _ (out : List ℕ) (at : ℕ) (inside : at ≤ length out) {a z : ℕ} (a-is : a ≡ length (decimal (e .start .0)) + 1) (z-is : z ≡ length (decimal (e .end .0)) + 1) where
-    pub row-no-room : length out - at < a + z + e .ty .len + e .txt .len + 4
-        → (NoRoom ≡ written out at (rowBytes (edgeAt s from))) × (out ≡ writtenTo out at (rowBytes (edgeAt s from)))
-    row-no-room h = rw (sym row-is) (let l = length-view-row s e type-in txt-in in no-room out at (viewRow s e) (omega arith))
-
-    pub row-room : a + z + e .ty .len + e .txt .len + 4 ≤ length out - at → at + length (viewRow s e) ≤ length out
-    row-room h = let l = length-view-row s e type-in txt-in in omega arith
-
-    pub row-there : {t : List ℕ} {r : ℕ} → a + z + e .ty .len + e .txt .len + 4 ≤ length out - at → Put out t at r (viewRow s e)
-        → (To r ≡ written out at (rowBytes (edgeAt s from))) × (t ≡ writtenTo out at (rowBytes (edgeAt s from)))
-    row-there h p = rw (sym row-is) (put-there out at (viewRow s e) (row-room h) p)
+  pub row-there : {out t : List ℕ} {at r : ℕ} → Put out t at r (viewRow s e) → Put out t at r (rowBytes (edgeAt s from))
+  row-there p = rw row-is at p

@@ -1,20 +1,13 @@
 -- What the program prints for an answer of the call (01: one edge a row; "or "refused", number, place, with spaces; a newline ends each row."). Definitions only.
 --     refusedBytes n p   the row of a refusal with its number and place
 --     printed a          the text of an answer of the call: a row for each edge of the listing, or the refusal's row
---     Listable a         no edge of the listing is cut off
---     TextIs text t r a  where r is an offset, text became t with the text of the answer a from its front up to there; and r is an offset
---                        where the text fits
+--     TextIs text t r a  text became t with the text of the answer a from its front up to the offset r
 --     Assumes nothing.
-use mathlib.Core.Path.{_≡_}
 use mathlib.Core.List.{List, [], _∷_, _++_}
 use Prim.Native.Nat.{ℕ, _≤_}
 use lib.ListN.{length}
-use Rattle.fields.specs.Fields.{leAt}
-use Rattle.edge.specs.declared.Written.{Written}
-use Rattle.edge.specs.declared.Written.the-variants.{To}
 use Rattle.edge.specs.Layout.{listed}
 use Rattle.edge.specs.Write.{Put}
-use Rattle.paths.specs.Best.{Whole}
 use Rattle.whole.specs.Decimal.{decimal}
 use Rattle.rows.specs.Columns.{ended}
 use Rattle.rows.specs.ListingRows.{rowsBytes}
@@ -27,11 +20,6 @@ abbrev pub printed : Answer → List ℕ
 printed (listing bytes) = rowsBytes (listed bytes)
 printed (refused number place) = refusedBytes number place
 
-abbrev pub Listable : Answer → Type 0
-Listable (listing bytes) = Whole (leAt bytes 0 2) bytes 2
-Listable (refused number place) = Unit
-
-pub record TextIs (text t : List ℕ) (r : Written) (a : Answer) : Type 0 where
-  pub wrote : (n : ℕ) → r ≡ To n → Put text t 0 n (printed a)
-  pub room : (n : ℕ) → r ≡ To n → n ≤ length t
-  pub fits : Listable a → length (printed a) ≤ length text → r ≡ To (length (printed a))
+pub record TextIs (text t : List ℕ) (r : ℕ) (a : Answer) : Type 0 where
+  pub put : Put text t 0 r (printed a)
+  pub room : r ≤ length t

@@ -8,7 +8,7 @@ ghost use Prim.Native.Nat.{_+_, _≤_};
 ghost use lib.ListN.{length};
 ghost use Rattle.edge.specs.Layout.{nextAt, edgeAt};
 ghost use Rattle.edge.specs.View.{textOf};
-ghost use Rattle.edge.specs.Write.{written, writtenTo, Put};
+ghost use Rattle.edge.specs.Write.{Put};
 ghost use Rattle.rows.specs.Columns.{ended};
 ghost use Rattle.rows.specs.Rows.{rowBytes, viewMark, viewRow};
 use edge::EdgeView;
@@ -54,18 +54,11 @@ fn put_columns(out: &mut [u8], at: usize, s: &[u8], e: EdgeView) -> usize
     crate::columns::put_text(out, last, &word, b'\n')
 }
 
-// The row of the edge at an offset of a listing.
-pub fn put_row(out: &mut [u8], at: usize, listing: &[u8], from: usize) -> Written
-    requires { ⌜ (at ≤ length (now out)) × (nextAt (now listing) from ≤ length (now listing)) ⌝ }
-    ensures answer { λ r. ⌜ r ≡ written (now (out .entry)) at (rowBytes (edgeAt (now (listing .entry)) from)) ⌝ }
-    ensures bytes { λ _. ⌜ now (out .exit) ≡ writtenTo (now (out .entry)) at (rowBytes (edgeAt (now (listing .entry)) from)) ⌝ }
+// The row of the edge at an offset of a listing, for which there is room.
+pub fn put_row(out: &mut [u8], at: usize, listing: &[u8], from: usize) -> usize
+    requires { ⌜ (nextAt (now listing) from ≤ length (now listing)) × (at + length (rowBytes (edgeAt (now listing) from)) ≤ length (now out)) ⌝ }
+    ensures { λ r. ⌜ Put (now (out .entry)) (now (out .exit)) at r (rowBytes (edgeAt (now (listing .entry)) from)) ⌝ }
 {
     let e = edge::head::edge_at(listing, from);
-    let room = out.len() - at;
-    let numbers = crate::columns::number_len(e.start.0 as u64)
-        + crate::columns::number_len(e.end.0 as u64);
-    if room < numbers + e.ty.len + e.txt.len + 4 {
-        return Written::NoRoom;
-    }
-    Written::To(put_columns(out, at, listing, e))
+    put_columns(out, at, listing, e)
 }

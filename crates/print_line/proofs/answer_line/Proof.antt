@@ -1,7 +1,9 @@
 -- `print_line::answer_line` meets its contract. Assumes nothing.
 use mathlib.Core.Path.{sym}
 use lib.Seq.{length-take-le}
-use Rattle.print_line.proofs.LineRowsLaws.{call-counted, listing-front, front-counted, refused-is, listing-text}
+use native.Mathlib.Omega.{arith}
+use Rattle.finished.proofs.Readable.{no-edges-bytes}
+use Rattle.print_line.proofs.LineRowsLaws.{listing-front, rows-fit, refused-is}
 use borrow.Author.Needs.{needs}
 use Rattle.print_line.proofs.answer_line.Statement.{statement}
 use Rattle.print_line.proofs.answer_line.Tie as tie
@@ -16,19 +18,23 @@ enum-known-n : tie.Need-enum-known-n
 enum-known-n c = search needs
 
 slice-reshare-prefix-put-rows : tie.Need-slice-reshare-prefix-put-rows
-slice-reshare-prefix-put-rows c = listing-front _ (c .before .before .before .before .before .before .before .before .add-numbers .ensures) (call-counted _ _ _ _ _) _ (c .before .before .n .given .1) .inside
+slice-reshare-prefix-put-rows c = listing-front _ (c .before .before .before .before .before .before .before .before .add-numbers .ensures) _ (c .before .before .n .given .1) .inside
 
 slice-aggregate-put-rows : tie.Need-slice-aggregate-put-rows
-slice-aggregate-put-rows c = sym (length-take-le _ _ (listing-front _ (c .before .before .before .before .before .before .before .before .before .add-numbers .ensures) (call-counted _ _ _ _ _) _ (c .before .before .before .n .given .1) .inside))
+slice-aggregate-put-rows c = sym (length-take-le _ _ (listing-front _ (c .before .before .before .before .before .before .before .before .before .add-numbers .ensures) _ (c .before .before .before .n .given .1) .inside))
 
 put-rows-requires : tie.Need-put-rows-requires
-put-rows-requires c κs = front-counted (listing-front _ (c .before .before .before .before .before .before .before .before .before .add-numbers .ensures) (call-counted _ _ _ _ _) _ (c .before .before .before .n .given .1))
+put-rows-requires c κs =
+    let k = c .before .before .before in
+    let a = k .before .before .before .before .before .before in
+    let s = a .before .before .before .before .before .before .before .before .before in
+    rows-fit _ _ _ _ _ _ _ no-edges-bytes (listing-front _ (a .add-numbers .ensures) _ (k .n .given .1) .is) (s .pre)
 
 enum-known-r : tie.Need-enum-known-r
 enum-known-r c = search needs
 
 put-refusal-requires : tie.Need-put-refusal-requires
-put-refusal-requires c κs = search needs
+put-refusal-requires c κs = omega (arith, c .before .before .before .before .before .before .before .before .before .before .before .before .before .before .before .before .before .pre)
 
 same-length : tie.Need-same-length
 same-length c = search needs
@@ -40,7 +46,11 @@ same-length-3 : tie.Need-same-length-3
 same-length-3 c = search needs
 
 returns : tie.Need-returns
-returns c = listing-text _ _ _ (listing-front _ (c .before .before .before .before .before .before .before .before .before .before .before .before .add-numbers .ensures) (call-counted _ _ _ _ _) _ (c .before .before .before .before .before .before .n .given .1) .is) (c .before .before .put-rows .ensures)
+returns c =
+    let p = c .before .before in
+    let k = p .before .before .before .before in
+    let a = k .before .before .before .before .before .before in
+    rw (listing-front _ (a .add-numbers .ensures) _ (k .n .given .1) .is) (p .put-rows .ensures)
 
 same-length-4 : tie.Need-same-length-4
 same-length-4 c = search needs

@@ -21,11 +21,11 @@ slice-aggregate-answer-line-3 c = search needs
 answer-line-requires : tie.Need-answer-line-requires
 answer-line-requires c κs = search needs
 
-same-length : tie.Need-same-length
-same-length c = search needs
-
 returns : tie.Need-returns
-returns c = plain-text _ (c .before .before .before .before .answer-line .ensures) (c .before .before .before .before .before .before .before .before .before .plain-table .ensures .0) (length-replicate {A = ℕ} 65536 0) (length-replicate {A = ℕ} 32768 0)
+returns c =
+    let a = c .before .before in
+    let t = a .before .before .before .before .before in
+    plain-text _ (a .answer-line .ensures) (t .plain-table .ensures .0) (length-replicate {A = ℕ} 65536 0) (length-replicate {A = ℕ} 32768 0)
 
 pub plain-rows-spec : {M : Type 1} → statement M
 plain-rows-spec =
@@ -36,5 +36,4 @@ plain-rows-spec =
     slice-aggregate-answer-line-2
     slice-aggregate-answer-line-3
     answer-line-requires
-    same-length
     returns)

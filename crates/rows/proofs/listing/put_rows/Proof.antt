@@ -3,19 +3,20 @@
 use mathlib.Core.Path.{_≡_, refl}
 use native.Mathlib.Omega.{arith}
 use lib.ListN.{length}
-use Rattle.rows.proofs.listing.ListingRowsLaws.{Walked, walk-start, walk-next, walk-stops, walk-ends}
+use Rattle.paths.proofs.BestLaws.{whole-at}
+use Rattle.rows.proofs.listing.ListingRowsLaws.{Walked, walk-start, walk-whole, walk-room, walk-next, walk-ends}
 use borrow.Author.Needs.{needs}
 use Rattle.rows.proofs.listing.put_rows.Statement.{statement}
 use Rattle.rows.proofs.listing.put_rows.Tie as tie
 
 abbrev Inv-loop : tie.InvT-loop
-Inv-loop out₀ listing left₀ from₀ at₀ out left from at = Walked listing out₀ out left from at × (length out ≡ length out₀)
+Inv-loop text₀ s left₀ from₀ at₀ text left from at = Walked s text₀ text left from at × (length text ≡ length text₀)
 
 abbrev μ-loop : tie.MeasureT-loop
-μ-loop out₀ listing left₀ from₀ at₀ out left from at = left
+μ-loop text₀ s left₀ from₀ at₀ text left from at = left
 
 u16-at-requires : tie.Need-u16-at-requires Inv-loop μ-loop
-u16-at-requires c κs = search needs
+u16-at-requires c κs = c .before .before .pre .count
 
 cast-left : tie.Need-cast-left Inv-loop μ-loop
 cast-left c = search needs
@@ -23,38 +24,35 @@ cast-left c = search needs
 loop-holds : tie.Need-loop-holds Inv-loop μ-loop
 loop-holds c = (walk-start _ _ (c .u16-at .ensures) (c .before .before .before .pre), refl)
 
-put-next-requires : tie.Need-put-next-requires Inv-loop μ-loop
-put-next-requires c κs = let i = (c .before .before .loop .inv) in (let r = i .0 .room in let e = i .1 in omega arith, i .0 .inside)
-
-enum-known-next : tie.Need-enum-known-next Inv-loop μ-loop
-enum-known-next c = search needs
-
-enum-told : tie.Need-enum-told Inv-loop μ-loop
-enum-told c = search needs
-
-same-length : tie.Need-same-length Inv-loop μ-loop
-same-length c = search needs
-
-returns : tie.Need-returns Inv-loop μ-loop
-returns c = let a = (c .before .before .before .before .before .before .before .before .before .before .before .args) in let l = (c .before .before .before .before .before .before .before .loop) in walk-stops (a .listing .now) (a .out .now) (l .left) (l .from) (l .at) (c .before .before .before .before .before .before .loop-test .taken) (l .inv .0) (c .before .before .before .before .put-next .ensures) (c .enum-told .given .1) (l .inv .1)
+put-row-requires : tie.Need-put-row-requires Inv-loop μ-loop
+put-row-requires c κs =
+    let l = c .before .before .loop in
+    let more = c .before .loop-test .taken in
+    (walk-whole _ _ _ _ _ more (l .inv .0), walk-room _ _ _ _ _ more (l .inv .0) (l .inv .1))
 
 next-at-requires : tie.Need-next-at-requires Inv-loop μ-loop
-next-at-requires c κs = (c .before .before .before .before .before .before .before .before .loop .inv .0 .inside)
+next-at-requires c κs =
+    let k = c .before .before .before .before in
+    whole-at _ _ _ (k .loop-test .taken) (k .before .loop .inv .0 .whole)
 
 sub-left : tie.Need-sub-left Inv-loop μ-loop
 sub-left c = search needs
 
 loop-less : tie.Need-loop-less Inv-loop μ-loop
-loop-less c = let t = (c .before .before .before .before .before .before .before .before .loop-test .taken) in omega arith
+loop-less c = let t = c .before .before .before .before .before .loop-test .taken in omega arith
 
 loop-again : tie.Need-loop-again Inv-loop μ-loop
-loop-again c = let a = (c .before .before .before .before .before .before .before .before .before .before .before .before .before .args) in let l = (c .before .before .before .before .before .before .before .before .before .loop) in (walk-next (a .listing .now) (a .out .now) (l .left) (l .from) (l .at) (c .before .before .before .before .before .before .before .before .loop-test .taken) (l .inv .0) (c .before .before .before .before .before .before .put-next .ensures) (c .before .before .next .given .1) (c .next-at .ensures) (l .inv .1), let e = l .inv .1 in omega arith)
+loop-again c =
+    let p = c .before .before .before in
+    let k = p .before .before in
+    let l = k .before .loop in
+    (walk-next _ _ _ _ _ (k .loop-test .taken) (l .inv .0) (p .put-row .ensures) (c .next-at .ensures), let e = l .inv .1 in omega arith)
 
-same-length-2 : tie.Need-same-length-2 Inv-loop μ-loop
-same-length-2 c = c .before .loop .inv .1
+same-length : tie.Need-same-length Inv-loop μ-loop
+same-length c = c .before .loop .inv .1
 
-returns-2 : tie.Need-returns-2 Inv-loop μ-loop
-returns-2 c = let a = c .before .before .before .before .before .args in let l = c .before .loop in walk-ends (a .listing .now) (a .out .now) (l .left) (l .from) (l .at) (c .loop-test .left) (l .inv .0)
+returns : tie.Need-returns Inv-loop μ-loop
+returns c = let l = c .before .loop in walk-ends _ _ _ _ _ (c .loop-test .left) (l .inv .0)
 
 pub put-rows-spec : {M : Type 1} → statement M
 put-rows-spec =
@@ -65,14 +63,10 @@ put-rows-spec =
     u16-at-requires
     cast-left
     loop-holds
-    put-next-requires
-    enum-known-next
-    enum-told
-    same-length
-    returns
+    put-row-requires
     next-at-requires
     sub-left
     loop-less
     loop-again
-    same-length-2
-    returns-2)
+    same-length
+    returns)

@@ -2,7 +2,6 @@
 use mathlib.Core.Path.{ap}
 use borrow.Author.Needs.{needs}
 use Rattle.answers.specs.declared.CStatus.{CStatus}
-use Rattle.rows.proofs.refusal.RefusalLaws.{refusal-put}
 use Rattle.rows.proofs.refusal.put_refusal.Statement.{statement}
 use Rattle.rows.proofs.refusal.put_refusal.Tie as tie
 
@@ -19,7 +18,10 @@ same-length : tie.Need-same-length
 same-length c = search needs
 
 returns : tie.Need-returns
-returns c = let h = c .before .before .put-refused .ensures in let e = c .before .before .before .before .before .refusal-told .ensures in refusal-put (c .before .before .before .before .before .before .before .args .text .now) (ap (λ (t : CStatus). t .status) e) (ap (λ (t : CStatus). t .at) e) (h .0) (h .1)
+returns c =
+    let p = c .before .before in
+    let e = p .before .before .before .refusal-told .ensures in
+    rw (ap (λ (t : CStatus). t .status) e, ap (λ (t : CStatus). t .at) e) at (p .put-refused .ensures)
 
 pub put-refusal-spec : {M : Type 1} → statement M
 put-refusal-spec =

@@ -1,27 +1,9 @@
--- `rows::refusal::put_refused` meets its contract: the test asks for the row's length. Assumes nothing.
+-- `rows::refusal::put_refused` meets its contract: a number of 64 bits has at most 20 digits. Assumes nothing.
 use native.Mathlib.Omega.{arith}
-use Rattle.rows.proofs.refusal.RefusalLaws.{refused-no-room, place-room, refused-there}
+use Rattle.rows.proofs.refusal.RefusalLaws.{number-room, place-room, refused-there}
 use borrow.Author.Needs.{needs}
 use Rattle.rows.proofs.refusal.put_refused.Statement.{statement}
 use Rattle.rows.proofs.refusal.put_refused.Tie as tie
-
-sub-room : tie.Need-sub-room
-sub-room c = search needs
-
-number-len-requires : tie.Need-number-len-requires
-number-len-requires c κs = search needs
-
-number-len-requires-2 : tie.Need-number-len-requires-2
-number-len-requires-2 c κs = search needs
-
-add-if1 : tie.Need-add-if1
-add-if1 c = search needs
-
-add-if1-2 : tie.Need-add-if1-2
-add-if1-2 c = search needs
-
-returns : tie.Need-returns
-returns c = let a = (c .before .before .before .before .args) in let q = (c .before .before .before .before .pre) in refused-no-room (a .out .now) (a .at) (a .number) (a .place) q ((c .before .before .number-len .ensures) .0) ((c .before .number-len2 .ensures) .0) (c .if1 .taken)
 
 slice-aggregate-put-text : tie.Need-slice-aggregate-put-text
 slice-aggregate-put-text c = search needs
@@ -30,30 +12,36 @@ put-text-requires : tie.Need-put-text-requires
 put-text-requires c κs = search needs
 
 put-number-requires : tie.Need-put-number-requires
-put-number-requires c κs = search needs
+put-number-requires c κs =
+    let w = c .before .before .before in
+    let s = w .before .before .before .before in
+    number-room (s .fits .number .fits) (s .fits .place .fits) (w .put-text .ensures) (omega arith)
 
 put-number-requires-2 : tie.Need-put-number-requires-2
-put-number-requires-2 c κs = let a = (c .before .before .before .before .before .before .before .before .before .before .before .before .before .before .args) in let q = (c .before .before .before .before .before .before .before .before .before .before .before .before .before .before .pre) in omega (arith, place-room (a .out .now) (a .at) (a .number) (a .place) q ((c .before .before .before .before .before .before .before .before .before .before .before .before .number-len .ensures) .0) ((c .before .before .before .before .before .before .before .before .before .before .before .number-len2 .ensures) .0) (c .before .before .before .before .before .before .before .before .before .before .if1 .left) (c .before .before .before .before .before .before .before .put-text .ensures) (c .before .before .before .put-number .ensures))
+put-number-requires-2 c κs =
+    let n = c .before .before .before in
+    let w = n .before .before .before .before in
+    let s = w .before .before .before .before in
+    place-room (s .fits .number .fits) (s .fits .place .fits) (w .put-text .ensures) (n .put-number .ensures) (omega arith)
 
 same-length : tie.Need-same-length
 same-length c = search needs
 
-returns-2 : tie.Need-returns-2
-returns-2 c = let a = (c .before .before .before .before .before .before .before .before .before .before .before .before .before .before .before .before .before .args) in let q = (c .before .before .before .before .before .before .before .before .before .before .before .before .before .before .before .before .before .pre) in refused-there (a .out .now) (a .at) (a .number) (a .place) q ((c .before .before .before .before .before .before .before .before .before .before .before .before .before .before .before .number-len .ensures) .0) ((c .before .before .before .before .before .before .before .before .before .before .before .before .before .before .number-len2 .ensures) .0) (c .before .before .before .before .before .before .before .before .before .before .before .before .before .if1 .left) (c .before .before .before .before .before .before .before .before .before .before .put-text .ensures) (c .before .before .before .before .before .before .put-number .ensures) (c .before .before .put-number2 .ensures)
+returns : tie.Need-returns
+returns c =
+    let p = c .before .before in
+    let n = p .before .before .before .before in
+    let w = n .before .before .before .before in
+    let s = w .before .before .before .before in
+    refused-there (s .fits .number .fits) (s .fits .place .fits) (w .put-text .ensures) (n .put-number .ensures) (s .pre) (p .put-number2 .ensures)
 
 pub put-refused-spec : {M : Type 1} → statement M
 put-refused-spec =
     tie.close
     (tie.spec
-    sub-room
-    number-len-requires
-    number-len-requires-2
-    add-if1
-    add-if1-2
-    returns
     slice-aggregate-put-text
     put-text-requires
     put-number-requires
     put-number-requires-2
     same-length
-    returns-2)
+    returns)
