@@ -64,6 +64,12 @@ uint32_t rilvostam_right_neighbor(const uint8_t *line, size_t line_len, const ui
 uint32_t rilvostam_left_neighbor(const uint8_t *line, size_t line_len, const uint8_t *listing, size_t listing_len,
                                  uint64_t place, uint8_t skip, uint64_t *at);
 
+/* The number nearest to a place: the active numeric edge with the fewest characters between it and the place. An edge that starts at or before the place and
+ * ends at or behind it counts 0. At equal distance the earlier start, then the longer edge, then the first in listing order. Answers as best_edge: none
+ * exactly where the listing has no active numeric edge. */
+uint32_t rilvostam_nearest_number(const uint8_t *line, size_t line_len, const uint8_t *listing, size_t listing_len,
+                                  uint64_t place, uint64_t *at);
+
 /* The path: right neighbours from start until it is at end or past it, written to out as a listing; a place without one is passed over.
  * 0: *at is the length of that listing. It is never longer than the listing that is read (theorem path-out-shorter, docs/PROVED.md). */
 uint32_t rilvostam_path(const uint8_t *line, size_t line_len, const uint8_t *listing, size_t listing_len,

@@ -3,7 +3,7 @@
 
 usage: reading.py LIBRARY COUNT SEED       LIBRARY is librilvostam as a shared object; tools/compare/reading makes it and runs this
 
-Names are those of crates/paths, specs/: a reader can hold each function against its definition. The listings have many edges
+Names are those of crates/paths and nearest_number, specs/: a reader can hold each function against its definition. The listings have many edges
 of one span and class, and equal edges, so that 02's S-5 shows: which of them is given. Some one in ten are damaged. It proves nothing.
 """
 import ctypes
@@ -165,6 +165,22 @@ def shown_text(text, edges, listing, p):
     return len(text[:p].encode()), len(text[p].encode()), 0
 
 
+# ---- crates/nearest_number/specs/Nearest: 02's S-14
+def is_number(e):
+    return e["numeric"] and e["active"]
+
+
+def between(p, start, end):
+    return 0 if start <= p <= end else min(abs(p - start), abs(p - end))
+
+
+def nearest_number(text, edges, listing, p):
+    """At equal distance the earlier start, then the longer edge; min gives the first of the listing where all are equal."""
+    inside(text, p)
+    order = lambda e: (between(p, e["start"], e["end"]), e["start"], e["start"] - e["end"])
+    return offset(min(filter(is_number, edges), key=order, default=None))
+
+
 # ---- cases
 TYPES = (b"rom", b"rom decomp", b"rom deco", b"num", b"numeral", b"x", b"", b"D1", b"G4", b"Rom")
 
@@ -262,6 +278,7 @@ def questions(rng, library, line, listing, chars, edges):
             room = rng.randrange(len(listing) + 3)
             yield "path", lambda: library.path(line, listing, start, end, skip, room), path, (start, end, skip, room)
     for p in places:
+        yield "nearest_number", lambda: library.edge("nearest_number", line, listing, p), nearest_number, (p,)
         yield "shown_text", lambda: library.shown_text(line, listing, p), shown_text, (p,)
 
 

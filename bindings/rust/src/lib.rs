@@ -50,6 +50,10 @@ mod c {
             line: *const u8, line_len: usize, listing: *const u8, listing_len: usize, place: u64, skip: u8, at: *mut u64,
         ) -> u32;
         #[rustfmt::skip]
+        pub fn rilvostam_nearest_number(
+            line: *const u8, line_len: usize, listing: *const u8, listing_len: usize, place: u64, at: *mut u64,
+        ) -> u32;
+        #[rustfmt::skip]
         pub fn rilvostam_path(
             line: *const u8, line_len: usize, listing: *const u8, listing_len: usize, start: u64, end: u64, skip: u8,
             out: *mut u8, out_len: usize, at: *mut u64,
@@ -132,6 +136,15 @@ pub fn left_neighbor(line: &[u8], listing: &[u8], place: u64, skip: bool) -> Res
     // SAFETY: as above.
     let status =
         unsafe { c::rilvostam_left_neighbor(line.as_ptr(), line.len(), listing.as_ptr(), listing.len(), place, skip.into(), &mut at) };
+    found(status, at)
+}
+
+/// The offset of the number nearest to a place: the active numeric edge with the fewest characters between. An edge that starts at or before the place and ends at or behind it
+/// counts 0. At equal distance the earlier start, then the longer edge, then the first in listing order. `None` exactly where the listing has no active numeric edge.
+pub fn nearest_number(line: &[u8], listing: &[u8], place: u64) -> Result<Option<usize>, Refusal> {
+    let mut at = 0;
+    // SAFETY: as above.
+    let status = unsafe { c::rilvostam_nearest_number(line.as_ptr(), line.len(), listing.as_ptr(), listing.len(), place, &mut at) };
     found(status, at)
 }
 

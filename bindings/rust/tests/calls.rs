@@ -97,6 +97,19 @@ fn first_of_its_class() {
 }
 
 #[test]
+fn nearest() {
+    let line = "墓三号x二十".as_bytes();
+    let listing = listing("墓三号x二十");
+    let number = |place| nearest_number(line, &listing, place).unwrap().map(|at| edges(&listing).find(|e| e.offset == at).unwrap().txt);
+    // 三 stands from place 1 to 2, 二十 from 4 to 6: at 3 both are one away, and the earlier start wins.
+    assert_eq!([0, 1, 2, 3, 4, 5, 6].map(number), [Some("3"), Some("3"), Some("3"), Some("3"), Some("20"), Some("20"), Some("20")]);
+    assert_eq!(nearest_number(b"x", NO_EDGES, 1).unwrap(), None);
+    let refused = nearest_number(line, &listing, 7).unwrap_err();
+    assert_eq!((refused.number(), refused.at), (9, 0));
+    assert_eq!(nearest_number(b"x", &[1, 0], 7).unwrap_err().number(), 6);
+}
+
+#[test]
 fn reading() {
     let line = "x一万五".as_bytes();
     let listing = listing("x一万五");

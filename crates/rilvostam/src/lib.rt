@@ -2,6 +2,7 @@
 // A skip other than 0 is set; places are 64-bit numbers.
 pub mod numerals; // numerals.rt: the calls on single numerals
 pub mod pooling; // pooling.rt: what a listing's shares come to
+pub mod nearest; // nearest.rt: the number nearest to a place (02, S-14)
 
 ghost use mathlib.Core.Path.{_≡_};
 ghost use lib.ListN.{length};

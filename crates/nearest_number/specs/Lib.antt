@@ -1,0 +1,2 @@
+-- The definitions that the contracts of `nearest_number` cite.
+pub mod Nearest
