@@ -83,7 +83,7 @@ pub order :
     × ((addNumbers (nines 16) onlyNine [] 65536 0 ≡ refused 6 0) × (addNumbers (nines 16) onlyNine noEdges 65536 0 ≡ refused 7 0))
     -- 7 and 8: no output
     × ((addNumbers (nines 16) onlyNine noEdges 65536 0 ≡ refused 7 0) × (addNumbers (nines 15) onlyNine noEdges 65536 0 ≡ refused 8 0))
-unfolding addNumbers afterChecks latticeOf afterPasses afterSigns fractions outcomesFrom outcomeAt marked markerAt longest standsAt newEdges usedEdges fractionEdge signs signed separate copies copyOf apart endsBefore fallback covered f64Bits listedEdge wholeValue startsWith regularClass class asked score bestFrom numbered sameKey has add addAll inactive turnOffAt turnOff overfull numericMap numericBytes str headBytes edgeBytes edgesBytes listingBytes edgesAt nextAt edgeAt stringEnd checkListing checkEdges good through addedBy after added chainsOf joinedOf next joined over overDigits d1Rule g1Rule g2Rule g3Rule g4Rule digitEdge gap nearest begin longer retags countedValue countedBase powerOfTen powerWithin charEdges charEdge lowest gcd gcdWithin from chains firstAbove firstIsDigit lastIsDigit isDigit inRuns starts decimal decimalWithin ofNat seq encode chars decode left encodes same find toBits ofBits ofInt toUnsigned readTable readRecords readList readTexts legalRecord digitRule legalNumbers legalTexts legalCodePoint legalDigit legalMark allOf item readRecord readFields readNumbers optional fraction text textOf number le leAt part bytesOf
+unfolding addNumbers afterChecks latticeOf afterPasses afterSigns fractions outcomesFrom outcomeAt marked markerAt longest standsAt newEdges usedEdges fractionEdge signs signed separate copies copyOf apart endsBefore fallback covered f64Bits listedEdge wholeValue startsWith regularClass class asked score highest firstOf best numbered sameKey has add addAll inactive turnOffAt turnOff overfull numericMap numericBytes str headBytes edgeBytes edgesBytes listingBytes edgesAt nextAt edgeAt stringEnd checkListing checkEdges good through addedBy after added chainsOf joinedOf next joined over overDigits d1Rule g1Rule g2Rule g3Rule g4Rule digitEdge gap nearest begin longer retags countedValue countedBase powerOfTen powerWithin charEdges charEdge lowest gcd gcdWithin from chains firstAbove firstIsDigit lastIsDigit isDigit inRuns starts decimal decimalWithin ofNat seq encode chars decode left encodes same find toBits ofBits ofInt toUnsigned readTable readRecords readList readTexts legalRecord digitRule legalNumbers legalTexts legalCodePoint legalDigit legalMark allOf item readRecord readFields readNumbers optional fraction text textOf number le leAt part bytesOf
 order = ((refl, refl), (refl, refl), (refl, refl), (refl, refl), (refl, refl), (refl, refl), (refl, refl))
 
 -- the fallback's edge of the digit 1: an output that is a byte too short, and one that is long enough

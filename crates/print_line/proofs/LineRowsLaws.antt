@@ -10,7 +10,8 @@ use Rattle.text.specs.Text.{chars}
 use Rattle.whole.proofs.DecimalLaws.{length-decimal-le}
 use Rattle.fields.specs.Fields.{leAt, bytesOf}
 use Rattle.fields.proofs.FieldsLaws.{length-bytesOf}
-use Rattle.edge.specs.Edge.{Edge, opt, mapOf, numericBytes, headBytes, edgeBytes, edgesBytes, listingBytes}
+use Rattle.edge.specs.Edge.{Edge, mapOf, numericBytes, headBytes, edgeBytes, edgesBytes, listingBytes}
+use Rattle.fields.specs.Flag.{bytesIf}
 use Rattle.edge.specs.Layout.{listed}
 use Rattle.edge.proofs.WriteLaws.{length-head}
 use Rattle.pass_list.specs.StoredEdge.{nil, cons}
@@ -38,7 +39,7 @@ unfolding edgeBytes
 row-short n e few rises within =
     let row = length-row (e .start) (e .end) (e .type) (e .txt) (mark (e .num)) in
     let head = length-head (mapOf (e .num)) (e .start) (e .end) (e .type) (e .txt) in
-    let all = length-append (headBytes (mapOf (e .num)) (e .start) (e .end) (e .type) (e .txt)) (opt numericBytes (e .num)) in
+    let all = length-append (headBytes (mapOf (e .num)) (e .start) (e .end) (e .type) (e .txt)) (bytesIf numericBytes (e .num)) in
     omega (arith, length-decimal-le 2 (e .start) (omega arith), length-decimal-le 2 (e .end) (omega arith))
 
 rows-short : (n : ℕ) (es : List Edge) → n ≤ 256 → Legals n es → length (rowsBytes es) ≤ length (edgesBytes es) + 2 * length es
