@@ -1,6 +1,6 @@
 /* Rilvostam: written numbers on the lines of registers. The C interface of librilvostam.a.
  *
- * A slice is a pointer and a length in bytes. No pointer is NULL, not even with length 0. `work`, `out`, `at`, `len` and `in_listing` overlap no
+ * A slice is a pointer and a length in bytes. No pointer is NULL, not even with length 0. `work`, `out`, `at`, `len`, `in_listing` and `is_number` overlap no
  * other argument. Bytes need no alignment; `at` and `len` have that of a uint64_t. The library keeps no state and allocates nothing, so calls may run in parallel, each with
  * buffers of its own.
  *
@@ -84,6 +84,10 @@ uint32_t rilvostam_shown_text(const uint8_t *line, size_t line_len, const uint8_
  * whatever the output's length.
  * 0: *at is the length of the numeral. */
 uint32_t rilvostam_write_number(uint64_t number, uint8_t *out, size_t out_len, uint64_t *at);
+
+/* Is this field one number? The line is read with the plain table, straight by the grammar of numerals: 一万五 is one, 一百一百 is none, and so is a line with any other character.
+ * 0: *is_number is 1 and *at is the value, or both are 0. A numeral above TOP is refused 7. On a refusal *is_number is 0. */
+uint32_t rilvostam_read_field(const uint8_t *line, size_t line_len, uint8_t *is_number, uint64_t *at);
 
 /* The shares of a listing: the fractions of its active edges, each added to the sum of those before, in lowest terms. Without any the sum is 0/1. It is refused 11
  * at the first edge with which numerator or denominator is above 9,007,199,254,740,991. numerator and denominator overlap no other argument and have the

@@ -1,6 +1,7 @@
 /* Asks the library what standard input asks, one question to a line, for tools/model/numerals.py:
  *     w NUMBER ROOM    rilvostam_write_number with an output of ROOM bytes
- * Each answer is a row: the status, *at, and the output in hexadecimal with eight bytes behind it. Outputs are filled with A5 before. */
+ *     f HEX            rilvostam_read_field on these bytes; - is the empty line
+ * Each answer is a row. For w: the status, *at, and the output in hexadecimal with eight bytes behind it; outputs are filled with A5 before. For f: the status, *is_number, *at. */
 #include <inttypes.h>
 #include <stdio.h>
 #include <string.h>
@@ -8,7 +9,8 @@
 #include "../../include/rilvostam.h"
 
 #define GUARD 8
-static uint8_t out[4096];
+static uint8_t out[4096], line[4096];
+static char hex[2 * sizeof line + 1];
 
 static void write_number(uint64_t number, size_t room) {
     uint64_t at = 77;
@@ -19,12 +21,26 @@ static void write_number(uint64_t number, size_t room) {
     printf("\n");
 }
 
+static void read_field(void) {
+    size_t len = 0;
+    for (unsigned byte; hex[0] != '-' && sscanf(hex + 2 * len, "%2x", &byte) == 1; len++) line[len] = (uint8_t)byte;
+    uint64_t at = 77;
+    uint8_t is_number = 77;
+    uint32_t status = rilvostam_read_field(line, len, &is_number, &at);
+    printf("%" PRIu32 " %d %" PRIu64 "\n", status, is_number, at);
+}
+
 int main(void) {
     uint64_t number;
     size_t room;
-    while (scanf(" w %" SCNu64 " %zu", &number, &room) == 2) {
-        if (room + GUARD > sizeof out) return 2;
-        write_number(number, room);
+    char kind;
+    while (scanf(" %c", &kind) == 1) {
+        if (kind == 'w' && scanf("%" SCNu64 " %zu", &number, &room) == 2 && room + GUARD <= sizeof out)
+            write_number(number, room);
+        else if (kind == 'f' && scanf("%8192s", hex) == 1)
+            read_field();
+        else
+            return 2;
     }
-    return !feof(stdin);
+    return 0;
 }

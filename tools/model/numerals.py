@@ -1,8 +1,9 @@
 #!/usr/bin/env python3
-"""Numerals by document 02, S-1, written once more in Python from its sentences and held against the library's C calls.
+"""Numerals by document 02, S-1 and S-4, written once more in Python from its sentences and held against the library's C calls.
 
 usage: numerals.py run DRIVER COUNT SEED     tools/compare/numerals builds the driver (tools/compare/numerals.c) and calls this
        numerals.py vectors S-1               what the program writing_vectors must write
+       numerals.py vectors S-4 [answers]     the fields that the program field_vectors reads; what it must write
 
 It shares nothing with the definitions in crates/ but the documents. It proves nothing: it looks for a definition that says something else than 02 does.
 """
@@ -46,6 +47,80 @@ def write_number(number, room):
     return (0, len(numeral), numeral) if len(numeral) <= room else (8, 0, b"")
 
 
+# ---- S-4: is this field one number?
+def atoms(text):
+    """The atoms of a stretch without 万, 億 and 兆, as (value, base, is a lone 零, is a single 一 to 九): which they are is never in doubt."""
+    found, i = [], 0
+    while i < len(text):
+        run = ""
+        while i < len(text) and text[i] in DIGITS:
+            run += str(DIGITS.index(text[i]))
+            i += 1
+        ten = TENS[text[i]] if i < len(text) else None
+        if run and ten and int(run):
+            found.append((int(run) * ten, ten, False, False))
+            i += 1
+        elif run:
+            found.append((int(run), 1, run == "0", len(run) == 1 and run != "0"))
+        else:
+            found.append((ten, ten, False, False))
+            i += 1
+    return found
+
+
+def small(text):
+    """(value, base, is a single 一 to 九), or None."""
+    parts = atoms(text)
+    for k in range(1, len(parts)):
+        earlier = [base for _, base, lone_zero, _ in parts[:k] if not lone_zero]
+        if not earlier or parts[k][0] >= earlier[-1] or parts[k][1] >= earlier[-1]:
+            return None
+    return sum(p[0] for p in parts), parts[-1][1], len(parts) == 1 and parts[0][3]
+
+
+def numeral(text):
+    """The value of a numeral; None for any other line of table characters. Every stretch between 万, 億 and 兆 has to be one small."""
+    total, before, stretch = 0, None, ""
+    for c in text + " ":
+        if c in DIGITS or c in TENS:
+            stretch += c
+            continue
+        found = small(stretch) if stretch else None
+        if stretch and found is None or not stretch and c == " ":
+            return total if not stretch and before else None
+        if c == " ":
+            value, base, single = found
+            if single and before:
+                value, base = value * (before // 10), before // 10
+        else:
+            base = LARGES[c]
+            value = found[0] * base if stretch else base
+        if before and (value >= before or base >= before):
+            return None
+        total, before, stretch = total + value, base, ""
+    return total
+
+
+def first_fault(line):
+    try:
+        line.decode()
+    except UnicodeDecodeError as e:
+        return e.start
+    return None
+
+
+def read_field(line):
+    """The status, whether the line is a number, and what *at says."""
+    fault = first_fault(line)
+    if fault is not None:
+        return 2, 0, fault
+    text = line.decode()
+    if len(text) > 256:
+        return 3, 0, len(text[:256].encode())
+    value = numeral(text) if all(c in DIGITS or c in TENS or c in LARGES for c in text) else None
+    return (0, 0, 0) if value is None else (7, 0, 0) if value > TOP else (0, 1, value)
+
+
 # ---- the program writing_vectors
 def row(number, room=93):
     status, _, numeral = write_number(number, room)
@@ -64,7 +139,59 @@ def vectors_s1():
     yield from (row(1111111111111111), row(1111111111111111, 92), row(0, 3), row(0, 2))
 
 
+# ---- the program field_vectors
+SIXTEEN = DIGITS + "十百千万億兆"
+MARKED = "一百零五 二千五 一万五 一万零五 零万五 百零十 億万 二百万 一二百 一百一百 万億 零百 十十".split()
+
+
+def fields():
+    """All lines of up to two characters, 01's marked lines, both sides of TOP and of 256 characters, characters outside the table, and faults."""
+    yield from ["", *SIXTEEN, *(a + b for a in SIXTEEN for b in SIXTEEN), *MARKED]
+    yield from (writing(n) for n in (TOP, 10**15, 10005, 100005000))
+    yield from ("九千零七兆一千九百九十二億五千四百七十四万零九百九十二", "九零零七一九九二五四七四零九九一", "九零零七一九九二五四七四零九九二")
+    yield from ("十十" + "九" * 17, "九九千兆", "一千億五", "零" * 256, "零" * 257, "零" * 255 + "七", "九" * 256, "九" * 257, "九" * 255 + "万", "兆" * 256)
+    yield from ("一" + "零" * 254 + "兆", "零" * 254 + "五万", "x", "五x", "x五", "京", "一〇", "一 万", "-五", "万" + "x" * 255, "万" + "x" * 256)
+    yield from (b"\xff", "五".encode() + b"\xe4\xb8", b"\xe4", b"\xe9\x9b", b"x" * 300 + b"\xff", b"\xed\xa0\x80", b"\xc0\x80" + "五".encode())
+    r = random.Random(4)
+    yield from (edited(r) for _ in range(120))
+
+
+def encoded(field):
+    return field if isinstance(field, bytes) else field.encode()
+
+
+def told(field):
+    status, yes, at = read_field(encoded(field))
+    return f"refused {status} {at}" if status else f"yes {at}" if yes else "no"
+
+
 # ---- the library against the model
+def edited(r):
+    """A numeral with a few characters changed, left out or added."""
+    text = list(writing(numbers(r) % (TOP + 1)))
+    for _ in range(r.randrange(3)):
+        at = r.randrange(len(text) + 1)
+        text[at : at + r.randrange(2)] = r.choices(SIXTEEN, k=r.randrange(2))
+    return "".join(text)
+
+
+def random_field(r):
+    kind = r.randrange(8)
+    if kind < 3:
+        return edited(r)
+    if kind == 3:
+        return "".join(r.choices(SIXTEEN, k=r.randrange(10)))
+    if kind == 4:
+        return "".join(r.choices(DIGITS, k=r.randrange(257))) + r.choice(["", "千", "兆"])
+    if kind == 5:
+        return "零" * r.randrange(250, 258) + r.choice(["", "五", "万五", "x"])
+    line = bytearray(edited(r).encode() * r.choice((1, 1, 9)))
+    for _ in range(r.randrange(3) if line else 0):
+        line[r.randrange(len(line))] = r.randrange(256)
+    return bytes(line[: r.choice((len(line), r.randrange(len(line) + 1)))])
+
+
+
 def numbers(r):
     """Numbers of every length, with many zeros among their digits, and some about TOP."""
     kind = r.randrange(8)
@@ -85,7 +212,13 @@ def case_s1(r):
     return f"w {number} {room}", f"{status} {at} {out.hex()}"
 
 
-CASES = {"S-1": case_s1}
+def case_s4(r):
+    line = encoded(random_field(r))
+    status, yes, at = read_field(line)
+    return f"f {line.hex() or '-'}", f"{status} {yes} {at}"
+
+
+CASES = {"S-1": case_s1, "S-4": case_s4}
 
 
 def run(driver, count, seed):
@@ -102,8 +235,12 @@ def run(driver, count, seed):
 
 
 if __name__ == "__main__":
-    if sys.argv[1:2] == ["vectors"] and len(sys.argv) == 3:
-        print(*{"S-1": vectors_s1}[sys.argv[2]](), sep="\n")
+    if sys.argv[1:] == ["vectors", "S-1"]:
+        print(*vectors_s1(), sep="\n")
+    elif sys.argv[1:] == ["vectors", "S-4"]:
+        sys.stdout.buffer.write(b"".join(encoded(field) + b"\n" for field in fields()))
+    elif sys.argv[1:] == ["vectors", "S-4", "answers"]:
+        print(*map(told, fields()), sep="\n")
     elif sys.argv[1:2] == ["run"] and len(sys.argv) == 5:
         run(sys.argv[2], int(sys.argv[3]), int(sys.argv[4]))
     else:

@@ -64,6 +64,7 @@ mod c {
             at: *mut u64, len: *mut u64, in_listing: *mut u8,
         ) -> u32;
         pub fn rilvostam_write_number(number: u64, out: *mut u8, out_len: usize, at: *mut u64) -> u32;
+        pub fn rilvostam_read_field(line: *const u8, line_len: usize, is_number: *mut u8, at: *mut u64) -> u32;
         #[rustfmt::skip]
         pub fn rilvostam_pool_shares(
             line: *const u8, line_len: usize, listing: *const u8, listing_len: usize,
@@ -216,4 +217,13 @@ pub fn pool_shares(line: &[u8], listing: &[u8]) -> Result<(u64, u64), Refusal> {
         )
     };
     answer(status, at).map(|_| (numerator, denominator))
+}
+
+/// The value of a line that is one numeral of the plain table, up to 9,007,199,254,740,991; `None` for any other line.
+pub fn read_field(line: &[u8]) -> Result<Option<u64>, Refusal> {
+    let (mut is_number, mut at) = (0, 0);
+    // SAFETY: as above.
+    let status = unsafe { c::rilvostam_read_field(line.as_ptr(), line.len(), &mut is_number, &mut at) };
+    answer(status, at)?;
+    Ok((is_number == 1).then_some(at))
 }

@@ -169,3 +169,20 @@ fn shares() {
     refusal(2, 0, pool_shares(b"\xFF", NO_EDGES).unwrap_err());
     refusal(3, 256, pool_shares(&[b'x'; 257], NO_EDGES).unwrap_err());
 }
+
+#[test]
+fn fields() {
+    for (line, value) in [("一万五", Some(15_000)), ("一万零五", Some(10_005)), ("百零十", Some(110)), ("一百一百", None), ("", None), ("五x", None)] {
+        assert_eq!(read_field(line.as_bytes()).unwrap(), value, "{line}");
+    }
+    let nines = "九".repeat(257);
+    assert_eq!(read_field(format!("十十{}", &nines[..51]).as_bytes()).unwrap(), None);
+    for (line, number, at) in [(&nines.as_bytes()[..768], 7, 0), (nines.as_bytes(), 3, 768), (b"\xE4\xB8\x80\xFF", 2, 3)] {
+        let refused = read_field(line).unwrap_err();
+        assert_eq!((refused.number(), refused.at), (number, at));
+    }
+    let mut out = [0; NUMERAL];
+    for number in [0, 10, 10_005, 100_000_001, (1 << 53) - 1] {
+        assert_eq!(read_field(write_number(number, &mut out).unwrap().as_bytes()).unwrap(), Some(number));
+    }
+}

@@ -1,13 +1,25 @@
--- What the calls on single numerals tell C (02, S-1). Definitions only.
+-- What the calls on single numerals tell C (02, S-1 and S-4). Definitions only.
 --     writtenTold w     a number written out: 0 and the bytes of its numeral, or the number of 02's refusal and its place
+--     fieldTold f       a field: 0 and whether it is a number, with its value; or the number of the refusal, and its offset (2, 3) or place (7)
 --     Assumes nothing.
 use Prim.Native.Nat.{ℕ}
 use Rattle.answers.specs.declared.CStatus.{CStatus}
+use Rattle.numeral.specs.declared.Field.{Field}
+use Rattle.numeral.specs.declared.Field.the-variants as Field
 use Rattle.writing.specs.declared.Written.{Written}
 use Rattle.writing.specs.declared.Written.the-variants.{Bytes, AboveTop, TooShort}
+use Rattle.rilvostam.specs.declared.numerals.CField.{CField}
 
 -- "It refuses a number above TOP with 10 at place 0 ..; an output too short is 8."
 abbrev pub writtenTold : Written → CStatus
 writtenTold (Bytes len) = record { status = 0; at = len }
 writtenTold AboveTop = record { status = 10; at = 0 }
 writtenTold TooShort = record { status = 8; at = 0 }
+
+-- "It says yes with the value .., refuses with 7 at place 0 .., and says no ..", "The refusals 2 and 3 come first, as in 01."
+abbrev pub fieldTold : Field → CField
+fieldTold (Field.Number v) = record { status = 0; number = 1; at = v }
+fieldTold Field.NotANumber = record { status = 0; number = 0; at = 0 }
+fieldTold Field.AboveTop = record { status = 7; number = 0; at = 0 }
+fieldTold (Field.IllFormed at) = record { status = 2; number = 0; at = at .0 }
+fieldTold (Field.TooLong at) = record { status = 3; number = 0; at = at .0 }

@@ -1,9 +1,11 @@
-// The calls on single numerals (02, S-1) for C. They are thin, as those of lib.rt.
+// The calls on single numerals (02, S-1 and S-4) for C. They are thin, as those of lib.rt.
 ghost use mathlib.Core.Path.{_≡_};
 ghost use lib.ListN.{length};
+ghost use Rattle.numeral.specs.Field.{fieldOf};
 ghost use Rattle.writing.specs.Written.{written, output};
-ghost use Rattle.rilvostam.specs.Numerals.{writtenTold};
+ghost use Rattle.rilvostam.specs.Numerals.{writtenTold, fieldTold};
 use answers::CStatus;
+use numeral::Field;
 use writing::Written;
 
 // 0 and the bytes of the numeral, or the refusal.
@@ -30,4 +32,43 @@ pub extern "C" fn rilvostam_write_number(number: u64, out: &mut [u8], at: &mut u
     let numeral = written_told(writing::write_number(number, out));
     *at = numeral.at;
     numeral.status
+}
+
+// What C is told of a field: 0 or the refusal's number; whether it is a number; its value, or the refusal's offset or place.
+pub struct CField {
+    pub status: u32,
+    pub number: u8,
+    pub at: u64,
+}
+
+fn field(status: u32, number: u8, at: u64) -> CField
+    ensures { λ t. ⌜ t ≡ record { status = status; number = number; at = at } ⌝ }
+{
+    CField { status, number, at }
+}
+
+// Yes and the value, no, or the refusal.
+fn field_told(f: Field) -> CField
+    ensures { λ t. ⌜ t ≡ fieldTold f ⌝ }
+{
+    match f {
+        Field::Number(v) => field(0, 1, v),
+        Field::NotANumber => field(0, 0, 0),
+        Field::AboveTop => field(7, 0, 0),
+        Field::IllFormed(at) => field(2, 0, at.0 as u64),
+        Field::TooLong(at) => field(3, 0, at.0 as u64),
+    }
+}
+
+// Is the line one number?
+#[no_mangle]
+pub extern "C" fn rilvostam_read_field(line: &[u8], is_number: &mut u8, at: &mut u64) -> u32
+    ensures status { λ r. ⌜ r ≡ fieldTold (fieldOf (now (line .entry))) .status ⌝ }
+    ensures number { λ _. ⌜ now («is_number» .exit) ≡ fieldTold (fieldOf (now (line .entry))) .number ⌝ }
+    ensures value { λ _. ⌜ now (at .exit) ≡ fieldTold (fieldOf (now (line .entry))) .at ⌝ }
+{
+    let told = field_told(numeral::read::one_number(line));
+    *is_number = told.number;
+    *at = told.at;
+    told.status
 }

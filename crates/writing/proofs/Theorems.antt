@@ -5,7 +5,7 @@
 --     apart          two numbers have different writings
 --     no-lone-digit  in its reading no single digit stands after a block: 10005 is 一万零五, never 一万五
 --     length-31      at most 31 characters, so that the line is not refused 3 either; bytes-93: of three bytes each
---     reads-back     the bytes that the call stores are such a line
+--     reads-back     the bytes that the call stores are such a line; field-back: read as a field (S-4) they are the number again
 use Prim.Native.Nat.{ℕ, _≤_}
 use mathlib.Core.Path.{_≡_, sym, ap, _∙_, subst}
 use mathlib.Core.List.{List, map}
@@ -22,6 +22,9 @@ use Rattle.grammar.proofs.Demand3.{IsLine, line-of, OneEdge, Carries, demand3}
 use Rattle.grammar.proofs.Readings.{same-division}
 use Rattle.grammar.proofs.PlainText.{utf8-length}
 use Rattle.grammar.proofs.ReadingWithin.{reading-within}
+use Rattle.numeral.specs.declared.Field.the-variants.{Number}
+use Rattle.numeral.specs.Field.{fieldOf}
+use Rattle.numeral.proofs.OneNumber.{field-of-reading}
 use Rattle.writing.specs.Writing.{writing, NoneCounted}
 use Rattle.writing.proofs.WritingReads.{writing-reads}
 use Rattle.writing.proofs.WritingLength.{writing-length}
@@ -65,3 +68,6 @@ bytes-93 n = omega (arith, utf8-length (writing n), writing-length n)
 pub reads-back : (n : ℕ) → n ≤ TOP → ReadsBack (utf8 (writing n)) n
 unfolding utf8
 reads-back n h = one-edge n h (encodes (map codePoint (writing n))) (line-of (writing n))
+
+pub field-back : (n : ℕ) → n ≤ TOP → fieldOf (utf8 (writing n)) ≡ Number n
+field-back n h = let (r, v) = numeral n h in field-of-reading (writing n) (omega (arith, writing-length n)) r n v h

@@ -1,0 +1,4 @@
+-- The definitions of `numeral`.
+pub mod Numeral
+pub mod Field
+pub mod Walk
