@@ -96,6 +96,12 @@ uint32_t rilvostam_read_field(const uint8_t *line, size_t line_len, uint8_t *is_
 uint32_t rilvostam_pool_shares(const uint8_t *line, size_t line_len, const uint8_t *listing, size_t listing_len,
                                uint64_t *numerator, uint64_t *denominator, uint64_t *at);
 
+/* The tables that the library has, for rilvostam_add_numbers: the plain one (零 to 九, 十百千, 万億兆), and the formal one that deeds use (零, 壹貳參肆伍陸柒捌玖, 拾佰仟, 萬億兆).
+ * Both have RILVOSTAM_TABLE bytes. 0: *at is the length of the table in out. RILVOSTAM_TOO_LONG where out is shorter. */
+#define RILVOSTAM_TABLE 582
+uint32_t rilvostam_plain_table(uint8_t *out, size_t out_len, uint64_t *at);
+uint32_t rilvostam_formal_table(uint8_t *out, size_t out_len, uint64_t *at);
+
 #ifdef __cplusplus
 }
 #endif

@@ -14,9 +14,11 @@
 
 mod edges;
 mod refusal;
+mod tables;
 
 pub use edges::{Edge, Edges, NumData, edges};
 pub use refusal::{Cause, Refusal};
+pub use tables::{TABLE, formal_table, formal_table_into, plain_table, plain_table_into};
 
 /// Bytes of work space that a call needs.
 pub const WORK: usize = 65_536;

@@ -12,8 +12,9 @@ use native.Mathlib.Omega.{arith}
 use lib.ListN.{length, length-map}
 use lib.Ieee.{binary64, ofBits, toBits}
 use lib.Ieee.Exact.{HasValue}
-use Rattle.text.specs.Text.{wellFormed, chars, encodes}
+use Rattle.text.specs.Text.{Scalars, wellFormed, chars, encodes}
 use Rattle.text.proofs.TextLaws.{encodes-chars, encodes-well-formed}
+use Rattle.table.specs.Table.{Table}
 use Rattle.whole.specs.Whole.{TOP, ofNat}
 use Rattle.whole.proofs.WholeLaws.{ofNat-value, ofNat-bits-back}
 use Rattle.passes.specs.NumEdge.{NumEdge, firstAbove}
@@ -25,20 +26,16 @@ use Rattle.grammar.proofs.PlainWithin.{one-within}
 use Rattle.grammar.proofs.Readings.{same-division}
 use Rattle.grammar.proofs.Settled.{is-read, is-one}
 
--- ---- what is said
+-- ---- what is said, of any table t and the characters that `code` gives for the sixteen
 
--- the line, as it is lent: well-formed UTF-8 whose characters are w, each of them one of the sixteen
-pub record IsLine (line : List ℕ) (w : List Char) : Type 0 where
+-- the line, as it is lent: well-formed UTF-8 whose characters are those of w, each of them for one of the sixteen
+pub record Spells (code : Char → ℕ) (line : List ℕ) (w : List Char) : Type 0 where
   pub well-formed : wellFormed line ≡ true
-  pub characters : chars line ≡ map codePoint w
-
--- every w has such a line: its characters in UTF-8
-pub line-of : (w : List Char) → IsLine (encodes (map codePoint w)) w
-line-of w = record { well-formed = encodes-well-formed (map codePoint w) (plain-scalars w); characters = encodes-chars (map codePoint w) (plain-scalars w) }
+  pub characters : chars line ≡ map code w
 
 -- the list after the fifth pass is the one edge e, over the whole line
-pub record OneEdge (line : List ℕ) (e : NumEdge) : Type 0 where
-  pub list : fifthList plain (chars line) ≡ e ∷ []
+pub record OneEdgeBy (t : Table) (line : List ℕ) (e : NumEdge) : Type 0 where
+  pub list : fifthList t (chars line) ≡ e ∷ []
   pub from-start : e .start ≡ 0
   pub to-end : e .end ≡ length (chars line)
 
@@ -48,10 +45,27 @@ pub record Carries (e : NumEdge) (n : ℕ) : Type 0 where
   pub within : n ≤ TOP
   pub float : HasValue (ofBits binary64 (toBits binary64 (ofNat n))) false n 1
 
-pub record Settled (line : List ℕ) (w : List Char) : Type 0 where
-  pub one-edge : ((e : NumEdge) × OneEdge line e) ↔ Reading w
+pub record SettledBy (t : Table) (line : List ℕ) (w : List Char) : Type 0 where
+  pub one-edge : ((e : NumEdge) × OneEdgeBy t line e) ↔ Reading w
   pub one-division : (x y : Reading w) → x .division ≡ y .division
-  pub same-value : (e : NumEdge) → OneEdge line e → (r : Reading w) → Carries e (divisionValue (r .division))
+  pub same-value : (e : NumEdge) → OneEdgeBy t line e → (r : Reading w) → Carries e (divisionValue (r .division))
+
+-- every w has such a line: its characters in UTF-8
+pub spelled : (code : Char → ℕ) (w : List Char) → Scalars (map code w) → Spells code (encodes (map code w)) w
+spelled code w h = record { well-formed = encodes-well-formed (map code w) h; characters = encodes-chars (map code w) h }
+
+-- ---- the same of the plain table
+abbrev pub IsLine : List ℕ → List Char → Type 0
+IsLine line w = Spells codePoint line w
+
+abbrev pub OneEdge : List ℕ → NumEdge → Type 0
+OneEdge line e = OneEdgeBy plain line e
+
+abbrev pub Settled : List ℕ → List Char → Type 0
+Settled line w = SettledBy plain line w
+
+pub line-of : (w : List Char) → IsLine (encodes (map codePoint w)) w
+line-of w = spelled codePoint w (plain-scalars w)
 
 -- ---- why it holds
 pub demand3 : (line : List ℕ) (w : List Char) → IsLine line w → aboveAt plain (chars line) ≡ none → Settled line w

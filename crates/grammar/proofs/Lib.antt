@@ -17,3 +17,9 @@ pub mod Marked
 pub mod MarkedReadings
 pub mod MarkedParts
 pub mod PlainTable
+pub mod OtherTable
+pub mod Carried
+pub mod FormalDemand3
+pub mod SimplifiedTable
+pub mod FormalTable
+pub mod MarkedFormal

@@ -32,7 +32,7 @@ plainEdge i c = record {
 }
 
 -- each of the sixteen is found in the table
-find-plain : (c : Char) → find plainRecords (codePoint c) ≡ some (plainRecord c)
+pub find-plain : (c : Char) → find plainRecords (codePoint c) ≡ some (plainRecord c)
 unfolding find plainRecords plainRecord
 find-plain = each (λ c. find plainRecords (codePoint c) ≡ some (plainRecord c)) (refl, refl, refl, refl, refl, refl, refl, refl, refl, refl, refl, refl, refl, refl, refl, refl)
 

@@ -3,3 +3,5 @@ pub mod Plain
 pub mod PlainBytes
 pub mod Row
 pub mod Grammar
+pub mod OtherCharacters
+pub mod Formal

@@ -3,4 +3,5 @@ pub mod Passed
 pub mod Accepted
 pub mod Demand3
 pub mod CallParts
+pub mod CallTwins
 pub mod Cases

@@ -8,3 +8,6 @@ pub mod Alike
 pub mod Apart
 pub mod AboveParts
 pub mod Parts
+pub mod GapTexts
+pub mod Twins
+pub mod TwinLines

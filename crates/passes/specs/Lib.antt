@@ -4,3 +4,4 @@ pub mod Characters
 pub mod Chains
 pub mod Passes
 pub mod Moved
+pub mod Renaming

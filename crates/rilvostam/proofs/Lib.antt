@@ -1,2 +1,3 @@
 -- Laws of the exported functions.
 mod Tells
+mod TablesLaws

@@ -1,3 +1,4 @@
 -- What the exported functions answer.
 pub mod Exported
 pub mod Numerals
+pub mod Tables

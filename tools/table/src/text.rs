@@ -140,6 +140,7 @@ mod tests {
     use crate::read;
 
     const PLAIN: &str = include_str!("../../../data/plain.table");
+    const FORMAL: &str = include_str!("../../../data/formal.table");
 
     /// The bytes without the lines, which are no part of a table.
     fn bytes(text: &str) -> Vec<u8> {
@@ -147,16 +148,17 @@ mod tests {
     }
 
     #[test]
-    fn plain_table_there_and_back() {
-        let first = bytes(PLAIN);
-        let back = write(&read::table(&first).unwrap());
-        assert_eq!(bytes(&back), first);
-        assert_eq!(self::read(PLAIN).unwrap().refusal(), None);
+    fn tables_there_and_back() {
+        for text in [PLAIN, FORMAL] {
+            let first = bytes(text);
+            let back = write(&read::table(&first).unwrap());
+            assert_eq!(bytes(&back), first);
+            assert_eq!(self::read(text).unwrap().refusal(), None);
+        }
     }
 
-    /// The byte string of `plain_table`, whose contract says that it is the plain table of the proof.
-    fn proved_bytes() -> Vec<u8> {
-        let source = include_str!("../../../crates/grammar/src/plain_table.rt");
+    /// The byte string of `plain_table` or `formal_table`, whose contract says that it is the table of the proof.
+    fn proved_bytes(source: &str) -> Vec<u8> {
         let literal = source.split("*b\"").nth(1).unwrap().split('"').next().unwrap();
         let mut parts = literal.split('\\');
         let mut out = parts.next().unwrap().as_bytes().to_vec();
@@ -173,8 +175,9 @@ mod tests {
     }
 
     #[test]
-    fn plain_table_is_that_of_the_proof() {
-        assert_eq!(bytes(PLAIN), proved_bytes());
+    fn tables_are_those_of_the_proof() {
+        assert_eq!(bytes(PLAIN), proved_bytes(include_str!("../../../crates/grammar/src/plain_table.rt")));
+        assert_eq!(bytes(FORMAL), proved_bytes(include_str!("../../../crates/grammar/src/formal_table.rt")));
     }
 
     #[test]

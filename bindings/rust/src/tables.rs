@@ -1,0 +1,41 @@
+//! The tables that the library has.
+
+use crate::{Refusal, answer};
+
+/// Bytes of each of the library's tables.
+pub const TABLE: usize = 582;
+
+mod c {
+    unsafe extern "C" {
+        pub fn rilvostam_plain_table(out: *mut u8, out_len: usize, at: *mut u64) -> u32;
+        pub fn rilvostam_formal_table(out: *mut u8, out_len: usize, at: *mut u64) -> u32;
+    }
+}
+
+/// The plain table, 零 to 九, 十百千, 万億兆, at the start of `out`: its length. Refused where `out` is shorter than [`TABLE`], and `out` is then as it was.
+pub fn plain_table_into(out: &mut [u8]) -> Result<usize, Refusal> {
+    let mut at = 0;
+    // SAFETY: the pointer is that of a slice with its length, and `at` is a local.
+    answer(unsafe { c::rilvostam_plain_table(out.as_mut_ptr(), out.len(), &mut at) }, at)
+}
+
+/// The formal table, which deeds use, 零, 壹貳參肆伍陸柒捌玖, 拾佰仟, 萬億兆, likewise.
+pub fn formal_table_into(out: &mut [u8]) -> Result<usize, Refusal> {
+    let mut at = 0;
+    // SAFETY: as above.
+    answer(unsafe { c::rilvostam_formal_table(out.as_mut_ptr(), out.len(), &mut at) }, at)
+}
+
+/// The plain table's bytes.
+pub fn plain_table() -> [u8; TABLE] {
+    let mut out = [0; TABLE];
+    plain_table_into(&mut out).expect("the table has this length");
+    out
+}
+
+/// The formal table's bytes.
+pub fn formal_table() -> [u8; TABLE] {
+    let mut out = [0; TABLE];
+    formal_table_into(&mut out).expect("the table has this length");
+    out
+}
