@@ -39,6 +39,6 @@ writtenTold (PathAnswer.Bytes n) = statusOf 0 n
 writtenTold (PathAnswer.Refused r) = readRefusalTold r
 
 abbrev pub shownTold : Shown → CText
-shownTold (Shown.Listing p) = record { status = 0; at = p .at; len = p .len; in_listing = 1 }
-shownTold (Shown.Line p) = record { status = 0; at = p .at; len = p .len; in_listing = 0 }
+shownTold (Shown.Listing p) = record { status = 0; at = p .at .0; len = p .len; in_listing = 1 }
+shownTold (Shown.Line p) = record { status = 0; at = p .at .0; len = p .len; in_listing = 0 }
 shownTold (Shown.Refused r) = record { status = number r; at = place r; len = 0; in_listing = 0 }

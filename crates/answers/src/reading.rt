@@ -81,13 +81,13 @@ pub fn shown_told(a: Shown) -> CText
     match a {
         Shown::Listing(p) => CText {
             status: 0,
-            at: p.at as u64,
+            at: p.at.0 as u64,
             len: p.len as u64,
             in_listing: 1,
         },
         Shown::Line(p) => CText {
             status: 0,
-            at: p.at as u64,
+            at: p.at.0 as u64,
             len: p.len as u64,
             in_listing: 0,
         },

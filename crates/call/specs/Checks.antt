@@ -12,6 +12,7 @@ use Prim.Native.Nat.{ℕ}
 use lib.ListN.{length}
 use lib.Dec.{eqb}
 use Rattle.text.specs.Line.{lineCheck}
+use Rattle.text.specs.declared.Offset.{Offset}
 use Rattle.table.specs.Check.{Fine, readTable}
 use Rattle.table.specs.Answers.{tableOf}
 use Rattle.table.specs.declared.shape.Shape.{Shape}
@@ -26,8 +27,8 @@ use Rattle.call.specs.declared.checks.CallCheck.{CallCheck}
 use Rattle.call.specs.declared.checks.CallCheck.the-variants as CallCheck
 use Rattle.answers.specs.Answers.{number, place}
 
-unfoldable pub tableRefusal : ℕ → ℕ → Refusal
-tableRefusal n at = cond (eqb n 4) (BadTable (record { 0 = at })) (BadContent (record { 0 = at }))
+unfoldable pub tableRefusal : ℕ → Offset → Refusal
+tableRefusal n at = cond (eqb n 4) (BadTable at) (BadContent at)
 
 pub record Accepted (line table given : List ℕ) (n : ℕ) (h : Shape) (count : ℕ) : Type 0 where
   pub ready : Ready line table h n

@@ -16,13 +16,13 @@ pub enum CallCheck {
 }
 
 // The refusal of a table, by its number.
-fn table_refusal(number: u8, at: usize) -> Refusal
+fn table_refusal(number: u8, at: Offset) -> Refusal
     ensures { λ r. ⌜ r ≡ tableRefusal number at ⌝ }
 {
     if number == 4 {
-        return Refusal::BadTable(Offset(at));
+        return Refusal::BadTable(at);
     }
-    Refusal::BadContent(Offset(at))
+    Refusal::BadContent(at)
 }
 
 // The checks 4 to 6, of a line of so many characters.

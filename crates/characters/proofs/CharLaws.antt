@@ -25,7 +25,8 @@ use Rattle.text.proofs.TextLaws.{encodes-injective, scalars-at, encodes-one}
 use Rattle.table.specs.Table.{Text, Record}
 use Rattle.table.specs.Layout.{Is, bit, numbersIn, readRecord}
 use Rattle.table.specs.Check.{isDigitType, allOf, small, positive, legalDigit, digitRule, legalNumbers, legalTexts, legalCodePoint, legalRecord}
-use Rattle.table.specs.Answers.{optionally, partOf, recordOf}
+use Rattle.fields.specs.Part.{partOf}
+use Rattle.table.specs.Answers.{optionally, recordOf}
 use Rattle.table.specs.declared.layout.NumProp.{NumProp}
 use Rattle.passes.specs.NumEdge.{NumEdge, orZero, has}
 use Rattle.passes.specs.Characters.{charEdge}

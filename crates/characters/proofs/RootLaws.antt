@@ -34,15 +34,15 @@ script-formed r t h e =
     rw e at s
 
 module _ (t : List ℕ) (rs : List Record) (c : ℕ) (p : NumProp) (at least : ℕ) (f : FoundAt t rs c p at) (legal : legalRecord least (recordOf t p) ≡ true) (numbers : legalNumbers (numbersIn (recordOf t p)) ≡ true) where
-  script-is : bit (p .map) 5 ≡ true → recordOf t p .script ≡ some (part t (p .script .at) (p .script .len))
+  script-is : bit (p .map) 5 ≡ true → recordOf t p .script ≡ some (part t (p .script .at .0) (p .script .len))
   unfolding recordOf
   script-is on = rw on
 
-  script-there : bit (p .map) 5 ≡ true → ScriptAt t (p .script .at) (p .script .len)
+  script-there : bit (p .map) 5 ≡ true → ScriptAt t (p .script .at .0) (p .script .len)
   script-there on =
       let e = script-is on in
       let w = f .inside .script-within in
-      let l = length-part t (p .script .at) (p .script .len) w in
+      let l = length-part t (p .script .at .0) (p .script .len) w in
       let m = at-most (record-short t at (sym (f .reads)) .script) e in
       record { within = w; short = omega arith; formed = script-formed (recordOf t p) _ (legal-texts least (recordOf t p) legal) e }
 

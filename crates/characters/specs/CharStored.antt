@@ -10,7 +10,7 @@ use lib.Dec.{leb, eqb}
 use Rattle.text.specs.Bytes.{same}
 use Rattle.table.specs.Layout.{bit}
 use Rattle.table.specs.Check.{isDigitType}
-use Rattle.table.specs.Answers.{partOf}
+use Rattle.fields.specs.Part.{partOf}
 use Rattle.table.specs.declared.layout.NumProp.{NumProp}
 use Rattle.passes.specs.Passes.{cjk}
 use Rattle.pass_list.specs.StoredEdge.{StoredEdge}
@@ -29,7 +29,7 @@ charStored t p at i c = record {
   value = numberIf (bit (p .map) 1) (p .numbers .value);
   base = numberIf (bit (p .map) 3) (p .numbers .base);
   mult = numberIf (bit (p .map) 4) (p .numbers .mult);
-  script-at = p .script .at;
+  script-at = p .script .at .0;
   script-len = p .script .len;
   has-value = bit (p .map) 1;
   has-base = bit (p .map) 3;

@@ -5,18 +5,19 @@ pub mod add; // add.rt: a character added to the lattice
 ghost use mathlib.Core.Path.{_≡_};
 ghost use Prim.Native.Nat.{_+_, _<_};
 ghost use Rattle.text.specs.Bytes.{same};
-ghost use Rattle.table.specs.Answers.{partOf, Within, Inside};
+ghost use Rattle.fields.specs.Part.{partOf};
+ghost use Rattle.table.specs.Answers.{Within, Inside};
 ghost use Rattle.passes.specs.Passes.{cjk};
 ghost use Rattle.pass_list.specs.StoredEdge.{numData, Small, EdgeIs};
 ghost use Rattle.characters.specs.CharStored.{numberIf, charStored};
 ghost use Rattle.fields.specs.Fields.{u16Limit};
+use fields::Part;
 use pass_list::kind::Kind;
 use pass_list::record::PassData;
 use pass_list::record::PassEdge;
 use table::bits;
 use table::digit::is_digit_type;
 use table::layout::NumProp;
-use table::layout::Part;
 use text::Offset;
 use text::Place;
 
@@ -31,8 +32,8 @@ fn is_cjk(table: &[u8], p: Part) -> bool
     requires { ⌜ Within (now table) p ⌝ }
     ensures { λ r. ⌜ r ≡ same (partOf (now (table .entry)) p) cjk ⌝ }
 {
-    let at = p.at;
-    let end = p.at + p.len;
+    let at = p.at.0;
+    let end = at + p.len;
     text::same_bytes(&table[at..end], b"CJK")
 }
 
@@ -43,6 +44,7 @@ fn char_num(table: &[u8], p: NumProp, record_at: Offset, place: Place, c: u32) -
     let n = p.numbers;
     let num_type = p.num_type;
     let script = p.script;
+    let script_at = script.at;
     let has_value = p.map / bits::VALUE % 2 == 1;
     let has_base = p.map / bits::BASE % 2 == 1;
     let has_mult = p.map / bits::MULT % 2 == 1;
@@ -60,7 +62,7 @@ fn char_num(table: &[u8], p: NumProp, record_at: Offset, place: Place, c: u32) -
         digit: is_digit_type(table, num_type) & has_value & (value <= 9),
         gap: (c == 0x96F6) | (c == 0x3007),
         cjk: has_script & is_cjk(table, script),
-        script: Offset(script.at),
+        script: script_at,
         script_len: script.len,
     }
 }

@@ -14,7 +14,8 @@ use Rattle.edge.specs.declared.NumFields.{NumFields}
 use Rattle.edge.specs.declared.EdgeView.{EdgeView}
 use Rattle.edge.specs.Layout.{stands, only, mapAt, textAt, stringEnd, txtAt, headEnd, scriptAt, valueSAt, fieldsEnd, nextAt, numericAt, edgeAt}
 use Rattle.edge.specs.Check.{allowed, each, upToTop, soundFraction, soundNumeric, sound, good, checkEdges, checkListing, goodFrom, faultFrom, accepted, listingRefusal, listingPlace, ListingAnswer}
-use Rattle.edge.specs.View.{partAt, partIf, textOf, viewAt, fieldsAt, numericOf, numbersSound, fieldsSound, Inside}
+use Rattle.fields.specs.Part.{partOf}
+use Rattle.edge.specs.View.{partAt, partIf, viewAt, fieldsAt, numericOf, numbersSound, fieldsSound, Inside}
 use borrow.Author.Tests.{le-leb, lt-leb, lt-ltb, le-ltb, leb-true}
 use Rattle.edge.specs.declared.ListingCheck.{ListingCheck}
 use Rattle.edge.specs.declared.ListingCheck.the-variants.{Edges, Refused}
@@ -45,12 +46,12 @@ unfolding numbersSound
 numbers-tested d p q =
     rw (p, q, each-or soundFraction (stands 2 (d .map)) (d .numerator, d .denominator), each-or upToTop (stands 3 (d .map)) (d .base))
 
-pub fields-tested : (s : List ℕ) (d : NumFields) {n o c v : Bool} → n ≡ numbersSound d → o ≡ wellFormed (textOf s (d .orig))
-    → c ≡ cond (stands 5 (d .map)) (wellFormed (textOf s (d .script))) true → v ≡ cond (stands 8 (d .map)) (wellFormed (textOf s (d .«value_s»))) true
+pub fields-tested : (s : List ℕ) (d : NumFields) {n o c v : Bool} → n ≡ numbersSound d → o ≡ wellFormed (partOf s (d .orig))
+    → c ≡ cond (stands 5 (d .map)) (wellFormed (partOf s (d .script))) true → v ≡ cond (stands 8 (d .map)) (wellFormed (partOf s (d .«value_s»))) true
     → (((n && o) && c) && v) ≡ fieldsSound s d
 unfolding soundNumeric numericOf numbersSound
 fields-tested s d n o c v =
-    rw (n, o, c ∙ each-if wellFormed (stands 5 (d .map)) (textOf s (d .script)), v ∙ each-if wellFormed (stands 8 (d .map)) (textOf s (d .«value_s»)))
+    rw (n, o, c ∙ each-if wellFormed (stands 5 (d .map)) (partOf s (d .script)), v ∙ each-if wellFormed (stands 8 (d .map)) (partOf s (d .«value_s»)))
 
 -- the code's fields say what the definition reads
 pub fields-say : (m : ℕ) (s : List ℕ) (at : ℕ) → numericOf s s s (fieldsAt m s at) ≡ numericAt m s at
@@ -61,8 +62,8 @@ fields-say m s at =
       only-if (λ (n : ℕ). n) (stands 1 m) (leAt s v 8) 0,
       only-if (λ (n : ℕ). n) (stands 3 m) _ 0,
       only-if (λ (n : ℕ). n) (stands 4 m) _ 0,
-      only-if (textOf s) (stands 5 m) (partAt s (scriptAt m v)) _,
-      only-if (textOf s) (stands 8 m) (partAt s (valueSAt m s v)) _,
+      only-if (partOf s) (stands 5 m) (partAt s (scriptAt m v)) _,
+      only-if (partOf s) (stands 8 m) (partAt s (valueSAt m s v)) _,
       only-pair (stands 2 m),
     )
 
@@ -73,7 +74,7 @@ fields-inside m s at n h =
     let w = within m s at n h in
     record { orig = w .value-at; script = λ on. part-end (stands 5 m) _ on (w .script on); value-s = λ on. part-end (stands 8 m) _ on (w .value-s on) }
   where
-    part-end : (b : Bool) (a : ℕ) → b ≡ true → stringEnd s a ≤ n → partIf b s a .at + partIf b s a .len ≤ n
+    part-end : (b : Bool) (a : ℕ) → b ≡ true → stringEnd s a ≤ n → partIf b s a .at .0 + partIf b s a .len ≤ n
     part-end b a on k = rw on k
 
 -- ---- the head of an edge
@@ -90,19 +91,19 @@ unfolding nextAt
 fields-within s at n h on = le-trans (le-of-eq (if-on (stands 0 (mapAt s at)) _ _ on refl)) h
 
 module _ (s : List ℕ) (at n : ℕ) (e : EdgeView) (read : e ≡ viewAt s at) where
-  pub type-within : headEnd s at ≤ n → e .ty .at + e .ty .len ≤ n
+  pub type-within : headEnd s at ≤ n → e .ty .at .0 + e .ty .len ≤ n
   unfolding viewAt stringEnd
   type-within h = rw read (omega arith)
 
-  pub txt-within : headEnd s at ≤ n → e .txt .at + e .txt .len ≤ n
+  pub txt-within : headEnd s at ≤ n → e .txt .at .0 + e .txt .len ≤ n
   unfolding viewAt stringEnd
   txt-within h = rw read (omega arith)
 
-  pub view-fields : nextAt s at ≤ n → stands 0 (e .map) ≡ true → fieldsEnd (e .map) s (e .fields) ≤ n
+  pub view-fields : nextAt s at ≤ n → stands 0 (e .map) ≡ true → fieldsEnd (e .map) s (e .fields .0) ≤ n
   unfolding viewAt
   view-fields h = rw read (fields-within s at n h)
 
-  pub edge-tested : {a b f : Bool} → a ≡ wellFormed (textOf s (e .ty)) → b ≡ wellFormed (textOf s (e .txt)) → f ≡ each soundNumeric (only (stands 0 (e .map)) (numericAt (e .map) s (e .fields)))
+  pub edge-tested : {a b f : Bool} → a ≡ wellFormed (partOf s (e .ty)) → b ≡ wellFormed (partOf s (e .txt)) → f ≡ each soundNumeric (only (stands 0 (e .map)) (numericAt (e .map) s (e .fields .0)))
       → (((ltb (e .start .0) (e .end .0) && leb (e .end .0) n) && (a && b)) && f) ≡ sound n (edgeAt s at)
   unfolding viewAt sound edgeAt textAt
   edge-tested a b f = rw (a, b, f, read)

@@ -12,17 +12,17 @@ use lib.Dec.{eqb}
 use borrow.Author.Tests.{eqb-true, eqb-false, le-leb, lt-leb}
 use Rattle.whole.proofs.SetsLaws.{sets-then}
 use Rattle.fields.specs.Fields.{bytesOf}
-use Rattle.fields.specs.Part.{part}
+use Rattle.fields.specs.Part.{part, partOf}
 use Rattle.fields.proofs.FieldsLaws.{length-bytesOf}
 use Rattle.fields.proofs.PartLaws.{length-part}
 use Rattle.fields.specs.Flag.{there, flag, bytesIf}
 use Rattle.fields.proofs.FlagLaws.{flag-is}
-use Rattle.edge.specs.declared.Part.{Part}
+use Rattle.fields.specs.declared.Part.{Part}
 use Rattle.edge.specs.declared.NumFields.{NumFields}
 use Rattle.edge.specs.declared.Written.the-variants.{To, NoRoom}
 use Rattle.edge.specs.Edge.{Text, numericMap, str, fractionBytes, numericBytes, headBytes, edgeBytes}
 use Rattle.edge.specs.Layout.{bit, stands, only, scriptAt}
-use Rattle.edge.specs.View.{textOf, numericOf}
+use Rattle.edge.specs.View.{numericOf}
 use Rattle.edge.specs.Write.{written, writtenTo, Put, regular, numeric, numbersBytes, textPastIf, fieldsPast, Writable}
 
 -- ---- promises in a row
@@ -47,13 +47,13 @@ unfolding str
 put-str x s at p q = put-then (put-number 2 (length x) s at p) (record { wrote = q; next = refl })
 
 -- a part of a slice, its length and its bytes
-pub put-part : (s : List ℕ) (p : Part) (w : List ℕ) {t u : List ℕ} (at : ℕ) → p .at + p .len ≤ length s → t ≡ sets w at (bytesOf 2 (p .len))
-    → u ≡ sets t (at + 2) (take (p .at + p .len - p .at) (drop (p .at) s)) → Put w u at (at + 2 + p .len) (str (textOf s p))
+pub put-part : (s : List ℕ) (p : Part) (w : List ℕ) {t u : List ℕ} (at : ℕ) → p .at .0 + p .len ≤ length s → t ≡ sets w at (bytesOf 2 (p .len))
+    → u ≡ sets t (at + 2) (take (p .at .0 + p .len - p .at .0) (drop (p .at .0) s)) → Put w u at (at + 2 + p .len) (str (partOf s p))
 unfolding part
 put-part s p w at h a b =
-    let e = add-sub-cancel-left (p .at) (p .len) in
-    let l = length-part s (p .at) (p .len) h in
-    rw l at (put-str (textOf s p) w at (rw l a) (rw e at b))
+    let e = add-sub-cancel-left (p .at .0) (p .len) in
+    let l = length-part s (p .at .0) (p .len) h in
+    rw l at (put-str (partOf s p) w at (rw l a) (rw e at b))
 
 -- ---- one field
 module _ (b : Bool) (s : List ℕ) (x : Text) (n at : ℕ) where
@@ -112,13 +112,13 @@ past-within d at n h =
     let s = le-trans c h in
     record { orig = le-trans a (le-trans b s); numbers = le-trans b s; script = s }
 
-fields-bytes : (o c v : List ℕ) (d : NumFields) → str (textOf o (d .orig)) ++ (numbersBytes d ++ (bytesIf str (only (stands 5 (d .map)) (textOf c (d .script))) ++ bytesIf str (only (stands 8 (d .map)) (textOf v (d .«value_s»)))))
+fields-bytes : (o c v : List ℕ) (d : NumFields) → str (partOf o (d .orig)) ++ (numbersBytes d ++ (bytesIf str (only (stands 5 (d .map)) (partOf c (d .script))) ++ bytesIf str (only (stands 8 (d .map)) (partOf v (d .«value_s»)))))
     ≡ numericBytes (numericOf o c v d)
 unfolding numericBytes numericOf numbersBytes
 fields-bytes o c v d = simp append-assoc
 
-pub put-all-fields : (o c v : List ℕ) (d : NumFields) {s t u w x : List ℕ} {at a b e r : ℕ} → Put s t at a (str (textOf o (d .orig))) → Put t u a b (numbersBytes d)
-    → Put u w b e (bytesIf str (only (stands 5 (d .map)) (textOf c (d .script)))) → Put w x e r (bytesIf str (only (stands 8 (d .map)) (textOf v (d .«value_s»))))
+pub put-all-fields : (o c v : List ℕ) (d : NumFields) {s t u w x : List ℕ} {at a b e r : ℕ} → Put s t at a (str (partOf o (d .orig))) → Put t u a b (numbersBytes d)
+    → Put u w b e (bytesIf str (only (stands 5 (d .map)) (partOf c (d .script)))) → Put w x e r (bytesIf str (only (stands 8 (d .map)) (partOf v (d .«value_s»))))
     → Put s x at r (numericBytes (numericOf o c v d))
 put-all-fields o c v d p q a b = rw (fields-bytes o c v d) at (put-then p (put-then q (put-then a b)))
 
@@ -166,10 +166,10 @@ map-is o c v d on l =
       there-only {A = ℕ × ℕ} (bit 2 m) (d .numerator, d .denominator) (omega arith),
       there-only (bit 3 m) (d .base) (omega arith),
       there-only (bit 4 m) (d .«base_multiplier») (omega arith),
-      there-only (bit 5 m) (textOf c (d .script)) (omega arith),
+      there-only (bit 5 m) (partOf c (d .script)) (omega arith),
       flag-is (bit 6 m) (omega arith),
       flag-is (bit 7 m) (omega arith),
-      there-only (bit 8 m) (textOf v (d .«value_s»)) (omega arith),
+      there-only (bit 8 m) (partOf v (d .«value_s»)) (omega arith),
     ) (bits-sum m (eqb-true (bit 0 m) 1 on) l)
 
 -- ---- the head
@@ -207,8 +207,8 @@ length-number k v h = go (eqb k 1) refl
     go true e = length-bytesOf 8 v ∙ (let i = eqb-true k 1 e in omega arith)
     go false e = let i = eqb-false k 1 e in omega arith
 
-length-text : (b : Bool) (s : List ℕ) (p : Part) (at : ℕ) → (b ≡ true → p .at + p .len ≤ length s) → at + length (bytesIf str (only b (textOf s p))) ≡ textPastIf b (p .len) at
-length-text true s p at h = let l = length-str (textOf s p) in let k = length-part s (p .at) (p .len) (h refl) in omega arith
+length-text : (b : Bool) (s : List ℕ) (p : Part) (at : ℕ) → (b ≡ true → p .at .0 + p .len ≤ length s) → at + length (bytesIf str (only b (partOf s p))) ≡ textPastIf b (p .len) at
+length-text true s p at h = let l = length-str (partOf s p) in let k = length-part s (p .at .0) (p .len) (h refl) in omega arith
 length-text false s p at h = omega arith
 
 pub length-numbers : (d : NumFields) (at : ℕ) → at + length (numbersBytes d) ≡ scriptAt (d .map) at
@@ -226,8 +226,8 @@ module _ (o c v : List ℕ) (d : NumFields) (h : Writable o c v d) where
   pub length-fields : (at : ℕ) → at + length (numericBytes (numericOf o c v d)) ≡ fieldsPast d at
   unfolding fieldsPast
   length-fields at =
-      let l = length-str (textOf o (d .orig)) in
-      let k = length-part o (d .orig .at) (d .orig .len) (h .orig) in
+      let l = length-str (partOf o (d .orig)) in
+      let k = length-part o (d .orig .at .0) (d .orig .len) (h .orig) in
       let a = at + 2 + d .orig .len in
       let n = length-numbers d a in
       let x = length-text (stands 5 (d .map)) c (d .script) (scriptAt (d .map) a) (h .script) in

@@ -10,21 +10,21 @@ use mathlib.Core.List.{List}
 use mathlib.Core.Option.{none, some}
 use lib.Ieee.{binary64, toBits, ofBits}
 use Rattle.fields.specs.Fields.{leAt}
-use Rattle.fields.specs.Part.{part}
+use Rattle.fields.specs.Part.{partOf}
 use Rattle.edge.specs.declared.EdgeView.{EdgeView}
 use Rattle.edge.specs.declared.NumFields.{NumFields}
 use Rattle.edge.specs.declared.NumData.{NumData}
-use Rattle.edge.specs.declared.Part.{Part}
+use Rattle.fields.specs.declared.Part.{Part}
 use Rattle.edge.specs.Check.{soundNumbers, soundNumeric}
 use Rattle.edge.specs.Edge.{Text, Numeric, Edge}
 use Rattle.edge.specs.Layout.{stands, only, mapAt, stringEnd, txtAt, headEnd, fractionAt, baseAt, multAt, scriptAt, valueSAt}
 
 -- the text whose length is at an offset
 abbrev pub partAt : List ℕ → ℕ → Part
-partAt s at = record { at = at + 2; len = leAt s at 2 }
+partAt s at = record { at = record { 0 = at + 2 }; len = leAt s at 2 }
 
 abbrev pub noPart : Part
-noPart = record { at = 0; len = 0 }
+noPart = record { at = record { 0 = 0 }; len = 0 }
 
 unfoldable pub viewAt : List ℕ → ℕ → EdgeView
 viewAt s at = record {
@@ -33,7 +33,7 @@ viewAt s at = record {
   end = record { 0 = leAt s (at + 4) 2 };
   ty = partAt s (at + 6);
   txt = partAt s (txtAt s at);
-  fields = headEnd s at;
+  fields = record { 0 = headEnd s at };
 }
 
 -- a number whose bit stands
@@ -59,20 +59,17 @@ fieldsAt m s at =
       «value_s» = partIf (stands 8 m) s (valueSAt m s v);
     }
 
-abbrev pub textOf : List ℕ → Part → Text
-textOf s p = part s (p .at) (p .len)
-
 unfoldable pub numericOf : List ℕ → List ℕ → List ℕ → NumFields → Numeric
 numericOf o c v d = record {
-  orig = textOf o (d .orig);
+  orig = partOf o (d .orig);
   value = only (stands 1 (d .map)) (d .value);
   fraction = only (stands 2 (d .map)) (d .numerator, d .denominator);
   base = only (stands 3 (d .map)) (d .base);
   mult = only (stands 4 (d .map)) (d .«base_multiplier»);
-  script = only (stands 5 (d .map)) (textOf c (d .script));
+  script = only (stands 5 (d .map)) (partOf c (d .script));
   large = stands 6 (d .map);
   active = stands 7 (d .map);
-  value-s = only (stands 8 (d .map)) (textOf v (d .«value_s»));
+  value-s = only (stands 8 (d .map)) (partOf v (d .«value_s»));
 }
 
 -- the numbers of fields, and all of them, may stand; their texts are in s
@@ -84,6 +81,6 @@ fieldsSound s d = soundNumeric (numericOf s s s d)
 
 -- the texts of fields that are there stand within n bytes
 pub record Inside (n : ℕ) (d : NumFields) : Type 0 where
-  pub orig : d .orig .at + d .orig .len ≤ n
-  pub script : stands 5 (d .map) ≡ true → d .script .at + d .script .len ≤ n
-  pub value-s : stands 8 (d .map) ≡ true → d .«value_s» .at + d .«value_s» .len ≤ n
+  pub orig : d .orig .at .0 + d .orig .len ≤ n
+  pub script : stands 5 (d .map) ≡ true → d .script .at .0 + d .script .len ≤ n
+  pub value-s : stands 8 (d .map) ≡ true → d .«value_s» .at .0 + d .«value_s» .len ≤ n

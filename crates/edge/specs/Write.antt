@@ -59,9 +59,9 @@ fieldsPast d at = textPastIf (stands 8 (d .map)) (d .«value_s» .len) (textPast
 pub record Writable (o c v : List ℕ) (d : NumFields) : Type 0 where
   pub numeric : stands 0 (d .map) ≡ true
   pub map : d .map < 512
-  pub orig : d .orig .at + d .orig .len ≤ length o
-  pub script : stands 5 (d .map) ≡ true → d .script .at + d .script .len ≤ length c
-  pub value-s : stands 8 (d .map) ≡ true → d .«value_s» .at + d .«value_s» .len ≤ length v
+  pub orig : d .orig .at .0 + d .orig .len ≤ length o
+  pub script : stands 5 (d .map) ≡ true → d .script .at .0 + d .script .len ≤ length c
+  pub value-s : stands 8 (d .map) ≡ true → d .«value_s» .at .0 + d .«value_s» .len ≤ length v
   pub orig-len : d .orig .len < u16Limit
   pub script-len : d .script .len < u16Limit
   pub value-s-len : d .«value_s» .len < u16Limit

@@ -5,7 +5,8 @@ ghost use lib.ListN.{length};
 ghost use Rattle.edge.specs.Layout.{headEnd};
 ghost use Rattle.edge.specs.View.{viewAt};
 use crate::EdgeView;
-use crate::Part;
+use fields::Part;
+use text::Offset;
 use text::Place;
 
 // The head of the edge at an offset.
@@ -22,13 +23,13 @@ pub fn edge_at(s: &[u8], at: usize) -> EdgeView
         start: Place(fields::u16_at(s, at + 2) as usize),
         end: Place(fields::u16_at(s, at + 4) as usize),
         ty: Part {
-            at: type_at + 2,
+            at: Offset(type_at + 2),
             len: type_len,
         },
         txt: Part {
-            at: txt_at + 2,
+            at: Offset(txt_at + 2),
             len: txt_len,
         },
-        fields: txt_at + 2 + txt_len,
+        fields: Offset(txt_at + 2 + txt_len),
     }
 }

@@ -11,14 +11,9 @@ ghost use mathlib.Core.Path.{_≡_};
 ghost use Prim.Native.Nat.{_+_, _/_, _%_, _≤_, _<_};
 ghost use lib.Dec.{eqb};
 ghost use Rattle.edge.specs.Layout.{scriptAt};
+use fields::Part;
 use text::Offset;
 use text::Place;
-
-// Where a text stands in a slice.
-pub struct Part {
-    pub at: usize,
-    pub len: usize,
-}
 
 // The head of an edge: its map, its span, its type and txt, and where its numeric fields begin.
 pub struct EdgeView {
@@ -27,7 +22,7 @@ pub struct EdgeView {
     pub end: Place,
     pub ty: Part,
     pub txt: Part,
-    pub fields: usize,
+    pub fields: Offset,
 }
 
 // The fields of a numeric edge as they are listed, floats as their bits. Those whose bit of the map stands count.

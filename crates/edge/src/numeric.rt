@@ -8,8 +8,9 @@ ghost use Rattle.fields.specs.Fields.{leAt};
 ghost use Rattle.edge.specs.Layout.{fieldsEnd};
 ghost use Rattle.edge.specs.View.{partAt, noPart, fieldsAt};
 use crate::NumFields;
-use crate::Part;
 use crate::bits;
+use fields::Part;
+use text::Offset;
 
 // A number that is there only if a bit stands.
 fn u64_if(map: u16, p: u16, s: &[u8], at: usize) -> u64
@@ -29,7 +30,7 @@ fn text_at(s: &[u8], at: usize) -> Part
     ensures { λ r. ⌜ r ≡ partAt (now (s .entry)) at ⌝ }
 {
     Part {
-        at: at + 2,
+        at: Offset(at + 2),
         len: fields::u16_at(s, at) as usize,
     }
 }
@@ -42,7 +43,10 @@ fn text_if(map: u16, p: u16, s: &[u8], at: usize) -> Part
     if crate::bit(map, p) {
         text_at(s, at)
     } else {
-        Part { at: 0, len: 0 }
+        Part {
+            at: Offset(0),
+            len: 0,
+        }
     }
 }
 
@@ -52,7 +56,7 @@ pub fn fields_at(map: u16, s: &[u8], at: usize) -> NumFields
     ensures { λ r. ⌜ r ≡ fieldsAt map (now (s .entry)) at ⌝ }
 {
     let orig = text_at(s, at);
-    let value = orig.at + orig.len;
+    let value = orig.at.0 + orig.len;
     let fraction = value + 8 * (map / bits::VALUE % 2) as usize;
     let base = fraction + 16 * (map / bits::FRACTION % 2) as usize;
     let multiplier = base + 8 * (map / bits::BASE % 2) as usize;

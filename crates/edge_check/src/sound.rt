@@ -7,10 +7,11 @@ ghost use lib.Dec.{eqb};
 ghost use Rattle.text.specs.Text.{wellFormed};
 ghost use Rattle.edge.specs.Layout.{stands, fieldsEnd, nextAt, only, numericAt, edgeAt};
 ghost use Rattle.edge.specs.Check.{allowed, each, soundNumeric, sound, good};
-ghost use Rattle.edge.specs.View.{textOf, numbersSound, fieldsSound, Inside};
+ghost use Rattle.fields.specs.Part.{partOf};
+ghost use Rattle.edge.specs.View.{numbersSound, fieldsSound, Inside};
 use edge::NumFields;
-use edge::Part;
 use edge::bits;
+use fields::Part;
 use whole::TOP;
 
 // Whether a map may stand.
@@ -28,17 +29,17 @@ fn allowed(given: bool, map: u16) -> bool
 }
 
 fn text_sound(s: &[u8], t: Part) -> bool
-    requires { ⌜ t .at + t .len ≤ length (now s) ⌝ }
-    ensures { λ r. ⌜ r ≡ wellFormed (textOf (now (s .entry)) t) ⌝ }
+    requires { ⌜ t .at .0 + t .len ≤ length (now s) ⌝ }
+    ensures { λ r. ⌜ r ≡ wellFormed (partOf (now (s .entry)) t) ⌝ }
 {
-    let from = t.at;
+    let from = t.at.0;
     let to = from + t.len;
     text::line::well_formed(&s[from..to])
 }
 
 fn text_sound_if(map: u16, p: u16, s: &[u8], t: Part) -> bool
-    requires { ⌜ (0 < p) × (eqb (map / p % 2) 1 ≡ true → t .at + t .len ≤ length (now s)) ⌝ }
-    ensures { λ r. ⌜ r ≡ cond (eqb (map / p % 2) 1) (wellFormed (textOf (now (s .entry)) t)) true ⌝ }
+    requires { ⌜ (0 < p) × (eqb (map / p % 2) 1 ≡ true → t .at .0 + t .len ≤ length (now s)) ⌝ }
+    ensures { λ r. ⌜ r ≡ cond (eqb (map / p % 2) 1) (wellFormed (partOf (now (s .entry)) t)) true ⌝ }
 {
     if edge::bit(map, p) {
         text_sound(s, t)
@@ -87,7 +88,7 @@ fn edge_sound(s: &[u8], at: usize, chars: usize) -> bool
     let e = edge::head::edge_at(s, at);
     let span = (e.start.0 < e.end.0) & (e.end.0 <= chars);
     let texts = text_sound(s, e.ty) & text_sound(s, e.txt);
-    span & texts & fields_sound_at(e.map, s, e.fields)
+    span & texts & fields_sound_at(e.map, s, e.fields.0)
 }
 
 // Whether the edge at an offset, which ends before next, is whole and may stand.

@@ -9,20 +9,21 @@ ghost use Rattle.fields.specs.Flag.{bytesIf};
 ghost use Rattle.edge.specs.Edge.{str, numericBytes, edgeBytes};
 ghost use Rattle.edge.specs.Layout.{scriptAt, only};
 ghost use Rattle.edge.specs.Write.{written, writtenTo, Put, numeric, numbersBytes, textPastIf, fieldsPast, Writable};
-ghost use Rattle.edge.specs.View.{numericOf, textOf};
+ghost use Rattle.fields.specs.Part.{partOf};
+ghost use Rattle.edge.specs.View.{numericOf};
 use edge::NumFields;
-use edge::Part;
 use edge::Written;
 use edge::bits;
+use fields::Part;
 use text::Place;
 
 // A string that is a part of a slice.
 fn put_part(out: &mut [u8], at: usize, s: &[u8], t: Part) -> usize
-    requires { ⌜ (at + 2 + t .len ≤ length (now out)) × (t .len < u16Limit) × (t .at + t .len ≤ length (now s)) ⌝ }
+    requires { ⌜ (at + 2 + t .len ≤ length (now out)) × (t .len < u16Limit) × (t .at .0 + t .len ≤ length (now s)) ⌝ }
     ensures { λ r. ⌜ (r ≡ at + 2 + t .len)
-        × Put (now (out .entry)) (now (out .exit)) at r (str (textOf (now (s .entry)) t)) ⌝ }
+        × Put (now (out .entry)) (now (out .exit)) at r (str (partOf (now (s .entry)) t)) ⌝ }
 {
-    let from = t.at;
+    let from = t.at.0;
     let to = from + t.len;
     fields::write::put_u16(out, at, t.len as u16);
     fields::copy::copy_in(out, at + 2, &s[from..to]);
@@ -32,9 +33,9 @@ fn put_part(out: &mut [u8], at: usize, s: &[u8], t: Part) -> usize
 // The same, only if a bit stands.
 fn put_part_if(map: u16, p: u16, out: &mut [u8], at: usize, s: &[u8], t: Part) -> usize
     requires { ⌜ (0 < p) × (textPastIf (eqb (map / p % 2) 1) (t .len) at ≤ length (now out)) × (t .len < u16Limit)
-        × (eqb (map / p % 2) 1 ≡ true → t .at + t .len ≤ length (now s)) ⌝ }
+        × (eqb (map / p % 2) 1 ≡ true → t .at .0 + t .len ≤ length (now s)) ⌝ }
     ensures { λ r. ⌜ (r ≡ textPastIf (eqb (map / p % 2) 1) (t .len) at)
-        × Put (now (out .entry)) (now (out .exit)) at r (bytesIf str (only (eqb (map / p % 2) 1) (textOf (now (s .entry)) t))) ⌝ }
+        × Put (now (out .entry)) (now (out .exit)) at r (bytesIf str (only (eqb (map / p % 2) 1) (partOf (now (s .entry)) t))) ⌝ }
 {
     if edge::bit(map, p) {
         put_part(out, at, s, t)

@@ -1,4 +1,5 @@
-// Little-endian numbers and copies of bytes in slices (01: "Multi-byte numbers are little-endian"): what stands at an offset is `leAt` of specs/Fields.antt.
+// Little-endian numbers and copies of bytes in slices (01: "Multi-byte numbers are little-endian"): what stands at an offset is `leAt` of specs/Fields.antt;
+// and a part of a slice, whose bytes are `partOf` of specs/Part.antt.
 pub mod write; // write.rt: numbers written
 pub mod copy; // copy.rt: bytes copied in
 
@@ -6,6 +7,13 @@ ghost use mathlib.Core.Path.{_≡_};
 ghost use Prim.Native.Nat.{_+_, _≤_};
 ghost use lib.ListN.{length};
 ghost use Rattle.fields.specs.Fields.{leAt};
+use text::Offset;
+
+// A part of a slice (01: "a part of the listing .. a part of the line"): where it begins, and how many bytes it has.
+pub struct Part {
+    pub at: Offset,
+    pub len: usize,
+}
 
 pub fn u16_at(s: &[u8], at: usize) -> u16
     requires { ⌜ at + 2 ≤ length (now s) ⌝ }

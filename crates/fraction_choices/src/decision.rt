@@ -84,7 +84,7 @@ fn whole_value_at(w: &[u8], at: usize) -> WholeValue
     if !edge::bit(e.map, bits::VALUE) {
         return WholeValue::Nothing;
     }
-    let d = edge::numeric::fields_at(e.map, w, e.fields);
+    let d = edge::numeric::fields_at(e.map, w, e.fields.0);
     WholeValue::Whole(whole::whole_part(f64::from_bits(d.value)))
 }
 

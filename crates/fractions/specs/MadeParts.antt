@@ -12,10 +12,10 @@ use mathlib.Core.List.{List}
 use mathlib.Core.Option.{Option, none, some}
 use Prim.Native.Nat.{ℕ, _+_, _≤_}
 use lib.ListN.{length, getD}
-use Rattle.fields.specs.Part.{part}
+use Rattle.fields.specs.Part.{part, partOf}
 use Rattle.edge.specs.Edge.{Text, Edge, Numeric, mapOf}
 use Rattle.edge.specs.Layout.{fieldsEnd, numericAt}
-use Rattle.edge.specs.View.{textOf, noPart}
+use Rattle.edge.specs.View.{noPart}
 use Rattle.edge.specs.declared.EdgeView.{EdgeView}
 use Rattle.edge.specs.declared.NumFields.{NumFields}
 use Rattle.lattice.specs.declared.Lattice.{Lattice}
@@ -29,10 +29,10 @@ pub record HeadIs (w : List ℕ) (e : Edge) (v : EdgeView) : Type 0 where
   pub map : v .map ≡ mapOf (e .num)
   pub start : v .start .0 ≡ e .start
   pub end : v .end .0 ≡ e .end
-  pub txt : textOf w (v .txt) ≡ e .txt
+  pub txt : partOf w (v .txt) ≡ e .txt
   pub size : v .txt .len ≡ length (e .txt)
-  pub inside : v .txt .at + v .txt .len ≤ length w
-  pub numeric : (x : Numeric) → e .num ≡ some x → (fieldsEnd (v .map) w (v .fields) ≤ length w) × (numericAt (v .map) w (v .fields) ≡ x)
+  pub inside : v .txt .at .0 + v .txt .len ≤ length w
+  pub numeric : (x : Numeric) → e .num ≡ some x → (fieldsEnd (v .map) w (v .fields .0) ≤ length w) × (numericAt (v .map) w (v .fields .0) ≡ x)
 
 -- ---- the fields of a fraction
 unfoldable pub scriptFrom : List ℕ → Script → Option Text
@@ -51,7 +51,7 @@ fractionFields n a b Absent = record {
   denominator = b;
   base = 0;
   «base_multiplier» = 0;
-  orig = record { at = 0; len = n };
+  orig = record { at = record { 0 = 0 }; len = n };
   script = noPart;
   «value_s» = noPart;
 }
@@ -62,8 +62,8 @@ fractionFields n a b (Bytes k) = record {
   denominator = b;
   base = 0;
   «base_multiplier» = 0;
-  orig = record { at = 0; len = n };
-  script = record { at = 0; len = k };
+  orig = record { at = record { 0 = 0 }; len = n };
+  script = record { at = record { 0 = 0 }; len = k };
   «value_s» = noPart;
 }
 

@@ -46,7 +46,7 @@ fn add_fraction(w: &mut [u8], l: Lattice, left: usize, right: usize) -> Lattice
     let mut buf = [0u8; TEXT_ROOM];
     let mut script = [0u8; TEXT_ROOM];
     let n = crate::texts::put_fraction(&mut buf, rv, lv);
-    let s = crate::parts::copy_script(&mut script, w, b.map, b.fields);
+    let s = crate::parts::copy_script(&mut script, w, b.map, b.fields.0);
     let q = passes::ratio::lowest(rv, lv);
     crate::parts::add_composed(w, l, a.start, b.end, &buf[..n], q, s, &script)
 }

@@ -7,7 +7,7 @@ ghost use Prim.Native.Nat.{ℕ, _+_, _≤_, _<_};
 ghost use lib.ListN.{length, getD};
 ghost use Rattle.edge.specs.Edge.{Edge, Text};
 ghost use Rattle.edge.specs.Layout.{fieldsEnd, numericAt};
-ghost use Rattle.edge.specs.View.{textOf};
+ghost use Rattle.fields.specs.Part.{partOf};
 ghost use Rattle.lattice.specs.Lattice.{add};
 ghost use Rattle.lattice.specs.Kept.{noEdge, Holds, SameBehind};
 ghost use Rattle.fraction_choices.specs.Choice.{valueOr, HasValue, One};
@@ -18,10 +18,11 @@ ghost use Rattle.fields.specs.Fields.{u16Limit};
 use crate::texts::TEXT_ROOM;
 use edge::EdgeView;
 use edge::NumFields;
-use edge::Part;
 use edge::bits;
+use fields::Part;
 use lattice::Lattice;
 use passes::ratio::Ratio;
+use text::Offset;
 use text::Place;
 
 // The script of an edge: none, or so many bytes at the front of a buffer.
@@ -43,7 +44,7 @@ pub fn copy_script(buf: &mut [u8; TEXT_ROOM], w: &[u8], map: u16, at: usize) -> 
     if !edge::bit(map, bits::SCRIPT) {
         return Script::Absent;
     }
-    let from = d.script.at;
+    let from = d.script.at.0;
     let n = d.script.len;
     let to = from + n;
     fields::copy::copy_in(buf, 0, &w[from..to]);
@@ -54,6 +55,14 @@ pub fn copy_script(buf: &mut [u8; TEXT_ROOM], w: &[u8], map: u16, at: usize) -> 
 fn fraction_fields(n: usize, q: Ratio, s: Script) -> NumFields
     ensures { λ r. ⌜ r ≡ fractionFields n (q .numerator) (q .denominator) s ⌝ }
 {
+    let none = Part {
+        at: Offset(0),
+        len: 0,
+    };
+    let orig = Part {
+        at: Offset(0),
+        len: n,
+    };
     match s {
         Script::Absent => NumFields {
             map: 133,
@@ -62,9 +71,9 @@ fn fraction_fields(n: usize, q: Ratio, s: Script) -> NumFields
             denominator: q.denominator,
             base: 0,
             base_multiplier: 0,
-            orig: Part { at: 0, len: n },
-            script: Part { at: 0, len: 0 },
-            value_s: Part { at: 0, len: 0 },
+            orig,
+            script: none,
+            value_s: none,
         },
         Script::Bytes(k) => NumFields {
             map: 165,
@@ -73,9 +82,12 @@ fn fraction_fields(n: usize, q: Ratio, s: Script) -> NumFields
             denominator: q.denominator,
             base: 0,
             base_multiplier: 0,
-            orig: Part { at: 0, len: n },
-            script: Part { at: 0, len: k },
-            value_s: Part { at: 0, len: 0 },
+            orig,
+            script: Part {
+                at: Offset(0),
+                len: k,
+            },
+            value_s: none,
         },
     }
 }
@@ -99,7 +111,7 @@ pub fn value_of(w: &[u8], l: Lattice, i: usize) -> u64
         → r ≡ valueOr (getD es i noEdge)) ⌝ }
 {
     let e = head_of(w, l, i);
-    let d = edge::numeric::fields_at(e.map, w, e.fields);
+    let d = edge::numeric::fields_at(e.map, w, e.fields.0);
     whole::whole_part(f64::from_bits(d.value))
 }
 

@@ -4,10 +4,10 @@ ghost use mathlib.Core.List.{[], _∷_, _++_};
 ghost use Prim.Native.Nat.{_+_, _≤_};
 ghost use lib.ListN.{length};
 ghost use Rattle.whole.specs.Decimal.{decimal};
-ghost use Rattle.edge.specs.View.{textOf};
+ghost use Rattle.fields.specs.Part.{partOf};
 ghost use Rattle.fractions.specs.MadeTexts.{TextIs};
 ghost use Rattle.text.specs.Line.{maxChars};
-use edge::Part;
+use fields::Part;
 
 // The room for the text of a new edge.
 pub const TEXT_ROOM: usize = 300;
@@ -32,10 +32,10 @@ pub fn put_fraction(buf: &mut [u8; TEXT_ROOM], right: u64, left: u64) -> usize
 
 // A text of the lattice and "%".
 pub fn put_txt_percent(buf: &mut [u8; TEXT_ROOM], w: &[u8], t: Part) -> usize
-    requires { ⌜ (t .at + t .len ≤ length (now w)) × (t .len ≤ maxChars) ⌝ }
-    ensures { λ r. ⌜ TextIs (now (buf .exit)) r (textOf (now (w .entry)) t ++ (37 ∷ [])) ⌝ }
+    requires { ⌜ (t .at .0 + t .len ≤ length (now w)) × (t .len ≤ maxChars) ⌝ }
+    ensures { λ r. ⌜ TextIs (now (buf .exit)) r (partOf (now (w .entry)) t ++ (37 ∷ [])) ⌝ }
 {
-    let from = t.at;
+    let from = t.at.0;
     let n = t.len;
     let to = from + n;
     fields::copy::copy_in(buf, 0, &w[from..to]);

@@ -112,7 +112,7 @@ pub fn add_copy(w: &mut [u8], l: Lattice, at: usize, next: usize, sep: &[u8]) ->
     let len = l.len;
     let v = edge::head::edge_at(w, at);
     let txt = v.txt;
-    let key = v.fields - at - 2 + sep.len();
-    let to = compose(w, len, at, txt.at, txt.len, next, sep);
+    let key = v.fields.0 - at - 2 + sep.len();
+    let to = compose(w, len, at, txt.at.0, txt.len, next, sep);
     crate::add_edge(w, l, key, to)
 }

@@ -1,6 +1,6 @@
 // Whether a line has a marker at all (01, "The rest of the call"): each text is looked for at all places, so that it is read from the table only once. The
 // definitions are those of `markers`.
-use table::layout::Part;
+use fields::Part;
 use table::layout::TextAt;
 use table::shape::Shape;
 use text::check::PLACES;
@@ -11,7 +11,8 @@ ghost use lib.ListN.{length};
 ghost use Rattle.text.specs.Text.{chars, wellFormed};
 ghost use Rattle.text.specs.Line.{maxChars};
 ghost use Rattle.table.specs.Layout.{listAt};
-ghost use Rattle.table.specs.Answers.{partOf, Within, tableOf};
+ghost use Rattle.fields.specs.Part.{partOf};
+ghost use Rattle.table.specs.Answers.{Within, tableOf};
 ghost use Rattle.numbers.specs.Ready.{Ready, Offsets};
 ghost use Rattle.markers.specs.Marks.{Formed, standsFrom, anyStands, marked};
 
@@ -38,8 +39,8 @@ fn text_somewhere(line: &[u8], offs: &[usize; PLACES], n: usize, table: &[u8], m
         × Within (now table) m × (wellFormed (partOf (now table) m) ≡ true) ⌝ }
     ensures { λ r. ⌜ r ≡ standsFrom (chars (now (line .entry))) 0 n (partOf (now (table .entry)) m) ⌝ }
 {
-    let from = m.at;
-    let end = m.at + m.len;
+    let from = m.at.0;
+    let end = from + m.len;
     stands_somewhere(line, offs, n, &table[from..end])
 }
 

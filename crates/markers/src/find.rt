@@ -1,6 +1,6 @@
 // The marker that counts at a place of the line (01, "The rest of the call"): the longest that stands there. The definitions are those of `markers`.
 use crate::Marker;
-use table::layout::Part;
+use fields::Part;
 use table::layout::TextAt;
 use table::shape::Shape;
 use text::Place;
@@ -10,7 +10,8 @@ ghost use Prim.Native.Nat.{ℕ, _≤_, _<_};
 ghost use lib.ListN.{length};
 ghost use Rattle.text.specs.Text.{chars};
 ghost use Rattle.table.specs.Layout.{textsAt, listAt};
-ghost use Rattle.table.specs.Answers.{partOf, Within, tableOf};
+ghost use Rattle.fields.specs.Part.{partOf};
+ghost use Rattle.table.specs.Answers.{Within, tableOf};
 ghost use Rattle.numbers.specs.Fractions.{larger, longer, markerAt};
 ghost use Rattle.numbers.specs.Ready.{Ready, Offsets};
 ghost use Rattle.markers.specs.Marks.{sizeAt, longestAt, markerOf};
@@ -20,8 +21,8 @@ fn size_at(line: &[u8], at: usize, table: &[u8], m: Part) -> usize
     requires { ⌜ (at ≤ length (now line)) × Within (now table) m ⌝ }
     ensures { λ r. ⌜ r ≡ sizeAt (now (line .entry)) at (partOf (now (table .entry)) m) ⌝ }
 {
-    let from = m.at;
-    let end = m.at + m.len;
+    let from = m.at.0;
+    let end = from + m.len;
     let bytes = &table[from..end];
     if crate::stands(line, at, bytes) {
         let w = text::line::walk(bytes, bytes.len());

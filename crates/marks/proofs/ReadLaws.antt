@@ -24,9 +24,9 @@ use Rattle.marks.specs.Marked.{onePlace, placeBy}
 
 -- ---- the edge that is read
 module _ (s : List ℕ) (at : ℕ) {v : EdgeView} (read : v ≡ viewAt s at) where
-  pub txt-read : take (v .txt .at + v .txt .len - v .txt .at) (drop (v .txt .at) s) ≡ edgeAt s at .txt
+  pub txt-read : take (v .txt .at .0 + v .txt .len - v .txt .at .0) (drop (v .txt .at .0) s) ≡ edgeAt s at .txt
   unfolding viewAt edgeAt textAt part
-  txt-read = ap (λ (n : ℕ). take n (drop (v .txt .at) s)) (add-sub-cancel-left (v .txt .at) (v .txt .len)) ∙ ap (λ (z : EdgeView). take (z .txt .len) (drop (z .txt .at) s)) read
+  txt-read = ap (λ (n : ℕ). take n (drop (v .txt .at .0) s)) (add-sub-cancel-left (v .txt .at .0) (v .txt .len)) ∙ ap (λ (z : EdgeView). take (z .txt .len) (drop (z .txt .at .0) s)) read
 
   end-read : v .end .0 ≡ edgeAt s at .end
   unfolding viewAt edgeAt
@@ -35,7 +35,7 @@ module _ (s : List ℕ) (at : ℕ) {v : EdgeView} (read : v ≡ viewAt s at) whe
   pub end-in : Spanned 256 s at → v .end .0 < 257
   end-in w = let e = end-read in let i = w .within in omega arith
 
-  module _ {r : Bool} (asked : r ≡ endsWithDigit (take (v .txt .at + v .txt .len - v .txt .at) (drop (v .txt .at) s))) (marks : List Bool) where
+  module _ {r : Bool} (asked : r ≡ endsWithDigit (take (v .txt .at .0 + v .txt .len - v .txt .at .0) (drop (v .txt .at .0) s))) (marks : List Bool) where
     ends-read : r ≡ endsWithDigit (edgeAt s at .txt)
     ends-read = asked ∙ ap endsWithDigit txt-read
 

@@ -31,7 +31,7 @@ fn mark_end(s: &[u8], at: usize, marks: &mut [bool; PLACES])
     let e = edge::head::edge_at(s, at);
     let txt = e.txt;
     let end = e.end;
-    let from = txt.at;
+    let from = txt.at.0;
     let to = from + txt.len;
     let place = end.0;
     if digits::ends::ends_with_digit(&s[from..to]) {

@@ -21,7 +21,7 @@ use Rattle.passes.specs.Characters.{lowest}
 use Rattle.pass_list.specs.declared.record.PassEdge.{PassEdge}
 use Rattle.pass_list.specs.Edges.{ofRecord}
 use Rattle.pass_list.specs.Kind.{kindNumber}
-use Rattle.edge.specs.declared.Part.{Part}
+use Rattle.fields.specs.declared.Part.{Part}
 use Rattle.edge.specs.declared.NumFields.{NumFields}
 use Rattle.edge.specs.View.{noPart}
 use Rattle.edge.specs.Write.{fieldsOf}
@@ -54,7 +54,7 @@ storedMap e f =
 
 -- a part that is there, or none
 abbrev pub partOr : Bool → ℕ → ℕ → Part
-partOr b at len = cond b (record { at = at; len = len }) noPart
+partOr b at len = cond b (record { at = record { 0 = at }; len = len }) noPart
 
 unfoldable pub storedFields : List ℕ → PassEdge → Fraction → ℕ → NumFields
 unfolding fieldsOf
@@ -65,7 +65,7 @@ storedFields offs e f len = fieldsOf (record {
   denominator = f .denominator;
   base = e .num .base;
   «base_multiplier» = e .num .«base_multiplier»;
-  orig = record { at = getD offs (e .start .0) 0; len = getD offs (e .end .0) 0 - getD offs (e .start .0) 0 };
+  orig = record { at = record { 0 = getD offs (e .start .0) 0 }; len = getD offs (e .end .0) 0 - getD offs (e .start .0) 0 };
   script = partOr (e .num .«has_script») (e .num .script .0) (e .num .«script_len»);
   «value_s» = partOr (eqb (kindNumber (e .kind)) 1) 0 len;
 })

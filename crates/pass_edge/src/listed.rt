@@ -18,12 +18,13 @@ ghost use Rattle.pass_edge.specs.Fields.{storedFraction, FractionIs, sto
 use crate::Fraction;
 use edge::NumData;
 use edge::NumFields;
-use edge::Part;
 use edge::bits;
+use fields::Part;
 use fields::write::bit_if;
 use lattice::Lattice;
 use pass_list::kind::is_row;
 use pass_list::record::PassEdge;
+use text::Offset;
 use text::check::PLACES;
 
 // Every edge that is listed here is numeric and active.
@@ -45,13 +46,16 @@ fn map_of(x: PassEdge, fraction: bool) -> u16
 }
 
 // A part that is there, or none.
-fn part_or(b: bool, at: usize, len: usize) -> Part
-    ensures { λ r. ⌜ r ≡ partOr b at len ⌝ }
+fn part_or(b: bool, at: Offset, len: usize) -> Part
+    ensures { λ r. ⌜ r ≡ partOr b (at .0) len ⌝ }
 {
     if b {
         Part { at: at, len: len }
     } else {
-        Part { at: 0, len: 0 }
+        Part {
+            at: Offset(0),
+            len: 0,
+        }
     }
 }
 
@@ -65,12 +69,12 @@ fn fields_of(offs: &[usize; PLACES], x: PassEdge, f: Fraction, len: usize) -> Nu
     let from = offs[start];
     let to = offs[end];
     let orig = Part {
-        at: from,
+        at: Offset(from),
         len: to - from,
     };
-    let script = part_or(x.num.has_script, x.num.script.0, x.num.script_len);
+    let script = part_or(x.num.has_script, x.num.script, x.num.script_len);
     let kind = x.kind;
-    let value_s = part_or(is_row(kind), 0, len);
+    let value_s = part_or(is_row(kind), Offset(0), len);
     edge::data::num_fields(NumData {
         map: map_of(x, f.there),
         value: x.num.value,

@@ -15,13 +15,13 @@ use borrow.Author.Tests.{lt-ltb, le-ltb, ltb-true, ltb-false, eq-eqb, ne-eqb, eq
 use Rattle.text.specs.Bytes.{same}
 use Rattle.text.proofs.BytesLaws.{same-lengths}
 use Rattle.text.proofs.RowLaws.{cond-cases}
-use Rattle.fields.specs.Part.{part}
+use Rattle.fields.specs.Part.{part, partOf}
 use Rattle.fields.specs.Fields.{leAt}
 use Rattle.fields.proofs.PartLaws.{length-part}
 use Rattle.edge.specs.declared.EdgeView.{EdgeView}
 use Rattle.edge.specs.Edge.{Text, Numeric, Edge}
 use Rattle.edge.specs.Layout.{stands, mapAt, textAt, numericAt, txtAt, headEnd, nextAt, edgeAt}
-use Rattle.edge.specs.View.{textOf, viewAt}
+use Rattle.edge.specs.View.{viewAt}
 use Rattle.edge.proofs.LayoutLaws.{string-end-ge}
 use Rattle.edge.proofs.CheckLaws.{head-within, map-within}
 use Rattle.text.specs.declared.Place.{Place}
@@ -75,7 +75,7 @@ class-le skip e h = rw h (by-kind (e .num))
 
 -- the class of the edge at an offset, by its head
 module _ (s : List ℕ) (at : ℕ) (skip : Bool) {e : EdgeView} (head : e ≡ viewAt s at) {numeric : Bool} (bit-0 : numeric ≡ stands 0 (e .map)) where
-  pub class-regular : {r : ℕ} → not numeric ≡ true → r ≡ regularClass (textOf s (e .ty)) → r ≡ class skip (edgeAt s at)
+  pub class-regular : {r : ℕ} → not numeric ≡ true → r ≡ regularClass (partOf s (e .ty)) → r ≡ class skip (edgeAt s at)
   unfolding class edgeAt viewAt textAt
   class-regular off c = let z : stands 0 (mapAt s at) ≡ false = sym (bit-0 ∙ rw head) ∙ not-true numeric off in rw z (c ∙ rw head)
 

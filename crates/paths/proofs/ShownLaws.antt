@@ -14,9 +14,9 @@ use Rattle.text.specs.declared.Place.{Place}
 use Rattle.text.specs.declared.Offset.{Offset}
 use Rattle.text.specs.Text.{chars, encodes, offsetOf}
 use Rattle.text.proofs.TextLaws.{encodes-append}
-use Rattle.fields.specs.Part.{part}
+use Rattle.fields.specs.Part.{part, partOf}
 use Rattle.edge.specs.declared.EdgeView.{EdgeView}
-use Rattle.edge.specs.View.{viewAt, textOf}
+use Rattle.edge.specs.View.{viewAt}
 use Rattle.paths.specs.declared.Found.{Found}
 use Rattle.paths.specs.declared.Found.the-variants.{At, Nothing}
 use Rattle.paths.specs.declared.ReadRefusal.{ReadRefusal}
@@ -54,7 +54,7 @@ module _ (line s : List ℕ) (p : ℕ) {f : Found} where
   unfolding viewAt shownBy
   shown-listing h v = rw (h, v)
 
-  pub shown-line : {a b : ℕ} → f ≡ Nothing → a ≡ offsetOf line p → b ≡ offsetOf line (p + 1) → Line (record { at = a; len = b - a }) ≡ shownBy line s p f
+  pub shown-line : {a b : ℕ} → f ≡ Nothing → a ≡ offsetOf line p → b ≡ offsetOf line (p + 1) → Line (record { at = record { 0 = a }; len = b - a }) ≡ shownBy line s p f
   unfolding shownBy
   shown-line h x y = rw (h, x, y, add-one)
 

@@ -10,7 +10,8 @@ use Rattle.text.specs.declared.Place.{Place}
 use Rattle.text.specs.Text.{offsetOf}
 use Rattle.edge.specs.Edge.{Text}
 use Rattle.edge.specs.Layout.{txtAt}
-use Rattle.edge.specs.View.{partAt, textOf}
+use Rattle.fields.specs.Part.{partOf}
+use Rattle.edge.specs.View.{partAt}
 use Rattle.paths.specs.declared.Query.the-variants as Query
 use Rattle.paths.specs.declared.Found.{Found}
 use Rattle.paths.specs.declared.Found.the-variants.{At, Nothing}
@@ -23,7 +24,7 @@ use Rattle.paths.specs.Reading.{readCheck, readable}
 -- by the best right neighbour of place p
 unfoldable pub shownBy : List ℕ → List ℕ → ℕ → Found → Shown
 shownBy line s p (At o) = Listing (partAt s (txtAt s (o .0)))
-shownBy line s p Nothing = Line (record { at = offsetOf line p; len = offsetOf line (suc p) - offsetOf line p })
+shownBy line s p Nothing = Line (record { at = record { 0 = offsetOf line p }; len = offsetOf line (suc p) - offsetOf line p })
 
 -- "The end of the line is refused 9"; no skip
 abbrev pub shownIn : List ℕ → List ℕ → Place → ℕ → ℕ → Shown
@@ -33,6 +34,6 @@ unfoldable pub shown : List ℕ → List ℕ → Place → Shown
 shown line s p = readable Refused (shownIn line s p) (readCheck line s)
 
 unfoldable pub shownPart : List ℕ → List ℕ → Shown → Text
-shownPart line s (Listing w) = textOf s w
-shownPart line s (Line w) = textOf line w
+shownPart line s (Listing w) = partOf s w
+shownPart line s (Line w) = partOf line w
 shownPart line s (Refused r) = []

@@ -7,7 +7,7 @@ pub mod walk; // walk.rt: the walk along a path
 pub mod check; // check.rt: the checks of a call that reads a listing
 pub mod theorems; // theorems.rt: a path's listing, read again, is the path (theorems)
 
-use edge::Part;
+use fields::Part;
 use text::Offset;
 use text::Place;
 

@@ -3,30 +3,30 @@ ghost use mathlib.Core.Path.{_≡_};
 ghost use Prim.Native.Nat.{_+_, _≤_};
 ghost use lib.ListN.{length};
 ghost use Rattle.edge.specs.Layout.{edgeAt, headEnd};
-ghost use Rattle.edge.specs.View.{textOf};
+ghost use Rattle.fields.specs.Part.{partOf};
 ghost use Rattle.paths.specs.Best.{startsWith, regularClass, class, asked, score};
 use crate::Query;
-use edge::Part;
 use edge::bits;
+use fields::Part;
 use text::Place;
 
 // Whether a text of s begins with a prefix.
 fn starts_with(s: &[u8], t: Part, prefix: &[u8]) -> bool
-    requires { ⌜ t .at + t .len ≤ length (now s) ⌝ }
-    ensures { λ r. ⌜ r ≡ startsWith (textOf (now (s .entry)) t) (now (prefix .entry)) ⌝ }
+    requires { ⌜ t .at .0 + t .len ≤ length (now s) ⌝ }
+    ensures { λ r. ⌜ r ≡ startsWith (partOf (now (s .entry)) t) (now (prefix .entry)) ⌝ }
 {
     if t.len < prefix.len() {
         return false;
     }
-    let from = t.at;
+    let from = t.at.0;
     let to = from + prefix.len();
     text::same_bytes(&s[from..to], prefix)
 }
 
 // The class of a regular edge by its type.
 fn regular_class(s: &[u8], ty: Part) -> usize
-    requires { ⌜ ty .at + ty .len ≤ length (now s) ⌝ }
-    ensures { λ r. ⌜ r ≡ regularClass (textOf (now (s .entry)) ty) ⌝ }
+    requires { ⌜ ty .at .0 + ty .len ≤ length (now s) ⌝ }
+    ensures { λ r. ⌜ r ≡ regularClass (partOf (now (s .entry)) ty) ⌝ }
 {
     if starts_with(s, ty, b"rom decomp") {
         return 3;

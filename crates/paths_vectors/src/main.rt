@@ -24,16 +24,16 @@ fn ask(line: &[u8], listing: &[u8], q: Query, skip: bool) {
     io::write_all(1, b"\n");
 }
 
-fn best(line: &[u8], listing: &[u8], start: usize, end: usize, skip: bool) {
-    ask(line, listing, Query::Span(Place(start), Place(end)), skip);
+fn best(line: &[u8], listing: &[u8], start: Place, end: Place, skip: bool) {
+    ask(line, listing, Query::Span(start, end), skip);
 }
 
-fn right(line: &[u8], listing: &[u8], place: usize, skip: bool) {
-    ask(line, listing, Query::Right(Place(place)), skip);
+fn right(line: &[u8], listing: &[u8], place: Place, skip: bool) {
+    ask(line, listing, Query::Right(place), skip);
 }
 
-fn left(line: &[u8], listing: &[u8], place: usize, skip: bool) {
-    ask(line, listing, Query::Left(Place(place)), skip);
+fn left(line: &[u8], listing: &[u8], place: Place, skip: bool) {
+    ask(line, listing, Query::Left(place), skip);
 }
 
 // Which of the two a text shown is in; no text goes with a refusal.
@@ -58,15 +58,15 @@ fn show_part(w: Shown) {
     }
 }
 
-fn shown<'a>(line: &'a [u8], listing: &'a [u8], place: usize) {
-    let w = queries::shown::shown_text(line, listing, Place(place));
+fn shown<'a>(line: &'a [u8], listing: &'a [u8], place: Place) {
+    let w = queries::shown::shown_text(line, listing, place);
     show_part(w);
     io::write_all(1, queries::shown_part::shown_part(line, listing, w));
     io::write_all(1, b"\n");
 }
 
-fn path(line: &[u8], listing: &[u8], start: usize, end: usize, skip: bool, out: &mut [u8]) {
-    let w = queries::path::path(line, listing, Place(start), Place(end), skip, out);
+fn path(line: &[u8], listing: &[u8], start: Place, end: Place, skip: bool, out: &mut [u8]) {
+    let w = queries::path::path(line, listing, start, end, skip, out);
     show(b"bytes ", answers::reading::written_told(w));
     io::write_all(1, b"\n");
 }
@@ -74,19 +74,19 @@ fn path(line: &[u8], listing: &[u8], start: usize, end: usize, skip: bool, out: 
 // Paths into an output of 64 bytes.
 fn paths(line: &[u8], listing: &[u8]) {
     let mut out = [0u8; 64];
-    path(line, listing, 0, 3, false, &mut out);
-    path(line, listing, 0, 1, false, &mut out);
-    path(line, listing, 0, 3, true, &mut out);
-    path(line, listing, 1, 3, false, &mut out);
+    path(line, listing, Place(0), Place(3), false, &mut out);
+    path(line, listing, Place(0), Place(1), false, &mut out);
+    path(line, listing, Place(0), Place(3), true, &mut out);
+    path(line, listing, Place(1), Place(3), false, &mut out);
 }
 
 // An output just long enough: the listing written is read again. One that is a byte too short stays as it was.
 fn exact(line: &[u8], listing: &[u8]) {
     let mut out = [7u8; 16];
-    path(line, listing, 0, 3, true, &mut out);
-    best(line, &out, 0, 2, false);
+    path(line, listing, Place(0), Place(3), true, &mut out);
+    best(line, &out, Place(0), Place(2), false);
     let mut short = [7u8; 15];
-    path(line, listing, 0, 3, true, &mut short);
+    path(line, listing, Place(0), Place(3), true, &mut short);
     if short[0] == 7 {
         io::write_all(1, b"untouched\n");
     }
@@ -95,41 +95,41 @@ fn exact(line: &[u8], listing: &[u8]) {
 // A path of no place is a listing of no edge, two bytes.
 fn no_place(line: &[u8], listing: &[u8]) {
     let mut out = [7u8; 2];
-    path(line, listing, 2, 2, false, &mut out);
-    right(line, &out, 0, false);
+    path(line, listing, Place(2), Place(2), false, &mut out);
+    right(line, &out, Place(0), false);
     let mut short = [7u8; 1];
-    path(line, listing, 2, 2, false, &mut short);
+    path(line, listing, Place(2), Place(2), false, &mut short);
 }
 
 // The refusals in their order: 2, 3, 6, then 9.
 fn refusals(line: &[u8], listing: &[u8]) {
     let long = [97u8; 257];
     let ab: &[u8] = b"ab";
-    best(b"a\xff", listing, 9, 0, false);
-    best(&long, listing, 9, 0, false);
-    best(ab, b"\x01\x00", 9, 0, false);
-    best(ab, listing, 0, 2, false);
-    best(line, listing, 2, 1, false);
-    best(line, listing, 0, 4, false);
+    best(b"a\xff", listing, Place(9), Place(0), false);
+    best(&long, listing, Place(9), Place(0), false);
+    best(ab, b"\x01\x00", Place(9), Place(0), false);
+    best(ab, listing, Place(0), Place(2), false);
+    best(line, listing, Place(2), Place(1), false);
+    best(line, listing, Place(0), Place(4), false);
 }
 
 fn all<'a>(line: &'a [u8], listing: &'a [u8]) {
-    best(line, listing, 0, 2, false);
-    best(line, listing, 0, 2, true);
-    best(line, listing, 0, 3, true);
-    best(line, listing, 1, 1, false);
-    right(line, listing, 0, false);
-    right(line, listing, 0, true);
-    right(line, listing, 3, false);
-    right(line, listing, 4, false);
-    left(line, listing, 2, false);
-    left(line, listing, 3, false);
-    left(line, listing, 3, true);
-    left(line, listing, 0, false);
-    shown(line, listing, 0);
-    shown(line, listing, 1);
-    shown(line, listing, 2);
-    shown(line, listing, 3);
+    best(line, listing, Place(0), Place(2), false);
+    best(line, listing, Place(0), Place(2), true);
+    best(line, listing, Place(0), Place(3), true);
+    best(line, listing, Place(1), Place(1), false);
+    right(line, listing, Place(0), false);
+    right(line, listing, Place(0), true);
+    right(line, listing, Place(3), false);
+    right(line, listing, Place(4), false);
+    left(line, listing, Place(2), false);
+    left(line, listing, Place(3), false);
+    left(line, listing, Place(3), true);
+    left(line, listing, Place(0), false);
+    shown(line, listing, Place(0));
+    shown(line, listing, Place(1));
+    shown(line, listing, Place(2));
+    shown(line, listing, Place(3));
     paths(line, listing);
     exact(line, listing);
     no_place(line, listing);

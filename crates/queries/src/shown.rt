@@ -6,7 +6,7 @@ ghost use Rattle.paths.specs.declared.Query.the-variants as Query;
 ghost use Rattle.paths.specs.Best.{best, withOffsets, found};
 ghost use Rattle.paths.specs.Reading.{Spans};
 ghost use Rattle.paths.specs.Shown.{shownBy, shown};
-use edge::Part;
+use fields::Part;
 use paths::Found;
 use paths::Query;
 use paths::ReadCheck;
@@ -31,7 +31,7 @@ fn shown_at(line: &[u8], listing: &[u8], chars: usize, count: usize, place: Plac
             let from = text::line::offset_of(line, place);
             let to = text::line::offset_of(line, Place(place.0 + 1));
             Shown::Line(Part {
-                at: from.0,
+                at: from,
                 len: to.0 - from.0,
             })
         }

@@ -1,15 +1,15 @@
 // The bytes of a text shown at a place of a line (01, "Added: .."): the part of the line or of the listing that the answer of `shown` names.
 ghost use mathlib.Core.Path.{_≡_};
-ghost use Rattle.edge.specs.View.{textOf};
+ghost use Rattle.fields.specs.Part.{partOf};
 ghost use Rattle.paths.specs.Shown.{shownPart};
-use edge::Part;
+use fields::Part;
 use paths::Shown;
 
 // A part of a slice; what of it is behind the slice's end is left out.
 fn part_of(s: &[u8], p: Part) -> &[u8]
-    ensures { λ r. ⌜ now r ≡ textOf (now (s .entry)) p ⌝ }
+    ensures { λ r. ⌜ now r ≡ partOf (now (s .entry)) p ⌝ }
 {
-    let at = p.at;
+    let at = p.at.0;
     let len = p.len;
     if s.len() <= at {
         return &s[..0];

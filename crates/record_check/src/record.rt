@@ -8,18 +8,20 @@ ghost use Rattle.text.specs.Text.{wellFormed};
 ghost use Rattle.fields.specs.Fields.{leAt};
 ghost use Rattle.table.specs.Layout.{bit, mapField, text, optional, readFields};
 ghost use Rattle.table.specs.Check.{allOf, legalRecord};
-ghost use Rattle.table.specs.Answers.{partOf, optionally, optText, Within, TextWithin};
+ghost use Rattle.fields.specs.Part.{partOf};
+ghost use Rattle.table.specs.Answers.{optionally, optText, Within, TextWithin};
 ghost use Rattle.record_check.specs.Look.{lookField};
 ghost use Rattle.record_check.specs.Content.{textsFine, restFine};
 ghost use Rattle.record_check.specs.Step.{StepIs};
 use crate::code_point::legal_code_point;
 use crate::number::Look;
 use crate::number_fields::numbers_look;
+use fields::Part;
 use table::bits;
 use table::digit::legal_digit;
-use table::layout::Part;
 use table::layout::TextAt;
 use table::layout::text_at;
+use text::Offset;
 
 // What checking a record gives: its code point and the offset behind it, or the refusal's number.
 pub enum RecordCheck {
@@ -75,7 +77,13 @@ fn opt_text_at(s: &[u8], at: usize, there: bool) -> TextAt
     if there {
         text_at(s, at)
     } else {
-        TextAt::Text(Part { at: 0, len: 0 }, at)
+        TextAt::Text(
+            Part {
+                at: Offset(0),
+                len: 0,
+            },
+            at,
+        )
     }
 }
 

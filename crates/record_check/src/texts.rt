@@ -3,13 +3,13 @@ ghost use mathlib.Core.Path.{_≡_};
 ghost use mathlib.Core.Bool.{true};
 ghost use Prim.Native.Nat.{_+_, _-_, _≤_, _<_};
 ghost use lib.ListN.{length};
-ghost use Rattle.fields.specs.Part.{part};
+ghost use Rattle.fields.specs.Part.{part, partOf};
 ghost use Rattle.text.specs.Text.{wellFormed};
 ghost use Rattle.table.specs.Check.{legalMark};
-ghost use Rattle.table.specs.Answers.{partOf, Within};
+ghost use Rattle.table.specs.Answers.{Within};
 ghost use Rattle.record_check.specs.Rest.{Trail, Rest};
 use crate::ascii::short_ascii;
-use table::layout::Part;
+use fields::Part;
 
 // Whether a continuation byte stands at an offset before the end.
 fn trail_at(s: &[u8], at: usize, end: usize) -> bool
@@ -80,7 +80,7 @@ pub fn well_formed(s: &[u8], p: Part) -> bool
     requires { ⌜ Within (now s) p ⌝ }
     ensures { λ r. ⌜ r ≡ wellFormed (partOf (now (s .entry)) p) ⌝ }
 {
-    formed(s, p.at, p.len)
+    formed(s, p.at.0, p.len)
 }
 
 // A string of a list: not empty, and UTF-8.

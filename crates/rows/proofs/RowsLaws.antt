@@ -9,13 +9,13 @@ use native.Mathlib.Omega.{arith}
 use lib.ListN.{length, take, drop, length-append}
 use borrow.Author.Tests.{not-true, not-false}
 use Rattle.whole.specs.Decimal.{decimal}
-use Rattle.fields.specs.Part.{part}
+use Rattle.fields.specs.Part.{part, partOf}
 use Rattle.fields.proofs.PartLaws.{length-part}
-use Rattle.edge.specs.declared.Part.{Part}
+use Rattle.fields.specs.declared.Part.{Part}
 use Rattle.edge.specs.declared.EdgeView.{EdgeView}
 use Rattle.edge.specs.Edge.{Text, Numeric}
 use Rattle.edge.specs.Layout.{stands, only, mapAt, textAt, stringEnd, headEnd, nextAt, numericAt, edgeAt}
-use Rattle.edge.specs.View.{textOf, viewAt}
+use Rattle.edge.specs.View.{viewAt}
 use Rattle.edge.specs.Write.{Put}
 use Rattle.edge.proofs.CheckLaws.{head-within, type-within, txt-within}
 use Rattle.edge.proofs.WriteLaws.{put-then}
@@ -24,9 +24,9 @@ use Rattle.rows.specs.Rows.{mark, row, rowBytes, viewMark, viewRow}
 
 -- ---- one column
 -- the part that is lent to a writer
-pub put-slice : (s : List ℕ) (p : Part) (by : ℕ) {w t : List ℕ} {at r : ℕ} → Put w t at r (ended (take (p .at + p .len - p .at) (drop (p .at) s)) by) → Put w t at r (ended (textOf s p) by)
+pub put-slice : (s : List ℕ) (p : Part) (by : ℕ) {w t : List ℕ} {at r : ℕ} → Put w t at r (ended (take (p .at .0 + p .len - p .at .0) (drop (p .at .0) s)) by) → Put w t at r (ended (partOf s p) by)
 unfolding part
-put-slice s p by q = rw (add-sub-cancel-left (p .at) (p .len)) at q
+put-slice s p by q = rw (add-sub-cancel-left (p .at .0) (p .len)) at q
 
 -- ---- the mark
 module _ (m : ℕ) (b : Bool) (bit-0 : b ≡ stands 0 m) where
@@ -49,12 +49,12 @@ pub length-row : (a z : ℕ) (ty tx : Text) (m : ℕ) → length (row a z ty tx 
 unfolding row
 length-row a z ty tx m = simp length-append (omega arith)
 
-module _ (s : List ℕ) (e : EdgeView) (ty-in : e .ty .at + e .ty .len ≤ length s) (tx-in : e .txt .at + e .txt .len ≤ length s) where
+module _ (s : List ℕ) (e : EdgeView) (ty-in : e .ty .at .0 + e .ty .len ≤ length s) (tx-in : e .txt .at .0 + e .txt .len ≤ length s) where
   pub length-view-row : length (viewRow s e) ≡ length (decimal (e .start .0)) + length (decimal (e .end .0)) + e .ty .len + e .txt .len + 6
   length-view-row =
-      let t = length-part s (e .ty .at) (e .ty .len) ty-in in
-      let x = length-part s (e .txt .at) (e .txt .len) tx-in in
-      length-row (e .start .0) (e .end .0) (textOf s (e .ty)) (textOf s (e .txt)) (viewMark (e .map)) ∙ rw (t, x)
+      let t = length-part s (e .ty .at .0) (e .ty .len) ty-in in
+      let x = length-part s (e .txt .at .0) (e .txt .len) tx-in in
+      length-row (e .start .0) (e .end .0) (partOf s (e .ty)) (partOf s (e .txt)) (viewMark (e .map)) ∙ rw (t, x)
 
   -- the room for each column
   module _ (at n : ℕ) (room : at + length (viewRow s e) ≤ n) where
@@ -75,7 +75,7 @@ module _ (s : List ℕ) (e : EdgeView) (ty-in : e .ty .at + e .ty .len ≤ lengt
             let y = length-append (decimal (e .end .0)) (9 ∷ []) in
             omega arith
 
-        module _ {w : List ℕ} {g : ℕ} (r : Put v w h g (ended (textOf s (e .ty)) 9)) where
+        module _ {w : List ℕ} {g : ℕ} (r : Put v w h g (ended (partOf s (e .ty)) 9)) where
           past-type : g ≡ at + length (decimal (e .start .0)) + length (decimal (e .end .0)) + e .ty .len + 3
           past-type =
               let i = p .next in
@@ -83,20 +83,20 @@ module _ (s : List ℕ) (e : EdgeView) (ty-in : e .ty .at + e .ty .len ≤ lengt
               let x = q .next in
               let y = length-append (decimal (e .end .0)) (9 ∷ []) in
               let a = r .next in
-              let b = length-append (textOf s (e .ty)) (9 ∷ []) in
-              let c = length-part s (e .ty .at) (e .ty .len) ty-in in
+              let b = length-append (partOf s (e .ty)) (9 ∷ []) in
+              let c = length-part s (e .ty .at .0) (e .ty .len) ty-in in
               omega arith
 
           pub txt-room : g + e .txt .len + 1 ≤ n
           txt-room = let l = length-view-row in let x = past-type in omega arith
 
-          pub mark-room : {x : List ℕ} {f : ℕ} → Put w x g f (ended (textOf s (e .txt)) 9) → f + 2 ≤ n
+          pub mark-room : {x : List ℕ} {f : ℕ} → Put w x g f (ended (partOf s (e .txt)) 9) → f + 2 ≤ n
           mark-room o =
               let l = length-view-row in
               let x = past-type in
               let a = o .next in
-              let b = length-append (textOf s (e .txt)) (9 ∷ []) in
-              let c = length-part s (e .txt .at) (e .txt .len) tx-in in
+              let b = length-append (partOf s (e .txt)) (9 ∷ []) in
+              let c = length-part s (e .txt .at .0) (e .txt .len) tx-in in
               omega arith
 
 pub put-all-columns : (a z : ℕ) (ty tx : Text) (m : ℕ) {b : ℕ} {s t u v w x : List ℕ} {at h i j k r : ℕ} → b ≡ m
@@ -111,10 +111,10 @@ module _ (s : List ℕ) (from : ℕ) (e : EdgeView) (read : e ≡ viewAt s from)
   unfolding viewAt edgeAt textAt numericAt
   row-is = rw read (ap (row _ _ _ _) (mark-only (stands 0 (mapAt s from)) (numericAt (mapAt s from) s (headEnd s from))))
 
-  pub type-in : e .ty .at + e .ty .len ≤ length s
+  pub type-in : e .ty .at .0 + e .ty .len ≤ length s
   type-in = type-within s from (length s) e read (head-within s from (length s) there)
 
-  pub txt-in : e .txt .at + e .txt .len ≤ length s
+  pub txt-in : e .txt .at .0 + e .txt .len ≤ length s
   txt-in = txt-within s from (length s) e read (head-within s from (length s) there)
 
   pub row-room : (at : ℕ) {n : ℕ} → at + length (rowBytes (edgeAt s from)) ≤ n → at + length (viewRow s e) ≤ n

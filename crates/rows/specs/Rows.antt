@@ -15,7 +15,7 @@ use Rattle.rows.specs.Columns.{ended}
 use Rattle.edge.specs.declared.EdgeView.{EdgeView}
 use Rattle.edge.specs.Edge.{Text, Numeric, Edge}
 use Rattle.edge.specs.Layout.{stands}
-use Rattle.edge.specs.View.{textOf}
+use Rattle.fields.specs.Part.{partOf}
 
 abbrev pub mark : Option Numeric → ℕ
 mark none = 45
@@ -31,4 +31,4 @@ abbrev pub viewMark : ℕ → ℕ
 viewMark m = cond (stands 0 m) (cond (stands 7 m) 49 48) 45
 
 abbrev pub viewRow : List ℕ → EdgeView → List ℕ
-viewRow s v = row (v .start .0) (v .end .0) (textOf s (v .ty)) (textOf s (v .txt)) (viewMark (v .map))
+viewRow s v = row (v .start .0) (v .end .0) (partOf s (v .ty)) (partOf s (v .txt)) (viewMark (v .map))

@@ -7,21 +7,21 @@ ghost use mathlib.Core.Path.{_≡_};
 ghost use Prim.Native.Nat.{_+_, _≤_};
 ghost use lib.ListN.{length};
 ghost use Rattle.edge.specs.Layout.{nextAt, edgeAt};
-ghost use Rattle.edge.specs.View.{textOf};
+ghost use Rattle.fields.specs.Part.{partOf};
 ghost use Rattle.edge.specs.Write.{Put};
 ghost use Rattle.rows.specs.Columns.{ended};
 ghost use Rattle.rows.specs.Rows.{rowBytes, viewMark, viewRow};
 use edge::EdgeView;
-use edge::Part;
 use edge::Written;
 use edge::bits;
+use fields::Part;
 
 // A part of a slice and the byte that ends it.
 fn put_part(out: &mut [u8], at: usize, s: &[u8], t: Part, by: u8) -> usize
-    requires { ⌜ (at + t .len + 1 ≤ length (now out)) × (t .at + t .len ≤ length (now s)) ⌝ }
-    ensures { λ r. ⌜ Put (now (out .entry)) (now (out .exit)) at r (ended (textOf (now (s .entry)) t) by) ⌝ }
+    requires { ⌜ (at + t .len + 1 ≤ length (now out)) × (t .at .0 + t .len ≤ length (now s)) ⌝ }
+    ensures { λ r. ⌜ Put (now (out .entry)) (now (out .exit)) at r (ended (partOf (now (s .entry)) t) by) ⌝ }
 {
-    let from = t.at;
+    let from = t.at.0;
     let to = from + t.len;
     crate::columns::put_text(out, at, &s[from..to], by)
 }
@@ -42,8 +42,8 @@ fn mark(map: u16) -> u8
 
 // The row of an edge, for which there is room.
 fn put_columns(out: &mut [u8], at: usize, s: &[u8], e: EdgeView) -> usize
-    requires { ⌜ (at + length (viewRow (now s) e) ≤ length (now out)) × (e .ty .at + e .ty .len ≤ length (now s))
-        × (e .txt .at + e .txt .len ≤ length (now s)) ⌝ }
+    requires { ⌜ (at + length (viewRow (now s) e) ≤ length (now out)) × (e .ty .at .0 + e .ty .len ≤ length (now s))
+        × (e .txt .at .0 + e .txt .len ≤ length (now s)) ⌝ }
     ensures { λ r. ⌜ Put (now (out .entry)) (now (out .exit)) at r (viewRow (now (s .entry)) e) ⌝ }
 {
     let end = crate::columns::put_number(out, at, e.start.0 as u64, b'\t');

@@ -60,7 +60,7 @@ module _ (s : List ℕ) (at : ℕ) {v : EdgeView} (read : v ≡ viewAt s at) whe
         go true false m e = refl
         go false d m e = refl
 
-    pub apart-digit : (b && getD marks (v .start .0) false) ≡ true → {r : Bool} → r ≡ beginsWithDigit (take (v .txt .at + v .txt .len - v .txt .at) (drop (v .txt .at) s)) → r ≡ apartBy marks (edgeAt s at)
+    pub apart-digit : (b && getD marks (v .start .0) false) ≡ true → {r : Bool} → r ≡ beginsWithDigit (take (v .txt .at .0 + v .txt .len - v .txt .at .0) (drop (v .txt .at .0) s)) → r ≡ apartBy marks (edgeAt s at)
     unfolding apartBy
     apart-digit t asked =
         let n = and-true (isNumeric (edgeAt s at)) (getD marks (edgeAt s at .start) false) (sym both-read ∙ t) in

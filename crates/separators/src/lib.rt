@@ -28,7 +28,7 @@ fn is_apart(s: &[u8], at: usize, marks: &[bool; PLACES]) -> bool
     let e = edge::head::edge_at(s, at);
     let txt = e.txt;
     let start = e.start;
-    let from = txt.at;
+    let from = txt.at.0;
     let to = from + txt.len;
     let place = start.0;
     if !(edge::bit(e.map, bits::NUMERIC) & marks[place]) {

@@ -54,7 +54,7 @@ fn share_at(s: &[u8], at: usize) -> Share
     if !edge::bit(e.map, FRACTION) {
         return Share::Nothing;
     }
-    let d = edge::numeric::fields_at(e.map, s, e.fields);
+    let d = edge::numeric::fields_at(e.map, s, e.fields.0);
     Share::Of(d.numerator, d.denominator)
 }
 

@@ -1,8 +1,8 @@
 // The edges for the signs of one list that stand directly before a stored edge of the pass list (01, "The rest of the call", G6). A sign is given by its ASCII byte.
+use fields::Part;
 use lattice::Lattice;
 use markers::Sign;
 use pass_list::record::PassEdge;
-use table::layout::Part;
 use table::layout::TextAt;
 use text::Place;
 use text::check::PLACES;
@@ -14,7 +14,8 @@ ghost use lib.ListN.{length};
 ghost use Rattle.text.specs.Text.{chars, wellFormed};
 ghost use Rattle.text.specs.Line.{maxChars};
 ghost use Rattle.table.specs.Layout.{listAt, maxString};
-ghost use Rattle.table.specs.Answers.{partOf, Within};
+ghost use Rattle.fields.specs.Part.{partOf};
+ghost use Rattle.table.specs.Answers.{Within};
 ghost use Rattle.edge.specs.Edge.{Edge};
 ghost use Rattle.lattice.specs.Lattice.{add};
 ghost use Rattle.lattice.specs.Kept.{Holds, SameBehind};
@@ -98,8 +99,8 @@ fn add_sign(
         × (wellFormed (partOf (now table) m) ≡ true) ⌝ }
     ensures { λ r. ⌜ Signs (now (line .entry)) (now (table .entry)) x sign (partOf (now (table .entry)) m ∷ []) (now (w .entry)) l (now (w .exit)) r ⌝ }
 {
-    let from = m.at;
-    let to = m.at + m.len;
+    let from = m.at.0;
+    let to = from + m.len;
     match markers::sign_before(line, offs, x.start, &table[from..to]) {
         Sign::Before(size) => add_signed(w, l, line, offs, table, x, sign, Place(x.start.0 - size)),
         Sign::NoSign => l,

@@ -19,7 +19,7 @@ use Rattle.fields.specs.Part.{part}
 use Rattle.table.specs.Table.{Text, Record}
 use Rattle.table.specs.Layout.{Field, Is, Fault, thenField, mapField, bit, number, textOf, text, fraction, optional, Numbers, readNumbers, recordWith, readFields, readRecord, manyAt, textsAt, listAt}
 use Rattle.table.specs.Answers.{Within, TextWithin, optionally, textField, optText, numberIf, numbersOf}
-use Rattle.table.specs.declared.layout.Part.{Part}
+use Rattle.fields.specs.declared.Part.{Part}
 use Rattle.table.specs.declared.layout.TextAt.{TextAt}
 use Rattle.table.specs.declared.layout.TextAt.the-variants as TextAt
 

@@ -1,5 +1,4 @@
 -- What the answers of this crate's functions say of the table's bytes s, case by case. Definitions only.
---     partOf s p        the bytes of a part
 --     recordOf s p      the record that a NumProp stands for
 --     tableOf s h       the table that a shape stands for
 --     textField, optText   an answer as a field (`specs/Layout.antt`)
@@ -11,13 +10,13 @@ use mathlib.Core.List.{List, [], _∷_}
 use mathlib.Core.Option.{Option, none, some}
 use lib.ListN.{length}
 use Rattle.fields.specs.Fields.{leAt}
-use Rattle.fields.specs.Part.{part}
+use Rattle.fields.specs.Part.{partOf}
 use Rattle.table.specs.Table.{Text, Record, Table}
 use Rattle.table.specs.Layout as Layout
 use Rattle.table.specs.Layout.{Field, Is, bit, textsAt, recordsAt, listAt}
 use Rattle.table.specs.Check.{Checked, Fine}
 use Rattle.table.specs.Check as Check
-use Rattle.table.specs.declared.layout.Part.{Part}
+use Rattle.fields.specs.declared.Part.{Part}
 use Rattle.table.specs.declared.layout.TextAt.{TextAt}
 use Rattle.table.specs.declared.layout.TextAt.the-variants as TextAt
 use Rattle.table.specs.declared.layout.Numbers.{Numbers}
@@ -27,9 +26,6 @@ use Rattle.table.specs.declared.shape.ItemsCheck.the-variants as ItemsCh
 use Rattle.table.specs.declared.shape.Shape.{Shape}
 use Rattle.table.specs.declared.shape.TableCheck.{TableCheck}
 use Rattle.table.specs.declared.shape.TableCheck.the-variants as TableCheck
-
-abbrev pub partOf : List ℕ → Part → Text
-partOf s p = part s (p .at) (p .len)
 
 abbrev pub optionally : {A : Type 0} → Bool → A → Option A
 optionally b a = cond b (some a) none
@@ -64,7 +60,7 @@ recordOf s p =
 
 -- ---- what lies within the bytes
 abbrev pub Within : List ℕ → Part → Type 0
-Within s p = p .at + p .len ≤ length s
+Within s p = p .at .0 + p .len ≤ length s
 
 pub record Inside (s : List ℕ) (p : NumProp) : Type 0 where
   pub type-within : Within s (p .«num_type»)
@@ -91,4 +87,4 @@ tableOf s h = record {
 
 abbrev pub tableAnswer : List ℕ → TableCheck → Checked Table
 tableAnswer s (TableCheck.Table h) = Fine (tableOf s h) (length s)
-tableAnswer s (TableCheck.Refused number at) = Check.Refused number at
+tableAnswer s (TableCheck.Refused number at) = Check.Refused number (at .0)

@@ -10,13 +10,13 @@ use Prim.Native.Nat.{ℕ, _+_}
 use lib.ListN.{getD}
 use Rattle.table.specs.Table.{Record}
 use Rattle.table.specs.Layout.{Is, readRecord}
-use Rattle.table.specs.declared.layout.Part.{Part}
+use Rattle.fields.specs.declared.Part.{Part}
 
 abbrev pub endIf : Bool → List ℕ → ℕ → ℕ
 endIf b s at = cond b (at + 1 + getD s at 0) at
 
 abbrev pub partIf : Bool → List ℕ → ℕ → Part
-partIf b s at = cond b (record { at = at + 1; len = getD s at 0 }) (record { at = 0; len = 0 })
+partIf b s at = cond b (record { at = record { 0 = at + 1 }; len = getD s at 0 }) (record { at = record { 0 = 0 }; len = 0 })
 
 pub record Stands (s : List ℕ) (at next : ℕ) : Type 0 where
   pub prop : Record

@@ -6,10 +6,11 @@ ghost use lib.ListN.{length};
 ghost use Rattle.fields.specs.Fields.{leAt};
 ghost use Rattle.table.specs.Layout.{bit};
 ghost use Rattle.table.specs.Check.{isDigitType};
-ghost use Rattle.table.specs.Answers.{partOf, Within};
+ghost use Rattle.fields.specs.Part.{partOf};
+ghost use Rattle.table.specs.Answers.{Within};
 ghost use Rattle.table.specs.Digit.{digitFine};
 use crate::bits;
-use crate::layout::Part;
+use fields::Part;
 
 // Whether a part is "digit": its first four bytes are looked at as one number.
 pub fn is_digit_type(s: &[u8], p: Part) -> bool
@@ -19,7 +20,7 @@ pub fn is_digit_type(s: &[u8], p: Part) -> bool
     if p.len != 5 {
         return false;
     }
-    let at = p.at;
+    let at = p.at.0;
     let last = s[at + 4];
     (fields::u32_at(s, at) == 0x69676964) & (last == b't')
 }
@@ -46,7 +47,7 @@ pub fn legal_digit(s: &[u8], map: u8, at: usize, kind: Part, rom: Part) -> bool
     if rom.len != 1 {
         return false;
     }
-    let first = rom.at;
+    let first = rom.at.0;
     wide(s[first]) == 48 + value
 }
 

@@ -2,15 +2,11 @@
 ghost use mathlib.Core.Path.{_≡_};
 ghost use Rattle.table.specs.Layout.{text};
 ghost use Rattle.table.specs.Answers.{textField, TextWithin};
+use fields::Part;
+use text::Offset;
 
 // The most bytes of a string.
 pub const MAX_STRING: usize = 60;
-
-// Bytes of the table: len of them from at on.
-pub struct Part {
-    pub at: usize,
-    pub len: usize,
-}
 
 // A string, with the offset behind it.
 pub enum TextAt {
@@ -57,7 +53,7 @@ pub fn text_at(s: &[u8], at: usize) -> TextAt
     }
     TextAt::Text(
         Part {
-            at: start,
+            at: Offset(start),
             len: len,
         },
         start + len,

@@ -1,4 +1,5 @@
 // What the check of a table answers (crate `table_check`): the table's shape, or a refusal.
+use text::Offset;
 
 // What checking items gives: the offset behind them, or the refusal's number and offset.
 pub enum ItemsCheck {
@@ -19,5 +20,5 @@ pub struct Shape {
 // A table's shape, or the refusal's number and offset.
 pub enum TableCheck {
     Table(Shape),
-    Refused(u8, usize),
+    Refused(u8, Offset),
 }

@@ -9,6 +9,7 @@ use table::index::INDEX_SIZE;
 use table::shape::ItemsCheck;
 use table::shape::Shape;
 use table::shape::TableCheck;
+use text::Offset;
 
 // The table that the bytes are, or why they are none. The index over its records is left in offs, with so many entries.
 pub fn check_table(s: &[u8], offs: &mut [u32; INDEX_SIZE], entries: &mut usize) -> TableCheck
@@ -16,17 +17,17 @@ pub fn check_table(s: &[u8], offs: &mut [u32; INDEX_SIZE], entries: &mut usize) 
     ensures indexed { λ r. ⌜ TableIndexed (now (s .entry)) (now (offs .exit)) (now (entries .exit)) r ⌝ }
 {
     if s.len() < 2 {
-        return TableCheck::Refused(4, 0);
+        return TableCheck::Refused(4, Offset(0));
     }
     let count = fields::u16_at(s, 0) as usize;
     match list_end(s, 2) {
-        ItemsCheck::Refused(number, at) => TableCheck::Refused(number, at),
+        ItemsCheck::Refused(number, at) => TableCheck::Refused(number, Offset(at)),
         ItemsCheck::End(connectors) => match list_end(s, connectors) {
-            ItemsCheck::Refused(number, at) => TableCheck::Refused(number, at),
+            ItemsCheck::Refused(number, at) => TableCheck::Refused(number, Offset(at)),
             ItemsCheck::End(plus) => match list_end(s, plus) {
-                ItemsCheck::Refused(number, at) => TableCheck::Refused(number, at),
+                ItemsCheck::Refused(number, at) => TableCheck::Refused(number, Offset(at)),
                 ItemsCheck::End(minus) => match list_end(s, minus) {
-                    ItemsCheck::Refused(number, at) => TableCheck::Refused(number, at),
+                    ItemsCheck::Refused(number, at) => TableCheck::Refused(number, Offset(at)),
                     ItemsCheck::End(records) => match records_end(
                         s,
                         records,
@@ -34,10 +35,10 @@ pub fn check_table(s: &[u8], offs: &mut [u32; INDEX_SIZE], entries: &mut usize) 
                         offs,
                         entries,
                     ) {
-                        ItemsCheck::Refused(number, at) => TableCheck::Refused(number, at),
+                        ItemsCheck::Refused(number, at) => TableCheck::Refused(number, Offset(at)),
                         ItemsCheck::End(end) => {
                             if end != s.len() {
-                                return TableCheck::Refused(4, end);
+                                return TableCheck::Refused(4, Offset(end));
                             }
                             TableCheck::Table(Shape {
                                 percentages: 2,

@@ -10,7 +10,7 @@ fn report(table: &[u8]) {
         TableCheck::Table(shape) => vectors::say(b"table of ", shape.count as u64),
         TableCheck::Refused(number, at) => {
             vectors::say(b"refused ", number as u64);
-            vectors::say(b" ", at as u64);
+            vectors::say(b" ", at.0 as u64);
         }
     }
 }

@@ -134,10 +134,10 @@ module _ (s : List ℕ) (n at : ℕ) (r : Reached s n at) where
         }
 
   -- a walk ends here: with enough characters, or where no more are
-  pub walk-enough : (most : ℕ) → n ≤ most → most ≤ n → record { count = n; at = at } ≡ walked s most
+  pub walk-enough : (most : ℕ) → n ≤ most → most ≤ n → record { count = n; at = record { 0 = at } } ≡ walked s most
   walk-enough most h k = let e : most ≡ n = omega arith in rw e (rw (r .places, r .offset))
 
-  pub walk-stops : (most : ℕ) → n ≤ most → chars (drop at s) ≡ [] → record { count = n; at = at } ≡ walked s most
+  pub walk-stops : (most : ℕ) → n ≤ most → chars (drop at s) ≡ [] → record { count = n; at = record { 0 = at } } ≡ walked s most
   walk-stops most h e =
       let all : take most (chars s) ≡ take n (chars s) = take-past in
       rw all (rw (r .places, r .offset))

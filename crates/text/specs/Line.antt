@@ -1,5 +1,5 @@
 -- A line: how it is walked, and refusals 2 and 3. Definitions only.
---     walked s p      the first characters of s, at most p: how many they are, and their length in bytes
+--     walked s p      the first characters of s, at most p: how many they are, and the offset behind them
 --     maxChars        the most characters that a line may have
 --     lineNumber s, linePlace s  what 01's table says of the line s: the number of its refusal, 0 where it is accepted; the offset, or the count of characters
 --     PLACES          the most places that a line may have, its end included
@@ -18,7 +18,7 @@ use Rattle.text.specs.declared.LineCheck.the-variants.{Chars, IllFormed,
 use Rattle.text.specs.Text.{chars, wellFormed, offsetOf, illAt}
 
 abbrev pub walked : List ℕ → ℕ → Walked
-walked s p = record { count = length (take p (chars s)); at = offsetOf s p }
+walked s p = record { count = length (take p (chars s)); at = record { 0 = offsetOf s p } }
 
 abbrev pub maxChars : ℕ
 maxChars = 256

@@ -1,6 +1,5 @@
 // Refusals 2 and 3 of a line. The words of the contract are in `text`'s specs/Line.antt.
 use crate::LineCheck;
-use crate::Offset;
 use crate::Place;
 ghost use Rattle.text.specs.Line.{LineAnswer};
 
@@ -15,8 +14,9 @@ pub fn check_line(line: &[u8]) -> LineCheck
     ensures { λ r. ⌜ LineAnswer (now (line .entry)) r ⌝ }
 {
     let w = crate::line::walk(line, line.len());
-    if w.at < line.len() {
-        return LineCheck::IllFormed(Offset(w.at));
+    let at = w.at;
+    if at.0 < line.len() {
+        return LineCheck::IllFormed(at);
     }
     if w.count <= MAX_CHARS {
         return LineCheck::Chars(w.count);

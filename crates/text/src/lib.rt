@@ -25,10 +25,10 @@ pub enum Seq {
     End,
 }
 
-// How far a walk over characters came: how many, and their length in bytes.
+// How far a walk over characters came: how many, and the offset behind them.
 pub struct Walked {
     pub count: usize,
-    pub at: usize,
+    pub at: Offset,
 }
 
 // What a line is: so many characters; not UTF-8, with the offset of its first ill-formed sequence; over MAX_CHARS, with the offset of the next one.

@@ -21,14 +21,23 @@ pub fn walk(s: &[u8], most: usize) -> Walked
                 at += len;
             }
             Seq::Ill => {
-                return Walked { count, at };
+                return Walked {
+                    count,
+                    at: Offset(at),
+                };
             }
             Seq::End => {
-                return Walked { count, at };
+                return Walked {
+                    count,
+                    at: Offset(at),
+                };
             }
         }
     }
-    Walked { count, at }
+    Walked {
+        count,
+        at: Offset(at),
+    }
 }
 
 // Whether all of s is well-formed.
@@ -36,7 +45,7 @@ pub fn well_formed(s: &[u8]) -> bool
     ensures { λ r. ⌜ r ≡ wellFormed (now (s .entry)) ⌝ }
 {
     let w = walk(s, s.len());
-    w.at == s.len()
+    w.at.0 == s.len()
 }
 
 // The offset of a place of the line; the line's length for a place behind its end.
@@ -44,5 +53,5 @@ pub fn offset_of(line: &[u8], place: Place) -> Offset
     ensures { λ r. ⌜ r .0 ≡ offsetOf (now (line .entry)) (place .0) ⌝ }
 {
     let w = walk(line, place.0);
-    Offset(w.at)
+    w.at
 }

@@ -16,7 +16,8 @@ use Rattle.edge.specs.declared.ListingCheck.the-variants.{Edges, Refused}
 use Rattle.edge.specs.Edge as E
 use Rattle.edge.specs.Layout.{stands, only, textAt, nextAt, numericAt, edgeAt, edgesAt, listed}
 use Rattle.edge.specs.Check.{good, checkEdges, checkListing}
-use Rattle.edge.specs.View.{textOf, viewAt}
+use Rattle.fields.specs.Part.{partOf}
+use Rattle.edge.specs.View.{viewAt}
 use Rattle.edge.proofs.CheckLaws.{good-whole}
 use Rattle.walker.specs.declared.steps.Here.{Here}
 use Rattle.walker.specs.declared.steps.Here.the-variants.{Edge, End}
@@ -27,9 +28,9 @@ use Rattle.walker.proofs.steps.WalkLaws.{next-past, here-edge, here-end
 pub record Says (s : List ℕ) (v : EdgeView) (e : E.Edge) : Type 0 where
   pub start : v .start .0 ≡ e .start
   pub end : v .end .0 ≡ e .end
-  pub type : textOf s (v .ty) ≡ e .type
-  pub txt : textOf s (v .txt) ≡ e .txt
-  pub num : only (stands 0 (v .map)) (numericAt (v .map) s (v .fields)) ≡ e .num
+  pub type : partOf s (v .ty) ≡ e .type
+  pub txt : partOf s (v .txt) ≡ e .txt
+  pub num : only (stands 0 (v .map)) (numericAt (v .map) s (v .fields .0)) ≡ e .num
 
 view-says : (s : List ℕ) (at : ℕ) → Says s (viewAt s at) (edgeAt s at)
 unfolding viewAt edgeAt textAt

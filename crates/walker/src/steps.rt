@@ -3,6 +3,7 @@
 ghost use mathlib.Core.Path.{_≡_};
 ghost use Rattle.walker.specs.Walk.{whole, hereAt, behind, onward};
 use edge::EdgeView;
+use text::Offset;
 
 // Where the first edge of a listing stands.
 pub const FIRST: usize = 2;
@@ -24,40 +25,42 @@ fn whole_at(listing: &[u8], at: usize) -> bool
 }
 
 // What stands at an offset.
-pub fn here_at(listing: &[u8], at: usize) -> Here
-    ensures { λ r. ⌜ r ≡ hereAt (now (listing .entry)) at ⌝ }
+pub fn here_at(listing: &[u8], at: Offset) -> Here
+    ensures { λ r. ⌜ r ≡ hereAt (now (listing .entry)) (at .0) ⌝ }
 {
-    if whole_at(listing, at) {
-        Here::Edge(edge::head::edge_at(listing, at))
+    let from = at.0;
+    if whole_at(listing, from) {
+        Here::Edge(edge::head::edge_at(listing, from))
     } else {
         Here::End
     }
 }
 
 // Behind the edge at an offset; the offset itself where no whole edge stands.
-pub fn behind(listing: &[u8], at: usize) -> usize
-    ensures { λ r. ⌜ r ≡ behind (now (listing .entry)) at ⌝ }
+pub fn behind(listing: &[u8], at: Offset) -> Offset
+    ensures { λ r. ⌜ r .0 ≡ behind (now (listing .entry)) (at .0) ⌝ }
 {
-    if whole_at(listing, at) {
-        edge::next::next_at(listing, at)
+    let from = at.0;
+    if whole_at(listing, from) {
+        Offset(edge::next::next_at(listing, from))
     } else {
         at
     }
 }
 
 // Where a walk from the front stands after i steps. It stops at its end, however many steps are left.
-pub fn onward(listing: &[u8], i: usize) -> usize
-    ensures { λ r. ⌜ r ≡ onward i (now (listing .entry)) 2 ⌝ }
+pub fn onward(listing: &[u8], i: usize) -> Offset
+    ensures { λ r. ⌜ r .0 ≡ onward i (now (listing .entry)) 2 ⌝ }
 {
     let mut at = FIRST;
     let mut left = i;
     while 0 < left {
-        let next = behind(listing, at);
-        if next == at {
-            return at;
+        let next = behind(listing, Offset(at));
+        if next.0 == at {
+            return Offset(at);
         }
-        at = next;
+        at = next.0;
         left -= 1;
     }
-    at
+    Offset(at)
 }

@@ -10,6 +10,7 @@ use lib.Dec.{eqb}
 use borrow.Author.Tests.{le-leb}
 use Rattle.text.specs.declared.LineCheck.{LineCheck}
 use Rattle.text.specs.declared.LineCheck.the-variants.{Chars, IllFormed, TooLong}
+use Rattle.text.specs.declared.Offset.{Offset}
 use Rattle.text.specs.Text.{chars}
 use Rattle.text.specs.Line.{maxChars, lineCheck}
 use Rattle.text.proofs.RowLaws.{cond-cases}
@@ -81,17 +82,17 @@ refused-numbered s n at e = rw e at (table-numbered s)
 
 -- ---- the checks 4 to 6
 -- the refusal says the number and the offset
-says : (n at : ℕ) → (n ≡ 4) ⊎ (n ≡ 5) → refused n at ≡ refused (Answers.number (tableRefusal n at)) (Answers.place (tableRefusal n at))
+says : (n : ℕ) (at : Offset) → (n ≡ 4) ⊎ (n ≡ 5) → refused n (at .0) ≡ refused (Answers.number (tableRefusal n at)) (Answers.place (tableRefusal n at))
 unfolding tableRefusal
 says n at (inl e) = rw e
 says n at (inr e) = rw e
 
 module _ (n : ℕ) (table given : List ℕ) where
-  pub rest-table : {k at : ℕ} {c : TableCheck} {r : Refusal} → tableAnswer table c ≡ readTable table → c ≡ TableCheck.Refused k at → r ≡ tableRefusal k at → RestIs n table given (CallCheck.Refused r)
+  pub rest-table : {k : ℕ} {at : Offset} {c : TableCheck} {r : Refusal} → tableAnswer table c ≡ readTable table → c ≡ TableCheck.Refused k at → r ≡ tableRefusal k at → RestIs n table given (CallCheck.Refused r)
   unfolding RestIs
   rest-table {k} {at} e f g =
-      let t : readTable table ≡ Refused k at = sym e ∙ ap (tableAnswer table) f in
-      λ w l out. rw (t, g) (says k at (refused-numbered table k at t))
+      let t : readTable table ≡ Refused k (at .0) = sym e ∙ ap (tableAnswer table) f in
+      λ w l out. rw (t, g) (says k at (refused-numbered table k (at .0) t))
 
   module _ {h : Shape} {c : TableCheck} (e : tableAnswer table c ≡ readTable table) (f : c ≡ TableCheck.Table h) where
     read : readTable table ≡ Fine (tableOf table h) (length table)

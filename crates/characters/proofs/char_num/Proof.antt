@@ -9,23 +9,23 @@ number-if-requires c κs = search needs
 
 exact-f64-requires : tie.Need-exact-f64-requires
 unfolding charStored
-exact-f64-requires c κs = rw (c .number-if .ensures) (c .before .before .before .before .before .before .before .before .before .pre .1 .value)
+exact-f64-requires c κs = rw (c .number-if .ensures) (c .before .before .before .before .before .before .before .before .before .before .pre .1 .value)
 
 number-if-requires-2 : tie.Need-number-if-requires-2
 number-if-requires-2 c κs = search needs
 
 exact-f64-requires-2 : tie.Need-exact-f64-requires-2
 unfolding charStored
-exact-f64-requires-2 c κs = rw (c .number-if2 .ensures) (c .before .before .before .before .before .before .before .before .before .before .before .pre .1 .mult)
+exact-f64-requires-2 c κs = rw (c .number-if2 .ensures) (c .before .before .before .before .before .before .before .before .before .before .before .before .pre .1 .mult)
 
 number-if-requires-3 : tie.Need-number-if-requires-3
 number-if-requires-3 c κs = search needs
 
 is-digit-type-requires : tie.Need-is-digit-type-requires
-is-digit-type-requires c κs = c .before .before .before .before .before .before .before .before .before .before .before .before .before .before .pre .0 .type-within
+is-digit-type-requires c κs = c .before .before .before .before .before .before .before .before .before .before .before .before .before .before .before .pre .0 .type-within
 
 is-cjk-requires : tie.Need-is-cjk-requires
-is-cjk-requires c κs = c .before .before .before .before .before .before .before .before .before .before .before .before .before .before .before .pre .0 .script-within
+is-cjk-requires c κs = c .before .before .before .before .before .before .before .before .before .before .before .before .before .before .before .before .pre .0 .script-within
 
 returns : tie.Need-returns
 unfolding charStored

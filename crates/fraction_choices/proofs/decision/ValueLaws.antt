@@ -73,14 +73,14 @@ module _ (s : List ℕ) (at : ℕ) {e : EdgeView} (head : e ≡ viewAt s at) {nu
       unfolding fieldsAt bits-at
       value-stands = rw has-value
 
-      pub value-read : {d : NumFields} → d ≡ fieldsAt (e .map) s (e .fields) → Read s at (d .value)
+      pub value-read : {d : NumFields} → d ≡ fieldsAt (e .map) s (e .fields .0) → Read s at (d .value)
       unfolding viewAt
       value-read f =
           let v = number-of in
           record {
             number = v .0;
             small = v .1;
-            bits = ap (λ (d : NumFields). d .value) f ∙ ap (λ (h : EdgeView). fieldsAt (h .map) s (h .fields) .value) head ∙ value-stands ∙ v .2;
+            bits = ap (λ (d : NumFields). d .value) f ∙ ap (λ (h : EdgeView). fieldsAt (h .map) s (h .fields .0) .value) head ∙ value-stands ∙ v .2;
             is = value-is;
           }
 

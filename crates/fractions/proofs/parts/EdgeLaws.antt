@@ -8,14 +8,14 @@ use Prim.Native.Nat.{ℕ, _+_, _≤_, _<_}
 use native.Mathlib.Omega.{arith}
 use lib.ListN.{length, getD}
 use lib.Ieee.{binary64, ofBits, toUnsigned}
-use Rattle.fields.specs.Part.{part}
+use Rattle.fields.specs.Part.{part, partOf}
 use Rattle.fields.specs.Fields.{leAt}
 use Rattle.fields.proofs.PartLaws.{length-part}
 use Rattle.whole.specs.Whole.{TOP}
 use Rattle.whole.proofs.WholeLaws.{ofNat-to-unsigned}
 use Rattle.edge.specs.Edge.{Text, Edge, Numeric, f64Bits}
 use Rattle.edge.specs.Layout.{stands, only, mapAt, textAt, stringEnd, txtAt, headEnd, fieldsEnd, nextAt, scriptAt, numericAt, edgeAt}
-use Rattle.edge.specs.View.{viewAt, fieldsAt, textOf}
+use Rattle.edge.specs.View.{viewAt, fieldsAt}
 use Rattle.edge.specs.declared.EdgeView.{EdgeView}
 use Rattle.edge.specs.declared.NumFields.{NumFields}
 use Rattle.edge.proofs.CheckLaws.{head-within, fields-within, fields-inside}
@@ -144,23 +144,23 @@ fields-value m s at p = let o = only-some (stands 1 m) p in rw (o .0) (o .1)
 
 -- what is read for the value of the i-th edge
 pub record ValueRead (w : List ℕ) (e : Edge) (v : EdgeView) : Type 0 where
-  pub inside : fieldsEnd (v .map) w (v .fields) ≤ length w
+  pub inside : fieldsEnd (v .map) w (v .fields .0) ≤ length w
   pub whole : ℕ
   pub small : whole ≤ TOP
-  pub bits : fieldsAt (v .map) w (v .fields) .value ≡ f64Bits whole
+  pub bits : fieldsAt (v .map) w (v .fields .0) .value ≡ f64Bits whole
   pub is : whole ≡ valueOr e
 
 pub value-read : {n : ℕ} {w : List ℕ} {e : Edge} {v : EdgeView} → CallEdge n e → HasValue e → HeadIs w e v → ValueRead w e v
 value-read {w = w} {e} {v} c h r =
     let k = value-is e c h in
     let d = r .numeric (k .numbers) (k .num) in
-    record { inside = d .0; whole = k .whole; small = k .small; bits = fields-value (v .map) w (v .fields) (ap (λ (x : Numeric). x .value) (d .1) ∙ k .bits); is = sym (k .is) }
+    record { inside = d .0; whole = k .whole; small = k .small; bits = fields-value (v .map) w (v .fields .0) (ap (λ (x : Numeric). x .value) (d .1) ∙ k .bits); is = sym (k .is) }
 
 -- ---- the script
 pub record ScriptRead (w : List ℕ) (e : Edge) (v : EdgeView) : Type 0 where
-  pub inside : fieldsEnd (v .map) w (v .fields) ≤ length w
-  pub is : numericAt (v .map) w (v .fields) .script ≡ scriptOf (e .num)
-  pub short : (t : Text) → numericAt (v .map) w (v .fields) .script ≡ some t → length t ≤ 60
+  pub inside : fieldsEnd (v .map) w (v .fields .0) ≤ length w
+  pub is : numericAt (v .map) w (v .fields .0) .script ≡ scriptOf (e .num)
+  pub short : (t : Text) → numericAt (v .map) w (v .fields .0) .script ≡ some t → length t ≤ 60
 
 pub script-read : {n : ℕ} {w : List ℕ} {e : Edge} {v : EdgeView} → CallEdge n e → HasValue e → HeadIs w e v → ScriptRead w e v
 script-read {w = w} {e} {v} c h r =
@@ -169,11 +169,11 @@ script-read {w = w} {e} {v} c h r =
     let s = ap (λ (x : Numeric). x .script) (d .1) in
     record { inside = d .0; is = s ∙ sym (ap scriptOf (k .num)); short = λ t p. c .short (k .numbers) (k .num) .script t (sym s ∙ p) }
 
-pub script-inside : (m : ℕ) (s : List ℕ) (at n : ℕ) → fieldsEnd m s at ≤ n → stands 5 m ≡ true → fieldsAt m s at .script .at + fieldsAt m s at .script .len ≤ n
+pub script-inside : (m : ℕ) (s : List ℕ) (at n : ℕ) → fieldsEnd m s at ≤ n → stands 5 m ≡ true → fieldsAt m s at .script .at .0 + fieldsAt m s at .script .len ≤ n
 unfolding fieldsAt
 script-inside m s at n h t = fields-inside m s at n h .script t
 
-pub script-there : (m : ℕ) (s : List ℕ) (at : ℕ) → stands 5 m ≡ true → numericAt m s at .script ≡ some (textOf s (fieldsAt m s at .script))
+pub script-there : (m : ℕ) (s : List ℕ) (at : ℕ) → stands 5 m ≡ true → numericAt m s at .script ≡ some (partOf s (fieldsAt m s at .script))
 unfolding numericAt fieldsAt textAt
 script-there m s at t = rw t
 

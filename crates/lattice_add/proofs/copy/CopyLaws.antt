@@ -228,25 +228,25 @@ module _ (x : List ℕ) {w : List ℕ} {len at next : ℕ} {e : Edge} (q : Sourc
   copy-key = let k = length-key (prefixed x e) in let a = copy-texts .0 in let b = copy-texts .1 in omega arith
 
   module _ {v : EdgeView} (is-view : v ≡ viewAt w at) where
-    txt-starts : v .txt .at ≡ txtAt w at + 2
+    txt-starts : v .txt .at .0 ≡ txtAt w at + 2
     unfolding viewAt
-    txt-starts = ap (λ (z : EdgeView). z .txt .at) is-view
+    txt-starts = ap (λ (z : EdgeView). z .txt .at .0) is-view
 
     txt-long : v .txt .len ≡ leAt w (txtAt w at) 2
     unfolding viewAt
     txt-long = ap (λ (z : EdgeView). z .txt .len) is-view
 
-    fields-start : v .fields ≡ headEnd w at
+    fields-start : v .fields .0 ≡ headEnd w at
     unfolding viewAt
-    fields-start = ap (λ (z : EdgeView). z .fields) is-view
+    fields-start = ap (λ (z : EdgeView). z .fields .0) is-view
 
-    pub key-is : v .fields ≡ at + 10 + length (e .type) + length (e .txt)
+    pub key-is : v .fields .0 ≡ at + 10 + length (e .type) + length (e .txt)
     key-is = fields-start ∙ head-end-is w at e (q .fits) (q .there)
 
-    pub key-short : (at + 10 ≤ v .fields) × (v .fields ≤ len) × (v .fields - at - 2 + length x ≤ 2048)
+    pub key-short : (at + 10 ≤ v .fields .0) × (v .fields .0 ≤ len) × (v .fields .0 - at - 2 + length x ≤ 2048)
     key-short = let k = key-is in let l = length-by-txt e in let n = q .ends in let i = q .inside in let s = q .short in (omega arith, omega arith, omega arith)
 
-    pub compose-asks : len + 2048 ≤ length w → (at + 2 ≤ v .txt .at) × (v .txt .at ≤ next) × (next ≤ len) × (len + (next - at) + length x ≤ length w) × (length x + v .txt .len < 65536)
+    pub compose-asks : len + 2048 ≤ length w → (at + 2 ≤ v .txt .at .0) × (v .txt .at .0 ≤ next) × (next ≤ len) × (len + (next - at) + length x ≤ length w) × (length x + v .txt .len < 65536)
     compose-asks r =
         let a = txt-starts in
         let b = txt-at-is w at e (q .fits) (q .there) in
@@ -258,11 +258,11 @@ module _ (x : List ℕ) {w : List ℕ} {len at next : ℕ} {e : Edge} (q : Sourc
         let y = txt-len-is w at e (q .fits) (q .there) in
         (omega arith, omega arith, omega arith, omega arith, omega arith)
 
-    module _ {t : List ℕ} {to : ℕ} (put : Put w t len to (prefixedBytes w at (v .txt .at) (v .txt .len) next x)) where
+    module _ {t : List ℕ} {to : ℕ} (put : Put w t len to (prefixedBytes w at (v .txt .at .0) (v .txt .len) next x)) where
       copied : Put w t len to (edgeBytes (prefixed x e))
       copied = rw (← copy-bytes w at e (q .fits) (q .there) x next (q .ends), ← txt-starts, ← txt-long) put
 
-      pub copy-stands : len + 2048 ≤ length w → Stands t len (v .fields - at - 2 + length x) to (prefixed x e)
+      pub copy-stands : len + 2048 ≤ length w → Stands t len (v .fields .0 - at - 2 + length x) to (prefixed x e)
       copy-stands r =
           let s = copy-short in
           let n = copied .next in

@@ -10,7 +10,7 @@ use lib.Dec.{eqb}
 use borrow.Author.Tests.{eq-eqb, ne-eqb, eqb-true}
 use Rattle.whole.specs.Decimal.{padded}
 use Rattle.whole.proofs.WholeLaws.{ofNat-not-nan}
-use Rattle.fields.specs.Part.{part}
+use Rattle.fields.specs.Part.{part, partOf}
 use Rattle.fields.proofs.PartLaws.{part-all}
 use Rattle.fields.specs.Flag.{there, flag}
 use Rattle.fields.proofs.FlagLaws.{flag-le, flag-stands}
@@ -25,7 +25,7 @@ use Rattle.numbers.specs.Ready.{Offsets}
 use Rattle.edge.specs.declared.NumFields.{NumFields}
 use Rattle.edge.specs.Edge.{Text, Numeric, f64Bits, numericMap}
 use Rattle.edge.specs.Layout.{bit, only}
-use Rattle.edge.specs.View.{textOf, numericOf}
+use Rattle.edge.specs.View.{numericOf}
 use Rattle.edge.specs.Write.{numeric, fieldsOf, Writable}
 use Rattle.edge.proofs.theorems.ReadBackLaws.{Bits, map-bits}
 use Rattle.numbers.specs.Listed.{listedEdge}
@@ -47,13 +47,13 @@ only-there (some a) v k e h = rw e (ap some (h a refl))
 
 pub record FieldsAre (o c v : List ℕ) (d : NumFields) (n : Numeric) : Type 0 where
   pub map : d .map ≡ numericMap n
-  pub orig : textOf o (d .orig) ≡ n .orig
+  pub orig : partOf o (d .orig) ≡ n .orig
   pub value : (a : ℕ) → n .value ≡ some a → d .value ≡ a
   pub fraction : (a : ℕ × ℕ) → n .fraction ≡ some a → (d .numerator, d .denominator) ≡ a
   pub base : (a : ℕ) → n .base ≡ some a → d .base ≡ a
   pub mult : (a : ℕ) → n .mult ≡ some a → d .«base_multiplier» ≡ a
-  pub script : (a : Text) → n .script ≡ some a → textOf c (d .script) ≡ a
-  pub value-s : (a : Text) → n .value-s ≡ some a → textOf v (d .«value_s») ≡ a
+  pub script : (a : Text) → n .script ≡ some a → partOf c (d .script) ≡ a
+  pub value-s : (a : Text) → n .value-s ≡ some a → partOf v (d .«value_s») ≡ a
 
 bits-of : (d : NumFields) (n : Numeric) → d .map ≡ numericMap n → Bits n (d .map)
 bits-of d n e = subst (Bits n) (sym e) (map-bits n)
@@ -68,10 +68,10 @@ numeric-is o c v d n f =
       only-there (n .fraction) (d .numerator, d .denominator) (bit 2 (d .map)) (b .fraction) (f .fraction),
       only-there (n .base) (d .base) (bit 3 (d .map)) (b .base) (f .base),
       only-there (n .mult) (d .«base_multiplier») (bit 4 (d .map)) (b .mult) (f .mult),
-      only-there (n .script) (textOf c (d .script)) (bit 5 (d .map)) (b .script) (f .script),
+      only-there (n .script) (partOf c (d .script)) (bit 5 (d .map)) (b .script) (f .script),
       ap (λ (k : ℕ). eqb k 1) (b .large) ∙ flag-stands (n .large),
       ap (λ (k : ℕ). eqb k 1) (b .active) ∙ flag-stands (n .active),
-      only-there (n .value-s) (textOf v (d .«value_s»)) (bit 8 (d .map)) (b .value-s) (f .value-s),
+      only-there (n .value-s) (partOf v (d .«value_s»)) (bit 8 (d .map)) (b .value-s) (f .value-s),
     )
 
 -- ---- what a stored edge is listed as
@@ -149,11 +149,11 @@ pub map-told : (g : ℕ → ℕ) (b : Bool) (u a : ℕ) → Option·map g (optio
 map-told g true u a e = Option·some-injective (g u) a e
 map-told g false u a e = absurd (Option·some-ne-none a (sym e))
 
-script-told : (t : List ℕ) (b : Bool) (at n : ℕ) (a : Text) → optionally b (part t at n) ≡ some a → textOf t (partOr b at n) ≡ a
+script-told : (t : List ℕ) (b : Bool) (at n : ℕ) (a : Text) → optionally b (part t at n) ≡ some a → partOf t (partOr b at n) ≡ a
 script-told t true at n a e = Option·some-injective (part t at n) a e
 script-told t false at n a e = absurd (Option·some-ne-none a (sym e))
 
-digits-told : (b : Bool) (txt u a : Text) → (b ≡ true → txt ≡ u) → cond b (some u) none ≡ some a → textOf txt (partOr b 0 (length txt)) ≡ a
+digits-told : (b : Bool) (txt u a : Text) → (b ≡ true → txt ≡ u) → cond b (some u) none ≡ some a → partOf txt (partOr b 0 (length txt)) ≡ a
 digits-told true txt u a h e = part-all txt ∙ h refl ∙ Option·some-injective u a e
 digits-told false txt u a h e = absurd (Option·some-ne-none a (sym e))
 
@@ -175,7 +175,7 @@ module _ (line offs t : List ℕ) (x : StoredEdge) (f : Fraction) (sound : Groun
   }
 
 -- ---- what can be written
-part-or-in : (b : Bool) (at n m : ℕ) → (b ≡ true → at + n ≤ m) → partOr b at n .at + partOr b at n .len ≤ m
+part-or-in : (b : Bool) (at n m : ℕ) → (b ≡ true → at + n ≤ m) → partOr b at n .at .0 + partOr b at n .len ≤ m
 part-or-in true at n m h = h refl
 part-or-in false at n m h = omega arith
 

@@ -9,15 +9,15 @@ use lib.ListN.{length, getD}
 use lib.Seq.{drop-cons}
 use lib.Dec.{eqb}
 use borrow.Author.Tests.{lt-ltb, le-ltb}
-use Rattle.fields.specs.Part.{part}
+use Rattle.fields.specs.Part.{part, partOf}
 use Rattle.fields.proofs.PartLaws.{length-part}
 use Rattle.text.specs.Bytes.{same}
 use Rattle.text.proofs.BytesLaws.{same-lengths}
 use Rattle.table.specs.Table.{Text}
 use Rattle.table.specs.Layout.{bit}
 use Rattle.table.specs.Check.{isDigitType, legalDigit}
-use Rattle.table.specs.Answers.{optionally, partOf, Within}
-use Rattle.table.specs.declared.layout.Part.{Part}
+use Rattle.table.specs.Answers.{optionally, Within}
+use Rattle.fields.specs.declared.Part.{Part}
 use Rattle.table.specs.Digit.{digitFine}
 
 -- ---- a rom of one byte, or of another length
@@ -63,7 +63,7 @@ module _ (s : List ℕ) (m v : ℕ) (t r : Part) where
 
     module _ (e : bit m 0 ≡ true) (w : Within s r) where
       pub digit-long-rom : (r .len ≡ 1 → ⊥) → false ≡ digitFine m v (partOf s t) (partOf s r)
-      digit-long-rom l = same-other s (r .at) (r .len) _ w l ∙ rom-decides e
+      digit-long-rom l = same-other s (r .at .0) (r .len) _ w l ∙ rom-decides e
 
-      pub digit-rom : r .len ≡ 1 → eqb (getD s (r .at) 0) (48 + v) ≡ digitFine m v (partOf s t) (partOf s r)
-      digit-rom l = same-one s (r .at) (48 + v) (omega arith) ∙ ap (λ (n : ℕ). same (part s (r .at) n) ((48 + v) ∷ [])) (sym l) ∙ rom-decides e
+      pub digit-rom : r .len ≡ 1 → eqb (getD s (r .at .0) 0) (48 + v) ≡ digitFine m v (partOf s t) (partOf s r)
+      digit-rom l = same-one s (r .at .0) (48 + v) (omega arith) ∙ ap (λ (n : ℕ). same (part s (r .at .0) n) ((48 + v) ∷ [])) (sym l) ∙ rom-decides e

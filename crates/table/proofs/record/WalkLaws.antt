@@ -9,12 +9,12 @@ use native.Mathlib.Omega.{arith}
 use native.Mathlib.Decide.{decLe}
 use lib.ListN.{length, getD}
 use Rattle.fields.specs.Fields.{leAt}
-use Rattle.fields.specs.Part.{part}
+use Rattle.fields.specs.Part.{part, partOf}
 use Rattle.table.specs.Table.{Text, Record}
 use Rattle.table.specs.Layout.{Field, Is, Fault, Numbers, thenField, mapField, bit, text, optional, readNumbers, recordWith, readFields, readRecord}
 use Rattle.table.proofs.LayoutLaws.{no-fault, then-is, text-missing, text-long, text-cut, text-is, numbers-are, numbers-cut, record-cut, record-bit-7, record-is, text-ends, opt-text-ends, ends-at}
-use Rattle.table.specs.Answers.{optionally, partOf, numbersOf, recordOf, Within, Inside}
-use Rattle.table.specs.declared.layout.Part.{Part}
+use Rattle.table.specs.Answers.{optionally, numbersOf, recordOf, Within, Inside}
+use Rattle.fields.specs.declared.Part.{Part}
 use Rattle.table.specs.declared.layout.Numbers as AsRead
 use Rattle.table.specs.declared.layout.NumProp.{NumProp}
 use Rattle.table.specs.Walk.{endIf, partIf, Stands}

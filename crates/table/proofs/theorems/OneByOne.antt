@@ -6,7 +6,8 @@ use Prim.Native.Nat.{ℕ, suc}
 use Rattle.table.specs.Table.{Text, Table}
 use Rattle.table.specs.Layout.{Field, onField, text, manyAt, textsAt, listAt}
 use Rattle.table.specs.Check.{Fine, readTable}
-use Rattle.table.specs.Answers.{partOf, textField, tableOf, tableAnswer}
+use Rattle.fields.specs.Part.{partOf}
+use Rattle.table.specs.Answers.{textField, tableOf, tableAnswer}
 use Rattle.table.specs.declared.layout.TextAt.{TextAt}
 use Rattle.table.specs.declared.layout.TextAt.the-variants as TextAt
 use Rattle.table.specs.declared.shape.Shape.{Shape}

@@ -9,8 +9,9 @@ ghost use Rattle.table.specs.Walk.{partIf, Stands};
 use crate::bits;
 use crate::layout::NumProp;
 use crate::layout::Numbers;
-use crate::layout::Part;
 use crate::record::walk::end_if;
+use fields::Part;
+use text::Offset;
 
 // The bytes of a string, where it is there.
 fn part_if(s: &[u8], at: usize, there: bool) -> Part
@@ -19,11 +20,14 @@ fn part_if(s: &[u8], at: usize, there: bool) -> Part
 {
     if there {
         Part {
-            at: at + 1,
+            at: Offset(at + 1),
             len: s[at] as usize,
         }
     } else {
-        Part { at: 0, len: 0 }
+        Part {
+            at: Offset(0),
+            len: 0,
+        }
     }
 }
 
@@ -63,7 +67,7 @@ pub fn record_here(s: &[u8], at: usize) -> NumProp
 {
     let map = s[at + 4];
     let num_type = part_if(s, at + 5, true);
-    let rom_at = num_type.at + num_type.len;
+    let rom_at = num_type.at.0 + num_type.len;
     let rom = part_if(s, rom_at, map / bits::ROM % 2 == 1);
     let numbers = numbers_here(s, map, end_if(s, rom_at, map / bits::ROM % 2 == 1));
     let script_at = numbers.next;

@@ -40,7 +40,7 @@ module _ (s : List ℕ) where
   pub count-whole : walked s (length s) .count ≡ length (chars s)
   count-whole = ap length take-chars
 
-  pub at-whole : walked s (length s) .at ≡ illAt s
+  pub at-whole : walked s (length s) .at .0 ≡ illAt s
   at-whole = rw take-chars (omega (arith, length-split))
 
   well-formed-ill-at : wellFormed s ≡ eqb (illAt s) (length s)
@@ -50,21 +50,21 @@ module _ (s : List ℕ) where
       by-left [] e = sym (eq-eqb (illAt s) (length s) (omega arith))
       by-left (b ∷ t) e = sym (ne-eqb (illAt s) (length s) (λ h. omega arith))
 
-  pub well-formed-whole : eqb (walked s (length s) .at) (length s) ≡ wellFormed s
+  pub well-formed-whole : eqb (walked s (length s) .at .0) (length s) ≡ wellFormed s
   well-formed-whole = rw at-whole (sym well-formed-ill-at)
 
   -- the answers of `check_line`, by its tests
   module _ (w : Walked) (e : w ≡ walked s (length s)) where
-    stopped : w .at ≡ illAt s
-    stopped = ap (λ (v : Walked). v .at) e ∙ at-whole
+    stopped : w .at .0 ≡ illAt s
+    stopped = ap (λ (v : Walked). v .at .0) e ∙ at-whole
 
     counted : w .count ≡ length (chars s)
     counted = ap (λ (v : Walked). v .count) e ∙ count-whole
 
-    pub check-ill : w .at < length s → IllFormed (record { 0 = w .at }) ≡ lineCheck s
+    pub check-ill : w .at .0 < length s → IllFormed (w .at) ≡ lineCheck s
     check-ill h = rw (stopped, well-formed-ill-at, ne-eqb (illAt s) (length s) (λ p. omega (arith, stopped)))
 
-    module _ (h : length s ≤ w .at) where
+    module _ (h : length s ≤ w .at .0) where
       whole : wellFormed s ≡ true
       whole = well-formed-ill-at ∙ eq-eqb (illAt s) (length s) (omega (arith, stopped))
 

@@ -12,7 +12,7 @@ use Rattle.edge.proofs.head.edge_at.Tie as tie
 
 -- what is read in turn is the head
 view-read : (s : List ℕ) (at : ℕ) {n k m a z : ℕ} → n ≡ leAt s (at + 6) 2 → k ≡ leAt s (at + 6 + 2 + n) 2 → m ≡ leAt s at 2 → a ≡ leAt s (at + 2) 2 → z ≡ leAt s (at + 4) 2
-    → record { map = m; start = record { 0 = a }; end = record { 0 = z }; ty = record { at = at + 6 + 2; len = n }; txt = record { at = at + 6 + 2 + n + 2; len = k }; fields = at + 6 + 2 + n + 2 + k } ≡ viewAt s at
+    → record { map = m; start = record { 0 = a }; end = record { 0 = z }; ty = record { at = record { 0 = at + 6 + 2 }; len = n }; txt = record { at = record { 0 = at + 6 + 2 + n + 2 }; len = k }; fields = record { 0 = at + 6 + 2 + n + 2 + k } } ≡ viewAt s at
 unfolding viewAt stringEnd
 view-read s at p q e f g = rw (q, p, e, f, g) refl
 
@@ -72,17 +72,17 @@ add-t16 : tie.Need-add-t16
 unfolding stringEnd
 add-t16 c = omega arith
 
-add-t18 : tie.Need-add-t18
+add-t19 : tie.Need-add-t19
 unfolding stringEnd
-add-t18 c = omega arith
+add-t19 c = omega arith
 
-add-t20 : tie.Need-add-t20
+add-t22 : tie.Need-add-t22
 unfolding stringEnd
-add-t20 c = omega arith
+add-t22 c = omega arith
 
-add-t21 : tie.Need-add-t21
+add-t23 : tie.Need-add-t23
 unfolding stringEnd
-add-t21 c = omega arith
+add-t23 c = omega arith
 
 returns : tie.Need-returns
 returns c =
@@ -109,7 +109,7 @@ edge-at-spec =
     u16-at-requires-5
     cast-t14
     add-t16
-    add-t18
-    add-t20
-    add-t21
+    add-t19
+    add-t22
+    add-t23
     returns)

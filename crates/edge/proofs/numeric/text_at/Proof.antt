@@ -9,11 +9,11 @@ add-t3 c = search needs
 u16-at-requires : tie.Need-u16-at-requires
 u16-at-requires c κs = search needs
 
-cast-t5 : tie.Need-cast-t5
-cast-t5 c = search needs
+cast-t6 : tie.Need-cast-t6
+cast-t6 c = search needs
 
 returns : tie.Need-returns
 returns c = rw (c .u16-at .ensures)
 
 pub text-at-spec : {M : Type 1} → statement M
-text-at-spec = tie.close (tie.spec add-t3 u16-at-requires cast-t5 returns)
+text-at-spec = tie.close (tie.spec add-t3 u16-at-requires cast-t6 returns)

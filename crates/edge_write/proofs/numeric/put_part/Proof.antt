@@ -29,7 +29,7 @@ part-copy-in-end : tie.Need-part-copy-in-end
 part-copy-in-end c = c .before .before .before .before .before .before .before .before .before .pre .2
 
 copy-in-requires : tie.Need-copy-in-requires
-copy-in-requires c κs = let s = c .before .before .before .before .before .before .before .before .before .before in part-room (s .args .s .now) (s .args .t .at) (s .args .t .len) (s .args .at) (s .pre .0) (s .pre .2) (c .before .before .before .before .put-u16 .kept .0)
+copy-in-requires c κs = let s = c .before .before .before .before .before .before .before .before .before .before in part-room (s .args .s .now) (s .args .t .at .0) (s .args .t .len) (s .args .at) (s .pre .0) (s .pre .2) (c .before .before .before .before .put-u16 .kept .0)
 
 add-result : tie.Need-add-result
 add-result c = let s = c .before .before .before .before .before .before .before .before .before .before .before .before .before in omega (arith, s .pre .0, s .good)

@@ -3,8 +3,7 @@ use native.Mathlib.Omega.{arith}
 use mathlib.Core.Path.{_≡_, refl, sym, _∙_}
 use Prim.Native.Nat.{_+_, _-_}
 use lib.Seq.{sets}
-use Rattle.fields.specs.Part.{part}
-use Rattle.edge.specs.View.{textOf}
+use Rattle.fields.specs.Part.{part, partOf}
 use Rattle.fields.proofs.PartLaws.{length-part}
 use Rattle.fractions.proofs.texts.TextLaws.{text-byte}
 use borrow.Author.Needs.{needs}
@@ -12,11 +11,11 @@ use Rattle.fractions.proofs.texts.put_txt_percent.Statement.{statement}
 use Rattle.fractions.proofs.texts.put_txt_percent.Tie as tie
 
 -- the copy as a part
-copied : (c : tie.After-copy-in) → c .copy-in .last .0 ≡ sets (c .before .before .before .before .args .buf .now) 0 (textOf (c .before .before .before .before .args .w .now) (c .before .before .before .before .args .t))
+copied : (c : tie.After-copy-in) → c .copy-in .last .0 ≡ sets (c .before .before .before .before .args .buf .now) 0 (partOf (c .before .before .before .before .args .w .now) (c .before .before .before .before .args .t))
 unfolding part
 copied c =
     let s = c .before .before .before .before in
-    let e : s .args .t .at + s .args .t .len - s .args .t .at ≡ s .args .t .len = omega arith in
+    let e : s .args .t .at .0 + s .args .t .len - s .args .t .at .0 ≡ s .args .t .len = omega arith in
     c .copy-in .ensures ∙ rw e
 
 add-to : tie.Need-add-to
@@ -43,8 +42,8 @@ add-result c = search needs
 returns : tie.Need-returns
 returns c =
     let s = c .before .before .before .before in
-    let n = length-part (s .args .w .now) (s .args .t .at) (s .args .t .len) (s .pre .0) in
-    text-byte (s .args .buf .now) (part (s .args .w .now) (s .args .t .at) (s .args .t .len)) 37 (copied c) (sym n) refl (omega arith) (omega arith)
+    let n = length-part (s .args .w .now) (s .args .t .at .0) (s .args .t .len) (s .pre .0) in
+    text-byte (s .args .buf .now) (part (s .args .w .now) (s .args .t .at .0) (s .args .t .len)) 37 (copied c) (sym n) refl (omega arith) (omega arith)
 
 pub put-txt-percent-spec : {M : Type 1} → statement M
 put-txt-percent-spec =

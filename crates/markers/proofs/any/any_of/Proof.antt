@@ -7,7 +7,8 @@ use native.Mathlib.Omega.{arith}
 use borrow.Author.Needs.{needs}
 use Rattle.text.specs.Text.{chars}
 use Rattle.table.specs.Layout.{Is, text, textsAt}
-use Rattle.table.specs.Answers.{partOf, textField}
+use Rattle.fields.specs.Part.{partOf}
+use Rattle.table.specs.Answers.{textField}
 use Rattle.table.proofs.LayoutLaws.{told, within-told}
 use Rattle.markers.specs.Marks.{Formed}
 use Rattle.markers.proofs.AnyLaws.{NonePassed, no-list, texts-start, texts-fault, texts-end, text-found, text-next, formed-first, formed-rest, list-formed}

@@ -5,15 +5,15 @@ use Prim.Native.Nat.{ℕ, _+_, _-_}
 use borrow.Author.Needs.{needs}
 use lib.ListN.{take, drop}
 use Rattle.text.specs.Text.{chars, wellFormed}
-use Rattle.table.specs.Answers.{partOf}
+use Rattle.fields.specs.Part.{partOf}
 use Rattle.markers.specs.Marks.{standsFrom}
 use Rattle.markers.proofs.MarkLaws.{cut-is}
 use Rattle.markers.proofs.any.text_somewhere.Statement.{statement}
 use Rattle.markers.proofs.any.text_somewhere.Tie as tie
 
 -- the text as it is cut out of the table
-text-is : (a : tie.Start) → take (a .args .m .at + a .args .m .len - a .args .m .at) (drop (a .args .m .at) (a .args .table .now)) ≡ partOf (a .args .table .now) (a .args .m)
-text-is a = cut-is (a .args .table .now) (a .args .m .at) (a .args .m .len)
+text-is : (a : tie.Start) → take (a .args .m .at .0 + a .args .m .len - a .args .m .at .0) (drop (a .args .m .at .0) (a .args .table .now)) ≡ partOf (a .args .table .now) (a .args .m)
+text-is a = cut-is (a .args .table .now) (a .args .m .at .0) (a .args .m .len)
 
 add-end : tie.Need-add-end
 add-end c = search needs

@@ -2,7 +2,8 @@
 use mathlib.Core.Path.{_≡_, ap, _∙_}
 use Rattle.table.specs.Layout.{Is, mapField, bit, text, optional, readNumbers}
 use Rattle.table.specs.Check.{legalNumbers, legalRecord}
-use Rattle.table.specs.Answers.{partOf, optionally, textField, optText}
+use Rattle.fields.specs.Part.{partOf}
+use Rattle.table.specs.Answers.{optionally, textField, optText}
 use Rattle.table.proofs.LayoutLaws.{type-fault, rom-fault, numbers-fault, script-fault, fields-are, told, within-told}
 use Rattle.record_check.specs.Look.{lookField}
 use Rattle.record_check.proofs.number.LookLaws.{Looked, looked, look-fault}

@@ -6,7 +6,7 @@ use native.Mathlib.Nat.{le-add-right}
 use native.Mathlib.Omega.{arith}
 use lib.ListN.{length, take, drop}
 use Rattle.text.specs.Text.{chars, wellFormed}
-use Rattle.table.specs.Answers.{partOf}
+use Rattle.fields.specs.Part.{partOf}
 use Rattle.pass_list.specs.Edges.{edgeOf}
 use Rattle.pass_edge.proofs.TextLaws.{places-of}
 use Rattle.markers.specs.Marks.{signOf}
@@ -28,8 +28,8 @@ inside a =
     omega (arith, places .0, places .1)
 
 -- the sign as it is cut out of the table
-sign-is : (a : tie.Start) → take (a .args .m .at + a .args .m .len - a .args .m .at) (drop (a .args .m .at) (a .args .table .now)) ≡ partOf (a .args .table .now) (a .args .m)
-sign-is a = cut-is (a .args .table .now) (a .args .m .at) (a .args .m .len)
+sign-is : (a : tie.Start) → take (a .args .m .at .0 + a .args .m .len - a .args .m .at .0) (drop (a .args .m .at .0) (a .args .table .now)) ≡ partOf (a .args .table .now) (a .args .m)
+sign-is a = cut-is (a .args .table .now) (a .args .m .at .0) (a .args .m .len)
 
 found : (c : tie.After-size) → let a = start (c .before .before .before) in signOf (chars (a .args .line .now)) (a .args .x .start .0) (partOf (a .args .table .now) (a .args .m)) ≡ Sign.Before (c .size .given .0 .0)
 found c = sign-told _ _ (sign-is (start (c .before .before .before))) (c .before .before .sign-before .ensures) (c .size .given .1)

@@ -7,7 +7,8 @@ use native.Mathlib.Omega.{arith}
 use borrow.Author.Needs.{needs}
 use Rattle.text.specs.Text.{chars}
 use Rattle.table.specs.Layout.{Is, text, textsAt, listAt}
-use Rattle.table.specs.Answers.{partOf, textField}
+use Rattle.fields.specs.Part.{partOf}
+use Rattle.table.specs.Answers.{textField}
 use Rattle.table.proofs.LayoutLaws.{told, within-told}
 use Rattle.pass_list.specs.StoredEdge.{StoredEdge, EdgeIs}
 use Rattle.pass_list.specs.Edges.{edgeOf}

@@ -6,7 +6,7 @@ use native.Mathlib.Omega.{arith}
 use borrow.Author.Tests.{not-true, not-false, ne-eqb, eq-eqb}
 use Rattle.fields.specs.Fields.{leAt}
 use Rattle.table.specs.Check.{isDigitType}
-use Rattle.table.specs.Answers.{partOf}
+use Rattle.fields.specs.Part.{partOf}
 use Rattle.table.specs.Digit.{digitFine}
 use Rattle.table.proofs.digit.DigitLaws.{digit-no-value, digit-large, digit-other, digit-no-rom, digit-long-rom, digit-rom}
 use borrow.Author.Needs.{needs}

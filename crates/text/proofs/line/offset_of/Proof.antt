@@ -9,7 +9,7 @@ walk-requires : tie.Need-walk-requires
 walk-requires c κs = search needs
 
 returns : tie.Need-returns
-returns c = ap (λ (v : Walked). v .at) (c .walk .ensures)
+returns c = ap (λ (v : Walked). v .at .0) (c .before .walk .ensures)
 
 pub offset-of-spec : {M : Type 1} → statement M
 offset-of-spec = tie.close (tie.spec walk-requires returns)

@@ -21,7 +21,7 @@ behind-requires : tie.Need-behind-requires Inv-loop μ-loop
 behind-requires c κs = search needs
 
 returns : tie.Need-returns Inv-loop μ-loop
-returns c = let i = c .before .before in onward-stuck _ _ _ (c .before .behind .ensures) (c .if1 .taken) (i .before .loop .inv)
+returns c = let i = c .before .before .before in onward-stuck _ _ _ (c .before .before .behind .ensures) (c .if1 .taken) (i .before .loop .inv)
 
 sub-left : tie.Need-sub-left Inv-loop μ-loop
 sub-left c = omega arith
@@ -30,7 +30,7 @@ loop-less : tie.Need-loop-less Inv-loop μ-loop
 loop-less c = omega arith
 
 loop-again : tie.Need-loop-again Inv-loop μ-loop
-loop-again c = let i = c .before .before in onward-step _ _ _ (i .loop-test .taken) (c .before .behind .ensures) (i .before .loop .inv)
+loop-again c = let i = c .before .before .before in onward-step _ _ _ (i .loop-test .taken) (c .before .before .behind .ensures) (i .before .loop .inv)
 
 returns-2 : tie.Need-returns-2 Inv-loop μ-loop
 returns-2 c = onward-none _ _ _ (c .loop-test .left) (c .before .loop .inv)

@@ -9,11 +9,11 @@ use Rattle.table.proofs.record.known.part_if.Tie as tie
 add-t6 : tie.Need-add-t6
 add-t6 c = omega (arith, c .before .pre (c .if1 .taken))
 
-shared-slice-read-t8 : tie.Need-shared-slice-read-t8
-shared-slice-read-t8 c = c .before .before .pre (c .before .if1 .taken)
+shared-slice-read-t9 : tie.Need-shared-slice-read-t9
+shared-slice-read-t9 c = c .before .before .pre (c .before .if1 .taken)
 
-cast-t9 : tie.Need-cast-t9
-cast-t9 c = omega (arith, c .shared-slice-known .given (c .before .before .args .at))
+cast-t10 : tie.Need-cast-t10
+cast-t10 c = omega (arith, c .shared-slice-known .given (c .before .before .args .at))
 
 returns : tie.Need-returns
 returns c = let there : c .before .before .args .there ≡ true = c .before .if1 .taken in rw there
@@ -22,4 +22,4 @@ returns-2 : tie.Need-returns-2
 returns-2 c = rw (c .if1 .left)
 
 pub part-if-spec : {M : Type 1} → statement M
-part-if-spec = tie.close (tie.spec add-t6 shared-slice-read-t8 cast-t9 returns returns-2)
+part-if-spec = tie.close (tie.spec add-t6 shared-slice-read-t9 cast-t10 returns returns-2)

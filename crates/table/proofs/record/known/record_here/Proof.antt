@@ -22,7 +22,7 @@ told s = stands-told (s .pre .1)
 type-is : (c : tie.After-part-if) → let s = c .before .before .before in c .part-if .result ≡ partIf true (s .args .s .now) (s .args .at + 5)
 type-is c = c .part-if .ensures
 
-rom-begins : (c : tie.After-part-if) → let s = c .before .before .before in c .part-if .result .at + c .part-if .result .len ≡ s .args .at + 5 + 1 + getD (s .args .s .now) (s .args .at + 5) 0
+rom-begins : (c : tie.After-part-if) → let s = c .before .before .before in c .part-if .result .at .0 + c .part-if .result .len ≡ s .args .at + 5 + 1 + getD (s .args .s .now) (s .args .at + 5) 0
 rom-begins c = rw (type-is c)
 
 -- the numbers begin behind the type and the rom, the script behind them
