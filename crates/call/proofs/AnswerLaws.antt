@@ -1,4 +1,4 @@
--- Laws of the call's answers (`ending/specs/Answers.antt`). No contract cites this file.
+-- Laws of the call's answers (`specs/Answers.antt`). No contract cites this file.
 -- In order: the stages' answers; the checks'. Assumes nothing.
 use mathlib.Core.Path.{_≡_, sym, _∙_, subst}
 use mathlib.Core.List.{List}

@@ -1,2 +1,2 @@
--- The proofs of `checks`.
+-- The proofs of `call::checks`.
 pub mod CheckLaws

@@ -1,2 +1,2 @@
--- The proofs of `ending`.
+-- The proofs of `call::ending`.
 mod EndLaws

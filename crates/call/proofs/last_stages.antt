@@ -1,2 +1,2 @@
--- The proofs of `rest`.
+-- The proofs of `call::last_stages`.
 pub mod RestLaws

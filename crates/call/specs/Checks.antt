@@ -1,9 +1,9 @@
 -- What the checks 2 to 6 of the call find. Definitions only.
---     tableRefusal n at          the refusal of a table, by its number
---     Accepted line table given ..  line, table and given edges passed their checks: so many characters, the table's shape, so many edges
---     LentIs line table given r  the checks 2 to 6 found r: the definition's answer is that refusal, or they are passed
---     RestIs n table given r     the same of the checks 4 to 6, after a line of n characters
---     LentIndexed table os k r   where the checks are passed, the index over the table's records has k entries, their offsets os
+--     tableRefusal n at              the refusal of a table, by its number
+--     Accepted line table given ..   line, table and given edges passed their checks: so many characters, the table's shape, so many edges
+--     LentIs line table given r      the checks 2 to 6 found r: the definition's answer is that refusal, or they are passed
+--     RestIs n table given r         the same of the checks 4 to 6, after a line of n characters
+--     LentIndexed table os k r       where the checks are passed, the index over the table's records has k entries, their offsets os
 --     Assumes nothing.
 use mathlib.Core.Path.{_≡_}
 use mathlib.Core.Bool.{true, cond}

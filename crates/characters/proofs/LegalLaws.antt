@@ -1,4 +1,4 @@
--- What the table's check (dicts/specs/Check.antt) says of each record, and so of the one that is found for a character. No contract cites this file.
+-- What the table's check (table/specs/Check.antt) says of each record, and so of the one that is found for a character. No contract cites this file.
 -- In order: the records one by one; the table and its count; a count that is too high; the record of a character.
 use mathlib.Core.Path.{_≡_, refl, sym, ap, _∙_}
 use mathlib.Core.Bool.{Bool, true, false, cond}

@@ -1,4 +1,4 @@
--- The pass list that `initialize_num_edges` leaves goes through the five passes as the call's definitions say: a citation of pass_edges.
+-- The pass list that `initialize_num_edges` leaves goes through the five passes as the call's definitions say: a citation of `pass_list::in_turn`.
 use Prim.Native.Nat.{ℕ}
 use mathlib.Core.List.{List}
 use Rattle.text.specs.Text.{chars}

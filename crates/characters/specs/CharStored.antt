@@ -1,6 +1,6 @@
 -- The stored edge of a character (01, "From characters to edges"): p is its record, which stands at the offset at of the table's bytes t. Definitions only.
---     numberIf b n           the number n where b holds, else 0
---     charStored t p at i c    the stored edge of the code point c at place i
+--     numberIf b n            the number n where b holds, else 0
+--     charStored t p at i c   the stored edge of the code point c at place i
 -- proofs/CharLaws.antt shows that it stands for the definition's edge.
 -- Assumes nothing.
 use mathlib.Core.Bool.{Bool, cond, _&&_, _||_}

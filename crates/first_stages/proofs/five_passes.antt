@@ -1,4 +1,4 @@
--- The proofs of `five`.
+-- The proofs of `first_stages::five_passes`.
 pub mod FrontLaws
 pub mod RootLaws
 pub mod GroundLaws

@@ -1,2 +1,2 @@
--- The proofs of `given`.
+-- The proofs of `first_stages::given`.
 pub mod GivenLaws

@@ -1,7 +1,7 @@
 -- The five passes in the work space, and what they add to the lattice. w are the line's code points, t the table's bytes. Definitions only.
---     listedStored w t l         the edges that the stored edges l stand for, as they are listed
---     PassList w t k s n        s begins with a pass list of n stored edges, all sound and of kinds before k
---     OneIs .. r, FiveIs .. r   the i-th pass, and all five, answered r: the start of the first joined edge above TOP, or the lattice with the joined edges
+--     listedStored w t l              the edges that the stored edges l stand for, as they are listed
+--     PassList w t k s n              s begins with a pass list of n stored edges, all sound and of kinds before k
+--     OnePass .. r, FivePasses .. r   the i-th pass, and all five, answered r: the start of the first joined edge above TOP, or the lattice with the joined edges
 --     Assumes nothing.
 use mathlib.Core.Path.{_≡_}
 use mathlib.Core.List.{List, map}

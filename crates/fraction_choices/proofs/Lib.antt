@@ -1,3 +1,3 @@
--- The laws of `choices`.
+-- The laws of `fraction_choices`.
 pub mod MarkerLaws
 pub mod ChooseLaws

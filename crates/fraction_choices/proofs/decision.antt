@@ -1,4 +1,4 @@
--- The laws that the proofs of `made` share.
+-- The laws that the proofs of `fraction_choices::decision` share.
 pub mod NeighborLaws
 pub mod ValueLaws
 pub mod DecisionLaws

@@ -1,10 +1,10 @@
 -- The neighbours of every place, as the code keeps them. Definitions only.
---     Keeps w l es           the lattice l of the work space w holds the edges es of a line of at most 256 characters, and is not full
---     sideOf right p         what is asked for at place p: its right neighbour or its left one
---     placeOf right e        the place whose neighbour an edge may be
---     keptOf es x            the edge that a number x stands for: one more than its index; 0: none
---     Neighbors right es t   the table t keeps the neighbours of all places on one side
---     Around w l a z es      besides, the tables a and z keep the left and the right neighbours of all places
+--     HoldsLine w l es            the lattice l of the work space w holds the edges es of a line of at most 256 characters, and is not full
+--     sideOf right p              what is asked for at place p: its right neighbour or its left one
+--     placeOf right e             the place whose neighbour an edge may be
+--     keptOf es x                 the edge that a number x stands for: one more than its index; 0: none
+--     Neighbors right es t        the table t keeps the neighbours of all places on one side
+--     HoldsNeighbors w l a z es   besides, the tables a and z keep the left and the right neighbours of all places
 -- Assumes nothing.
 use mathlib.Core.Path.{_≡_}
 use mathlib.Core.Bool.{Bool, true, false}

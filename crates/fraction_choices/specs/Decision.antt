@@ -1,4 +1,4 @@
--- The decision at one place, on the numbers that stand for its neighbours (`keptOf` of `Around`): each definition is that of the same name in
+-- The decision at one place, on the numbers that stand for its neighbours (`keptOf` of specs/Around.antt): each definition is that of the same name in
 -- `Fractions` of `numbers`, with a choice for what is made. Definitions only.
 --     sizeOf m                    how many characters a marker has
 --     choice f i j, noChoice      a choice, and the one that makes nothing

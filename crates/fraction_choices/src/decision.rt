@@ -224,7 +224,7 @@ fn marked(
     between(w, l, percent, other, left, right)
 }
 
-// What the marker at a place leads to, by the neighbours that the two tables of `neighbors` keep.
+// What the marker at a place leads to, by the neighbours that the two tables of `fraction_choices::neighbors` keep.
 pub fn outcome_at(
     w: &[u8],
     l: Lattice,

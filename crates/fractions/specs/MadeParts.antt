@@ -4,7 +4,7 @@
 --     fractionFields ..     the fields of a fraction: bits 0 (numeric), 2 (fraction) and 7 (active), and 5 where there is a script
 --     fractionWith ..       the fraction with this text, these numbers and this script
 --     txtPercentOf es p j   the edge that the form TxtPercent makes: the txt of the edge j of es and "%", from place p on
---     Has n w l es          w and l hold the edges es of a call over a line of n characters
+--     HoldsCall n w l es    w and l hold the edges es of a call over a line of n characters
 --     Assumes nothing.
 use mathlib.Core.Path.{_≡_}
 use mathlib.Core.Bool.{true, false}

@@ -1,7 +1,7 @@
 -- What the code says of the edge that a choice makes. Definitions only.
---     percentOf, fractionOf   the edges that the forms Percent and Fraction make
---     addOutcome es m            es with the edge that was made, if one was
---     Over n w l es c         w and l hold the edges es of a call over a line of n characters, and the choice c may stand over es
+--     percentOf, fractionOf    the edges that the forms Percent and Fraction make
+--     addOutcome es m          es with the edge that was made, if one was
+--     HoldsChoice n w l es c   w and l hold the edges es of a call over a line of n characters, and the choice c may stand over es
 --     Assumes nothing.
 use mathlib.Core.List.{List}
 use Prim.Native.Nat.{ℕ}

@@ -1,7 +1,7 @@
--- What the choices of all places lead to (`Choices` of `choices` has how the arrays hold them). Definitions only.
+-- What the choices of all places lead to (fraction_choices/specs/Choices.antt has how the arrays hold them). Definitions only.
 --     outcomesOf es fs ls rs p k   what the choices of the k places from p on lead to over the lattice es
---     usedBy c                  the indices of the edges that the choice c uses
---     AllValid es fs ls rs n    each of the first n choices may stand over es
+--     usedBy c                     the indices of the edges that the choice c uses
+--     AllValid es fs ls rs n       each of the first n choices may stand over es
 --     Assumes nothing.
 use mathlib.Core.List.{List, [], _∷_}
 use Prim.Native.Nat.{ℕ, zero, suc, _<_}

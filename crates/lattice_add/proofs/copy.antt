@@ -1,2 +1,2 @@
--- Laws of the definitions of `copies`, for its own proofs and its callers'.
+-- Laws of the definitions of `lattice_add::copy`, for its own proofs and its callers'.
 pub mod CopyLaws

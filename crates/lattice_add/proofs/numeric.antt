@@ -1,1 +1,1 @@
--- No laws of its own: those of an edge that is written and added are in `lattice_add::regular`, proofs/ComposeLaws.antt.
+-- No laws of its own: those of an edge that is written and added are in `lattice_add::regular`, proofs/regular/ComposeLaws.antt.

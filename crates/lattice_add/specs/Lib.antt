@@ -1,2 +1,2 @@
--- The definitions that the contracts of `copies` cite.
+-- The definitions that the contracts of `lattice_add::copy` cite.
 pub mod Copy

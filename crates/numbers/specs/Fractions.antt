@@ -1,10 +1,10 @@
 -- Fractions and percentages (01, "The rest of the call"). Definitions only. w is the line's code points, es the lattice.
---     standsAt w p m      the marker or sign m stands in the line at place p
---     longest w p ms      how many characters the longest of the markers ms has that stand at place p; 0 where none does
---     Marker, markerAt    the marker that counts at a place: its kind and its length in characters
---     Outcome                what a marker leads to: a new edge, with the indices of the edges that it uses
---     outcomeAt t w es p     what the marker at place p leads to
---     fractions t w es    the lattice with the used edges inactive, then the new ones added
+--     standsAt w p m       the marker or sign m stands in the line at place p
+--     longest w p ms       how many characters the longest of the markers ms has that stand at place p; 0 where none does
+--     Marker, markerAt     the marker that counts at a place: its kind and its length in characters
+--     Outcome              what a marker leads to: a new edge, with the indices of the edges that it uses
+--     outcomeAt t w es p   what the marker at place p leads to
+--     fractions t w es     the lattice with the used edges inactive, then the new ones added
 --     Assumes nothing.
 use Prim.Native.Nat.{ℕ, zero, suc, _+_}
 use mathlib.Core.Bool.{Bool, true, false, cond, _&&_, not}

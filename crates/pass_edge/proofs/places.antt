@@ -1,2 +1,2 @@
--- What the proofs of `places`, and its callers', share.
+-- What the proofs of `pass_edge::places`, and its callers', share.
 pub mod PlacesLaws

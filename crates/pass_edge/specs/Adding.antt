@@ -1,8 +1,8 @@
 -- Stored edges added to the lattice: what one asks, and those of one kind in turn. Definitions only.
---     Asks s l line offs t e   what adding the code's edge e asks: a lattice l in the work space s, the line's offsets, and that e is a sound stored edge
---     Adds line t e s l u r    the lattice r in u is l in s with the stored edge's edge, and what is behind it is as it was
---     kindEdges w t k l        the edges of the stored edges of l that are of kind k, as they are listed
---     addIf w t k es x         es with the edge of x added, if x is of kind k
+--     Addable s l line offs t e   what adding the code's edge e asks: a lattice l in the work space s, the line's offsets, and that e is a sound stored edge
+--     Added line t e s l u r      the lattice r in u is l in s with the stored edge's edge, and what is behind it is as it was
+--     kindEdges w t k l           the edges of the stored edges of l that are of kind k, as they are listed
+--     addIf w t k es x            es with the edge of x added, if x is of kind k
 --     Assumes nothing.
 use mathlib.Core.Bool.{cond}
 use mathlib.Core.List.{List, map}

@@ -1,8 +1,8 @@
 -- The fields that a stored edge is listed with. Definitions only.
 --     storedFraction t k at   the fraction of a stored edge of kind k whose record stands at an offset of the table, in lowest terms, where it has one
---     recordFraction p      the fraction of the record that a NumProp stands for, in lowest terms, where it has one
---     FractionIs f o        the code's f is the fraction o, where there is one
---     Listable offs e       the places of e have offsets that rise, and its floats are no NaN
+--     recordFraction p        the fraction of the record that a NumProp stands for, in lowest terms, where it has one
+--     FractionIs f o          the code's f is the fraction o, where there is one
+--     Listable offs e         the places of e have offsets that rise, and its floats are no NaN
 --     storedMap e f           the listing's map for the edge e; f: it has a fraction
 --     storedFields ..         the fields of e: orig_txt between two places of the line, the script in the table, D1's digits at the front of a buffer
 -- Assumes nothing.

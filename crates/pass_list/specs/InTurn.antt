@@ -1,4 +1,4 @@
--- The passes in turn on the stored edges of a pass list, as `through` and `addedBy` of passes (specs/Passes.antt) on edges. Definitions only.
+-- The passes in turn on the stored edges of a pass list, as `through` and `addedBy` of `passes` (specs/Passes.antt) on edges. Definitions only.
 --     through ps l   the stored edges after the passes ps in turn
 --     addedBy ps l   the stored edges that the passes ps join in turn, in order
 --     ofKind k l     the stored edges of l that are of kind k, in order

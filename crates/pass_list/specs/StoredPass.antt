@@ -1,4 +1,4 @@
--- The five passes on stored edges: the definitions of `passes` (specs/Passes.antt) with each text test replaced by its mark. `pass_list::in_turn` (proofs/Simulation.antt)
+-- The five passes on stored edges: the definitions of `passes` (specs/Passes.antt) with each text test replaced by its mark. `pass_list::in_turn` (proofs/in_turn/Simulation.antt)
 -- shows that they are the same passes. Definitions only.
 --     StoredChain        a chain as far as it goes
 --     counted p l e    the next edge e after l as it counts in pass p

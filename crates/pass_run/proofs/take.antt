@@ -1,1 +1,1 @@
--- No laws of its own: those of the tests are in `pass_run::look`, proofs/FilterLaws.antt.
+-- No laws of its own: those of the tests are in `pass_run::look`, proofs/look/FilterLaws.antt.

@@ -1,2 +1,2 @@
--- Laws of Euclid's algorithm, for the proofs of `ratio`.
+-- Laws of Euclid's algorithm, for the proofs of `passes::ratio`.
 pub mod RatioLaws

@@ -1,4 +1,4 @@
-// The bytes of a text shown at a place of a line (01, "Added: .."): the part of the line or of the listing that the answer of `shown` names.
+// The bytes of a text shown at a place of a line (01, "Added: .."): the part of the line or of the listing that the answer of `queries::shown::shown_text` names.
 ghost use mathlib.Core.Path.{_≡_};
 ghost use Rattle.fields.specs.Part.{partOf};
 ghost use Rattle.paths.specs.Shown.{shownPart};

@@ -3,7 +3,7 @@
 pub mod Ascii
 -- texts: The definitions that the contracts of `record_check::texts` cite besides those of `table`.
 pub mod Rest
--- number: The definitions that the contracts of `number_look` and its callers cite besides those of `table`.
+-- number: The definitions that the contracts of `record_check::number` and its callers cite besides those of `table`.
 pub mod Look
 -- plain_numbers: The definitions that the contracts of `record_check::plain_numbers` and `record_check::plain` cite besides those of `table`.
 pub mod PlainContent

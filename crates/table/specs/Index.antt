@@ -1,14 +1,14 @@
 -- The record of a character among the records rs of the table t, and an index over them. Definitions only.
---     FoundAt t rs c p at      the code point c has a record in rs, which is p and stands at the offset at
---     FoundIs t rs c r         the answer r says which record c has, or that it has none
---     Whole t at left          from the offset at on there are left records, and they rise
---     Tail t rs at left least  there are left records from the offset at on; they rise from least on, and have the records of rs for code points from least on
---     Ahead t rs c at left     a Whole begins at the offset at, and c has there the record that it has in rs
---     Entry t rs at left       an entry of the index: a record stands at the offset at, and a Tail begins there, for code points from this record's on
---     strideOf all             from one entry of the index to the next there are so many of all records
---     Indexed t rs os all n    the index over rs, which are all records, has n entries: their offsets os; the i-th is record number i * strideOf all
---     Growing t rs os all x    the same of an index x that is being made, whose next entry is due
---     IndexIf t at all os n    if all records from the offset at on are laid out and rise, then the index over them has n entries, their offsets os
+--     FoundAt t rs c p at              the code point c has a record in rs, which is p and stands at the offset at
+--     FoundIs t rs c r                 the answer r says which record c has, or that it has none
+--     Whole t at left                  from the offset at on there are left records, and they rise
+--     RecordsTail t rs at left least   there are left records from the offset at on; they rise from least on, and have the records of rs for code points from least on
+--     RecordsAhead t rs c at left      a Whole begins at the offset at, and c has there the record that it has in rs
+--     Entry t rs at left               an entry of the index: a record stands at the offset at, and a RecordsTail begins there, for code points from this record's on
+--     strideOf all                     from one entry of the index to the next there are so many of all records
+--     Indexed t rs os all n            the index over rs, which are all records, has n entries: their offsets os; the i-th is record number i * strideOf all
+--     IndexGrowing t rs os all x       the same of an index x that is being made, whose next entry is due
+--     IndexIf t at all os n            if all records from the offset at on are laid out and rise, then the index over them has n entries, their offsets os
 -- Assumes nothing.
 use mathlib.Core.Path.{_≡_}
 use mathlib.Core.Bool.{true}

@@ -151,7 +151,7 @@ over x = lt (fin true 1 (pos 0)) x
 abbrev pub under : Float → Bool
 under x = lt x (fin false 1 (pos 64))
 
--- the test of `to_u64`, with its limits as the source writes them
+-- the test of `whole_part`, with its limits as the source writes them
 abbrev pub inU64 : Float → Bool
 inU64 x = lt (neg (ofBits binary64 0x3FF0_0000_0000_0000)) x && lt x (ofBits binary64 0x43F0_0000_0000_0000)
 

@@ -1,4 +1,4 @@
-// Runs vectors of `whole` and `decimal` on both sides of their limits. `stdout` has the expected answers, worked out by hand and by IEEE 754.
+// Runs vectors of `whole` and `whole::decimal` on both sides of their limits. `stdout` has the expected answers, worked out by hand and by IEEE 754.
 // The decimal text of n, and the newline that the line is filled with.
 fn show(n: u64) {
     let mut line = [10u8; 21];

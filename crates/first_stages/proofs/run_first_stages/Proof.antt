@@ -1,4 +1,4 @@
--- `first_stages::passed` meets its contract: each stage gives the next what it asks for. Assumes nothing.
+-- `first_stages::run_first_stages` meets its contract: each stage gives the next what it asks for. Assumes nothing.
 use borrow.Author.Needs.{needs}
 use mathlib.Core.List.{[]}
 use native.Mathlib.Omega.{arith}

@@ -1,4 +1,4 @@
--- `lattice_add::add_edge` meets its contract: `how_to_add` says what is to be done, and each way leaves what the definition adds. Assumes nothing.
+-- `lattice_add::add_edge` meets its contract: `plan_add` says what is to be done, and each way leaves what the definition adds. Assumes nothing.
 use borrow.Author.Needs.{needs}
 use mathlib.Core.Path.{_≡_, refl, subst}
 use mathlib.Core.List.{List}

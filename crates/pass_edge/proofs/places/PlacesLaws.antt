@@ -1,4 +1,4 @@
--- Laws of the offsets of places (`stages/specs/Ready.antt`, `pass_list/specs/Edges.antt`), for this crate's proofs and its callers'.
+-- Laws of the offsets of places (`numbers/specs/Ready.antt`, `pass_list/specs/Edges.antt`), for this crate's proofs and its callers'.
 -- In order: offsets rise; the part of a line between two places; the table of offsets as a walk fills it.
 use mathlib.Core.Path.{_≡_, sym, ap, _∙_}
 use mathlib.Core.List.{List, []}

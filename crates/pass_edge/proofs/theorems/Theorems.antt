@@ -1,4 +1,4 @@
--- The edges that sound stored edges stand for are edges of the call (stages/specs/CallEdge.antt): they may be listed, they are short, and their value is whole.
+-- The edges that sound stored edges stand for are edges of the call (numbers/specs/CallEdge.antt): they may be listed, they are short, and their value is whole.
 -- In order: fields that may be absent; the numeric data; the edge; lists of stored edges. Assumes nothing.
 use mathlib.Core.Path.{_≡_, refl, sym, ap, _∙_, subst}
 use mathlib.Core.Bool.{Bool, true, false, cond, _&&_}

@@ -1,4 +1,4 @@
--- `signs::add_item_signs` meets its contract, by whether the stored edge starts behind the line's first place and has a value. Assumes nothing.
+-- `signs::add_edge_signs` meets its contract, by whether the stored edge starts behind the line's first place and has a value. Assumes nothing.
 use borrow.Author.Needs.{needs}
 use mathlib.Core.Path.{refl, _∙_}
 use mathlib.Core.List.{List}

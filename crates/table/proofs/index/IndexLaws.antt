@@ -1,5 +1,5 @@
 -- Laws of `specs/Index.antt`. No contract cites this file.
--- In order: the records from an offset on, one at a time; a turn of `find_from`; a turn of `index_records`; the index with an entry more; where a search in it ends.
+-- In order: the records from an offset on, one at a time; a turn of `find_from`; a turn of `index_record`; the index with an entry more; where a search in it ends.
 use mathlib.Core.Path.{_≡_, refl, sym, ap, _∙_}
 use mathlib.Core.Bool.{Bool, true, false, cond}
 use mathlib.Core.List.{List, [], _∷_}
@@ -118,7 +118,7 @@ module _ (t : List ℕ) (rs : List Record) (c at left : ℕ) (a : RecordsAhead t
         go (Is r next) e = none-here r next e h
         go Fault e = turn-fault e
 
--- ---- a turn of `index_records`
+-- ---- a turn of `index_record`
 module _ (t : List ℕ) (rs : List Record) (at left least : ℕ) (a : RecordsTail t rs at left least) (r : Record) (next : ℕ) (reads : readRecord t at ≡ Is r next) (some-left : 0 < left) where
   rises-from : (least ≤ r .code-point) × (rising (r .code-point + 1) (recordsAt (left - 1) t next) ≡ true)
   rises-from = rising-parts least r (recordsAt (left - 1) t next) (rw (← rest-cons t left at reads some-left) (a .rises))

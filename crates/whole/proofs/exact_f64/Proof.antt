@@ -1,4 +1,4 @@
--- `whole::f64_of` meets its contract: the number is the same as an i64, and an i64 up to TOP has its f64. Assumes nothing.
+-- `whole::exact_f64` meets its contract: the number is the same as an i64, and an i64 up to TOP has its f64. Assumes nothing.
 use mathlib.Core.Path.{sym, ap, subst}
 use lib.IntN.{ℤ}
 use lib.Dec.{T}

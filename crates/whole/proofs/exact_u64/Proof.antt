@@ -1,4 +1,4 @@
--- `whole::u64_of` meets its contract: the f64 of n is n as an i64, and that is n. Assumes nothing.
+-- `whole::exact_u64` meets its contract: the f64 of n is n as an i64, and that is n. Assumes nothing.
 use mathlib.Core.Path.{sym, ap, _∙_, subst}
 use native.Mathlib.Omega.{arith}
 use lib.IntN.{ℤ, natAbs}

@@ -1,4 +1,4 @@
--- `whole::to_u64` meets its contract: the f64 of n lies between the two limits, and its whole part is n. Assumes nothing.
+-- `whole::whole_part` meets its contract: the f64 of n lies between the two limits, and its whole part is n. Assumes nothing.
 use mathlib.Core.Path.{sym, ap, _∙_}
 use mathlib.Core.Bool.{true≢false}
 use Rattle.whole.proofs.WholeLaws.{inU64, in-u64-within, ofNat-in-u64, ofNat-to-unsigned}

@@ -1,4 +1,4 @@
--- `bit_if` meets its contract. Assumes nothing.
+-- `fields::write::bit_if` meets its contract. Assumes nothing.
 use native.Mathlib.Omega.{arith}
 use Rattle.fields.proofs.write.bit_if.Statement.{statement}
 use Rattle.fields.proofs.write.bit_if.Tie as tie

@@ -1,4 +1,4 @@
--- `lattice::find::how_to_add` meets its contract: the edge's key is asked for in its bucket, then the room. Assumes nothing.
+-- `lattice::find::plan_add` meets its contract: the edge's key is asked for in its bucket, then the room. Assumes nothing.
 use borrow.Author.Needs.{needs}
 use Prim.Native.Nat.{_+_}
 use mathlib.Core.Path.{_≡_, sym, ap, _∙_}

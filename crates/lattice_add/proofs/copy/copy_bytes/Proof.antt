@@ -1,5 +1,5 @@
 -- `lattice_add::copy::copy_bytes` meets its contract. The loop's invariant: i bytes are copied, and the length is as it was. The measure is what is left of
--- the bytes. The mathematics of a turn is in `proofs/CopyLaws.antt`. Assumes nothing.
+-- the bytes. The mathematics of a turn is in `proofs/copy/CopyLaws.antt`. Assumes nothing.
 use borrow.Author.Needs.{needs}
 use Prim.Native.Nat.{_≤_, _-_}
 use mathlib.Core.Path.{_≡_}

@@ -1,5 +1,5 @@
 -- `lattice_add::copy::copy_long` meets its contract. The loop's invariant: i bytes are copied, fewer than all of them, and the length is as it was. The measure is what is left
--- before the last sixteen. The mathematics of a turn is in `proofs/CopyLaws.antt`. Assumes nothing.
+-- before the last sixteen. The mathematics of a turn is in `proofs/copy/CopyLaws.antt`. Assumes nothing.
 use borrow.Author.Needs.{needs}
 use Prim.Native.Nat.{_+_, _-_, _<_}
 use mathlib.Core.Path.{_≡_, refl, _∙_}

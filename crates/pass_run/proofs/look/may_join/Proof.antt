@@ -1,4 +1,4 @@
--- `may_join` meets its contract: what each pass's rule needs is in `proofs/FilterLaws.antt`. Assumes nothing.
+-- `may_join` meets its contract: what each pass's rule needs is in `proofs/look/FilterLaws.antt`. Assumes nothing.
 use native.Mathlib.Omega.{arith}
 use mathlib.Core.Path.{sym, _∙_}
 use Rattle.passes.specs.Passes.{D1, G1, G2, G3, G4}

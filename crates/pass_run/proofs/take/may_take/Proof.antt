@@ -1,4 +1,4 @@
--- `may_take` meets its contract: what each pass's rule needs is in `pass_run::look`, proofs/FilterLaws.antt. Assumes nothing.
+-- `may_take` meets its contract: what each pass's rule needs is in `pass_run::look`, proofs/look/FilterLaws.antt. Assumes nothing.
 use native.Mathlib.Omega.{arith}
 use Rattle.passes.specs.Passes.{D1, G1, G2, G3, G4}
 use Rattle.pass_run.proofs.look.FilterLaws.{take-may}

@@ -1,4 +1,4 @@
--- `record_check::ascii::low_four` meets its contract: the mask finds the highest bits.
+-- `record_check::ascii::four_ascii` meets its contract: the mask finds the highest bits.
 use borrow.Author.Tests.{eqb-true}
 use Rattle.record_check.proofs.ascii.MaskLaws.{four-low}
 use borrow.Author.Needs.{needs}

@@ -1,4 +1,4 @@
--- `record_check::plain_numbers::told` meets its contract: its tests are those that it tells. Assumes nothing.
+-- `record_check::plain_numbers::map_fits` meets its contract: its tests are those that it tells. Assumes nothing.
 use mathlib.Core.Path.{refl}
 use Rattle.record_check.proofs.plain_numbers.map_fits.Statement.{statement}
 use Rattle.record_check.proofs.plain_numbers.map_fits.Tie as tie

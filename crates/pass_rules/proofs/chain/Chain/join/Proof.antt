@@ -1,5 +1,5 @@
 -- `Chain::join` meets its contract. Where the chain and the edge don't touch, where the rule refuses and where the value is above TOP, one of its answers is
--- named by a law of `proofs/ChainLaws.antt`. Assumes nothing.
+-- named by a law of `proofs/chain/ChainLaws.antt`. Assumes nothing.
 use mathlib.Core.Path.{_≡_, sym, ap, _∙_}
 use mathlib.Core.Bool.{true, false}
 use borrow.Author.Tests.{eq-eqb, ne-eqb, not-true, not-false}
