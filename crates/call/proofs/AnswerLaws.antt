@@ -22,7 +22,7 @@ use Rattle.call.specs.declared.checks.CallCheck.the-variants as CallChec
 use Rattle.answers.specs.declared.Answer.{Answer}
 use Rattle.answers.specs.declared.Answer.the-variants as Answer
 use Rattle.call.specs.Answers.{AnswerIs}
-use Rattle.call.specs.Checks.{Accepted, LentIs}
+use Rattle.call.specs.Checks.{Accepted, CallCheckIs}
 use Rattle.call.proofs.checks.CheckLaws.{sound-answer}
 
 -- ---- the stages
@@ -45,8 +45,8 @@ module _ (line table given out : List ℕ) (work : ℕ) where
   unfolding addNumbers
   by-line h = rw (le-ltb work 65536 h)
 
-  pub answer-refused : 65536 ≤ work → (r : Refusal) → LentIs line table given (CallCheck.Refused r) → AnswerIs out out (Answer.Refused r) (addNumbers line table given work (length out))
-  unfolding LentIs
+  pub answer-refused : 65536 ≤ work → (r : Refusal) → CallCheckIs line table given (CallCheck.Refused r) → AnswerIs out out (Answer.Refused r) (addNumbers line table given work (length out))
+  unfolding CallCheckIs
   answer-refused h r q = let e = by-line h ∙ q (length out) in record { answer = rw e; output = rw e }
 
   pub answer-sound : 65536 ≤ work → {n : ℕ} {h : Shape} {count : ℕ} → Accepted line table given n h count → (now : List ℕ) (r : Answer)

@@ -1,9 +1,9 @@
 -- What the checks 2 to 6 of the call find. Definitions only.
 --     tableRefusal n at              the refusal of a table, by its number
 --     Accepted line table given ..   line, table and given edges passed their checks: so many characters, the table's shape, so many edges
---     LentIs line table given r      the checks 2 to 6 found r: the definition's answer is that refusal, or they are passed
+--     CallCheckIs line table given r      the checks 2 to 6 found r: the definition's answer is that refusal, or they are passed
 --     RestIs n table given r         the same of the checks 4 to 6, after a line of n characters
---     LentIndexed table os k r       where the checks are passed, the index over the table's records has k entries, their offsets os
+--     CallCheckIndexed table os k r       where the checks are passed, the index over the table's records has k entries, their offsets os
 --     Assumes nothing.
 use mathlib.Core.Path.{_≡_}
 use mathlib.Core.Bool.{true, cond}
@@ -34,14 +34,14 @@ pub record Accepted (line table given : List ℕ) (n : ℕ) (h : Shape) (count :
   pub ready : Ready line table h n
   pub edges : checkListing true n given ≡ Edges count
 
-unfoldable pub LentIs : List ℕ → List ℕ → List ℕ → CallCheck → Type 0
-LentIs line table given (CallCheck.Accepted n h count) = Accepted line table given n h count
-LentIs line table given (CallCheck.Refused r) = (out : ℕ) → afterLineCheck line table given out (lineCheck line) ≡ refused (number r) (place r)
+unfoldable pub CallCheckIs : List ℕ → List ℕ → List ℕ → CallCheck → Type 0
+CallCheckIs line table given (CallCheck.Accepted n h count) = Accepted line table given n h count
+CallCheckIs line table given (CallCheck.Refused r) = (out : ℕ) → afterLineCheck line table given out (lineCheck line) ≡ refused (number r) (place r)
 
 unfoldable pub RestIs : ℕ → List ℕ → List ℕ → CallCheck → Type 0
 RestIs n table given (CallCheck.Accepted m h count) = (m ≡ n) × (readTable table ≡ Fine (tableOf table h) (length table)) × (checkListing true n given ≡ Edges count)
 RestIs n table given (CallCheck.Refused r) = (w : List ℕ) → length w ≡ n → (out : ℕ) → afterTableCheck w out given (readTable table) ≡ refused (number r) (place r)
 
-unfoldable pub LentIndexed : List ℕ → List ℕ → ℕ → CallCheck → Type 0
-LentIndexed table os k (CallCheck.Accepted n h count) = RecordIndex table h os k
-LentIndexed table os k (CallCheck.Refused r) = Unit {0}
+unfoldable pub CallCheckIndexed : List ℕ → List ℕ → ℕ → CallCheck → Type 0
+CallCheckIndexed table os k (CallCheck.Accepted n h count) = RecordIndex table h os k
+CallCheckIndexed table os k (CallCheck.Refused r) = Unit {0}

@@ -1,6 +1,6 @@
 // The checks 2 to 6 of the call, in their order (01, "What a call is lent"): line, table, given edges.
 ghost use mathlib.Core.Path.{_≡_};
-ghost use Rattle.call.specs.Checks.{tableRefusal, RestIs, LentIs, LentIndexed};
+ghost use Rattle.call.specs.Checks.{tableRefusal, RestIs, CallCheckIs, CallCheckIndexed};
 use answers::Refusal;
 use edge::ListingCheck;
 use table::index::INDEX_SIZE;
@@ -34,7 +34,7 @@ fn check_rest(
     entries: &mut usize,
 ) -> CallCheck
     ensures { λ r. ⌜ RestIs chars (now (table .entry)) (now (edges .entry)) r ⌝ }
-    ensures indexed { λ r. ⌜ LentIndexed (now (table .entry)) (now (offs .exit)) (now (entries .exit)) r ⌝ }
+    ensures indexed { λ r. ⌜ CallCheckIndexed (now (table .entry)) (now (offs .exit)) (now (entries .exit)) r ⌝ }
 {
     match table_check::check_table(table, offs, entries) {
         TableCheck::Refused(number, at) => CallCheck::Refused(table_refusal(number, at)),
@@ -53,8 +53,8 @@ pub fn check(
     offs: &mut [u32; INDEX_SIZE],
     entries: &mut usize,
 ) -> CallCheck
-    ensures { λ r. ⌜ LentIs (now (line .entry)) (now (table .entry)) (now (edges .entry)) r ⌝ }
-    ensures indexed { λ r. ⌜ LentIndexed (now (table .entry)) (now (offs .exit)) (now (entries .exit)) r ⌝ }
+    ensures { λ r. ⌜ CallCheckIs (now (line .entry)) (now (table .entry)) (now (edges .entry)) r ⌝ }
+    ensures indexed { λ r. ⌜ CallCheckIndexed (now (table .entry)) (now (offs .exit)) (now (entries .exit)) r ⌝ }
 {
     match text::check::check_line(line) {
         LineCheck::IllFormed(at) => CallCheck::Refused(Refusal::NotUtf8(at)),

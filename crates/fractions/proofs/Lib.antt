@@ -1,6 +1,6 @@
 -- The laws of `fractions`.
 pub mod KeepsLaws
-pub mod MadesLaws
+pub mod OutcomesLaws
 pub mod NewLaws
 pub mod StageLaws
 pub mod AnyMarkerLaws

@@ -19,7 +19,7 @@ use Rattle.fraction_choices.specs.Choices.{Decided}
 use Rattle.fractions.specs.Outcomes.{outcomesOf, AllValid}
 use Rattle.fractions.specs.Planned.{Planned}
 use Rattle.fractions.proofs.deactivate.KeepsLaws.{keeps-turn-off, valid-keeps}
-use Rattle.fractions.proofs.MadesLaws.{mades-all, mades-keep}
+use Rattle.fractions.proofs.OutcomesLaws.{mades-all, mades-keep}
 use Rattle.fractions.proofs.NewLaws.{new-call}
 
 -- ---- a full lattice

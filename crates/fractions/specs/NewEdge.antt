@@ -13,7 +13,7 @@ use Rattle.lattice.specs.Lattice.{add}
 use Rattle.lattice.specs.Kept.{noEdge}
 use Rattle.numbers.specs.Fractions.{Outcome, made, nothing, percentEdge, fractionEdge}
 use Rattle.fraction_choices.specs.declared.decision.Choice.{Choice}
-use Rattle.fractions.specs.MadeParts.{HoldsCall}
+use Rattle.fractions.specs.NewParts.{HoldsCall}
 use Rattle.fraction_choices.specs.Choice.{valueOr, Valid}
 
 -- ---- the edges, of the edges i and j of es

@@ -7,7 +7,7 @@ use Rattle.edge.specs.Edge.{Edge}
 use Rattle.lattice.specs.declared.Lattice.{Lattice}
 use Rattle.numbers.specs.CallEdge.{CallEdges}
 use Rattle.numbers.specs.Fractions.{newEdges}
-use Rattle.fractions.specs.MadeParts.{HoldsCall}
+use Rattle.fractions.specs.NewParts.{HoldsCall}
 use Rattle.fractions.specs.Outcomes.{outcomesOf, AllValid}
 
 pub record Planned (n : ℕ) (w : List ℕ) (l : Lattice) (es : List Edge) (fs ls rs : List ℕ) : Type 0 where

@@ -7,7 +7,7 @@ ghost use Rattle.edge.specs.Edge.{Edge};
 ghost use Rattle.lattice.specs.Lattice.{add};
 ghost use Rattle.lattice.specs.Kept.{noEdge, Holds, SameBehind};
 ghost use Rattle.fraction_choices.specs.Choice.{outcomeOf, valueOr, Two};
-ghost use Rattle.fractions.specs.MadeParts.{HoldsCall};
+ghost use Rattle.fractions.specs.NewParts.{HoldsCall};
 ghost use Rattle.fractions.specs.NewEdge.{percentOf, fractionOf, HoldsChoice, addOutcome};
 ghost use Rattle.fields.specs.Fields.{u16Limit};
 use crate::texts::TEXT_ROOM;

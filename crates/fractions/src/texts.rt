@@ -5,7 +5,7 @@ ghost use Prim.Native.Nat.{_+_, _≤_};
 ghost use lib.ListN.{length};
 ghost use Rattle.whole.specs.Decimal.{decimal};
 ghost use Rattle.fields.specs.Part.{partOf};
-ghost use Rattle.fractions.specs.MadeTexts.{TextIs};
+ghost use Rattle.fractions.specs.NewTexts.{TextIs};
 ghost use Rattle.text.specs.Line.{maxChars};
 use fields::Part;
 

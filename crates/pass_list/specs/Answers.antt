@@ -1,7 +1,7 @@
 -- What a pass over a list answers, by the passes on stored edges (specs/StoredPass.antt). Definitions only.
 --     passOf p          the pass that the code's name p stands for
 --     passed o k        what a pass answers: the place in o, or the count k
---     PassedIs p l s r  a pass p over the stored edges l answered r and left the bytes s of the list
+--     PassAnswerIs p l s r  a pass p over the stored edges l answered r and left the bytes s of the list
 -- Assumes nothing.
 use mathlib.Core.Path.{_≡_}
 use mathlib.Core.List.{List}
@@ -29,7 +29,7 @@ abbrev pub passed : Option ℕ → ℕ → PassAnswer
 passed none k = PassAnswer.Edges k
 passed (some a) k = PassAnswer.Above (record { 0 = a })
 
-pub record PassedIs (p : passes.Pass) (l : List StoredEdge) (s : List ℕ) (r : PassAnswer) : Type 0 where
+pub record PassAnswerIs (p : passes.Pass) (l : List StoredEdge) (s : List ℕ) (r : PassAnswer) : Type 0 where
   pub answer : r ≡ passed (firstAbove (added p l)) (length (after p l))
   -- with no value above TOP: the list, which is no longer than it was, and whose numbers are within 01's bounds
   pub list : firstAbove (added p l) ≡ none → storedListAt s 0 (length (after p l)) ≡ after p l

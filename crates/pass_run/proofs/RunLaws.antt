@@ -31,7 +31,7 @@ use Rattle.pass_list.specs.StoredEdge.{StoredEdge, Small, nil, cons, AllSmall, 
 use Rattle.pass_list.specs.Layout.{SIZE}
 use Rattle.pass_list.specs.Stored.{recordBytes, storedAt, storedListAt}
 use Rattle.pass_list.specs.StoredPass.{StoredChain, begin, touches, g1Rule, g3Rule, rule, counted, kindOf, joins, joinedValue, longer, next, over, chainsOf, edgesOf, joinedOf, after, added, firstAbove}
-use Rattle.pass_list.specs.Answers.{PassedIs}
+use Rattle.pass_list.specs.Answers.{PassAnswerIs}
 use Rattle.pass_rules.specs.Chain.{passChain, ChainIs, answer}
 use Rattle.pass_run.specs.Ended.{Ended}
 use Rattle.text.specs.declared.Place.{Place}
@@ -162,14 +162,14 @@ module _ (p : Pass) where
           rw (from-some begin (next p) x t y l e, j .1) (r v ∙ rw (longer-start p x y))
 
 -- ---- what a pass answers
-passed-above : (p : Pass) (l : List StoredEdge) (u : List ℕ) (a : ℕ) → firstAbove (joinedOf (chainsOf p l)) ≡ some a → PassedIs p l u (PassAnswer.Above (record { 0 = a }))
+passed-above : (p : Pass) (l : List StoredEdge) (u : List ℕ) (a : ℕ) → firstAbove (joinedOf (chainsOf p l)) ≡ some a → PassAnswerIs p l u (PassAnswer.Above (record { 0 = a }))
 unfolding added
 passed-above p l u a e =
     let no : (firstAbove (joinedOf (chainsOf p l)) ≡ none) → ⊥ = λ n. let z : _≡_ {A = ℕ} 0 1 = cc in omega arith in
     record { answer = rw e; list = λ n. absurd (no n); fewer = λ n. absurd (no n); small = λ n. absurd (no n) }
 
 passed-all : (p : Pass) (l : List StoredEdge) (u : List ℕ) (k : ℕ) (cs : List StoredChain) → cs ≡ chainsOf p l → storedListAt u 0 k ≡ edgesOf cs → firstAbove (joinedOf cs) ≡ none → AllSmall (edgesOf cs) → k ≤ length l
-    → PassedIs p l u (PassAnswer.Edges k)
+    → PassAnswerIs p l u (PassAnswer.Edges k)
 unfolding added after
 passed-all p l u k cs all stored below small few =
     let c : length (edgesOf (chainsOf p l)) ≡ k = rw (← all, ← stored) (length-stored-edges u 0 k) in
@@ -399,11 +399,11 @@ module _ (p : Pass) (s : List ℕ) (n : ℕ) where
           so-far = rw same (append-assoc (g .done) (c ∷ []) _ ∙ rw (← (f .chains)) (g .so-far));
         }
 
-    pub stops : (u : List ℕ) (a : ℕ) → firstAbove (added p (storedListAt t i (n - i))) ≡ some a → PassedIs p (storedListAt s 0 n) u (PassAnswer.Above (record { 0 = a }))
+    pub stops : (u : List ℕ) (a : ℕ) → firstAbove (added p (storedListAt t i (n - i))) ≡ some a → PassAnswerIs p (storedListAt s 0 n) u (PassAnswer.Above (record { 0 = a }))
     unfolding added
     stops u a e = passed-above p (storedListAt s 0 n) u a (rw (← (g .so-far), joined-append (g .done) (chainsOf p (storedListAt t i (n - i))), above-append (joinedOf (g .done)) (joinedOf (chainsOf p (storedListAt t i (n - i)))) (g .below)) e)
 
-    pub finishes : n ≤ i → PassedIs p (storedListAt s 0 n) t (PassAnswer.Edges k)
+    pub finishes : n ≤ i → PassAnswerIs p (storedListAt s 0 n) t (PassAnswer.Edges k)
     finishes h =
         let b = g .behind in
         let d = g .inside in

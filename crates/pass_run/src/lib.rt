@@ -14,7 +14,7 @@ ghost use Rattle.pass_list.specs.StoredEdge.{Small, AllSmall};
 ghost use Rattle.pass_list.specs.Layout.{SIZE};
 ghost use Rattle.pass_list.specs.Stored.{storedAt, storedListAt};
 ghost use Rattle.pass_list.specs.StoredPass.{StoredChain};
-ghost use Rattle.pass_list.specs.Answers.{passOf, PassedIs};
+ghost use Rattle.pass_list.specs.Answers.{passOf, PassAnswerIs};
 ghost use Rattle.pass_rules.specs.Chain.{ChainIs, answer};
 ghost use Rattle.pass_run.specs.Ended.{Ended};
 ghost use Rattle.pass_run.specs.Run.{First, RunIs};
@@ -121,7 +121,7 @@ fn step(list: &mut [u8], n: usize, k: usize, i: usize, pass: Pass) -> ChainRun
 // A pass over the n edges of the list.
 pub fn run_pass(list: &mut [u8], n: usize, pass: Pass) -> PassAnswer
     requires { ⌜ (n * SIZE ≤ length (now list)) × AllSmall (storedListAt (now list) 0 n) ⌝ }
-    ensures { λ r. ⌜ PassedIs (passOf pass) (storedListAt (now (list .entry)) 0 n) (now (list .exit)) r ⌝ }
+    ensures { λ r. ⌜ PassAnswerIs (passOf pass) (storedListAt (now (list .entry)) 0 n) (now (list .exit)) r ⌝ }
 {
     let mut i = 0;
     let mut k = 0;

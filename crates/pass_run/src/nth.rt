@@ -5,7 +5,7 @@ ghost use lib.ListN.{length, take, drop};
 ghost use Rattle.pass_list.specs.StoredEdge.{AllSmall};
 ghost use Rattle.pass_list.specs.Layout.{SIZE};
 ghost use Rattle.pass_list.specs.Stored.{storedListAt};
-ghost use Rattle.pass_list.specs.Answers.{passOf, PassedIs};
+ghost use Rattle.pass_list.specs.Answers.{passOf, PassAnswerIs};
 ghost use Rattle.pass_run.specs.Nth.{nth};
 use crate::run_pass;
 use pass_list::run::Pass;
@@ -30,7 +30,7 @@ fn pass_of(i: usize) -> Pass
 pub fn pass_behind(w: &mut [u8], from: usize, n: usize, i: usize) -> PassAnswer
     requires { ⌜ (from + n * SIZE ≤ length (now w)) × AllSmall (storedListAt (drop from (now w)) 0 n) × (i < 5) ⌝ }
     ensures { λ r. ⌜ (take from (now (w .exit)) ≡ take from (now (w .entry)))
-        × PassedIs (nth i) (storedListAt (drop from (now (w .entry))) 0 n) (drop from (now (w .exit))) r ⌝ }
+        × PassAnswerIs (nth i) (storedListAt (drop from (now (w .entry))) 0 n) (drop from (now (w .exit))) r ⌝ }
 {
     run_pass(&mut w[from..], n, pass_of(i))
 }

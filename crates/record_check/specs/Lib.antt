@@ -11,4 +11,4 @@ pub mod PlainContent
 pub mod Plain
 -- record: The definitions that the contracts of `record_check::record` cite besides those of `table`.
 pub mod Content
-pub mod Step
+pub mod RecordCheck

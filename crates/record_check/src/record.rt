@@ -12,7 +12,7 @@ ghost use Rattle.fields.specs.Part.{partOf};
 ghost use Rattle.table.specs.Answers.{optionally, optText, Within, TextWithin};
 ghost use Rattle.record_check.specs.Look.{lookField};
 ghost use Rattle.record_check.specs.Content.{textsFine, restFine};
-ghost use Rattle.record_check.specs.Step.{StepIs};
+ghost use Rattle.record_check.specs.RecordCheck.{RecordCheckIs};
 use crate::code_point::legal_code_point;
 use crate::number::Look;
 use crate::number_fields::numbers_look;
@@ -109,7 +109,7 @@ fn fields_look(s: &[u8], code: u32, map: u8, at: usize, least: u64) -> Look
 
 // The record at an offset, whatever its form.
 pub fn check_record(s: &[u8], at: usize, least: u64) -> RecordCheck
-    ensures { λ r. ⌜ StepIs (now (s .entry)) at least r ⌝ }
+    ensures { λ r. ⌜ RecordCheckIs (now (s .entry)) at least r ⌝ }
 {
     if s.len() < 5 {
         return RecordCheck::Refused(4);

@@ -5,7 +5,7 @@ ghost use Rattle.table.specs.Check.{item, legalMark, readTexts, readList, readR
 ghost use Rattle.table.specs.Answers.{endOf};
 ghost use lib.ListN.{length};
 ghost use Rattle.table.specs.Index.{IndexIf, indexSize};
-ghost use Rattle.record_check.specs.Step.{StepIs};
+ghost use Rattle.record_check.specs.RecordCheck.{RecordCheckIs};
 use record_check::plain::Plain;
 use record_check::plain::plain_at;
 use record_check::record::RecordCheck;
@@ -66,7 +66,7 @@ pub fn list_end(s: &[u8], at: usize) -> ItemsCheck
 
 // A record. Most are told by few tests.
 fn record_item(s: &[u8], at: usize, least: u64) -> RecordCheck
-    ensures { λ r. ⌜ StepIs (now (s .entry)) at least r ⌝ }
+    ensures { λ r. ⌜ RecordCheckIs (now (s .entry)) at least r ⌝ }
 {
     match plain_at(s, at, least) {
         Plain::Legal(code, next) => RecordCheck::Next(code, next),

@@ -6,7 +6,7 @@ use lib.ListN.{length, length-replicate}
 use Prim.Native.Nat.{ℕ}
 use Rattle.call.specs.declared.checks.CallCheck.{CallCheck}
 use Rattle.table_check.specs.Indexed.{RecordIndex}
-use Rattle.call.specs.Checks.{Accepted, LentIs, LentIndexed}
+use Rattle.call.specs.Checks.{Accepted, CallCheckIs, CallCheckIndexed}
 use Rattle.call.proofs.AnswerLaws.{answer-short, answer-refused, answer-sound}
 use Rattle.call.proofs.add_numbers.Statement.{statement}
 use Rattle.call.proofs.add_numbers.Tie as tie
@@ -15,18 +15,18 @@ abbrev start : tie.After-check → tie.Start
 start k = k .before .before .before .before .before .before .before .before .before
 
 -- what the checks found
-found : (k : tie.After-check) (r : CallCheck) → k .check .result ≡ r → LentIs (start k .args .line .now) (start k .args .table .now) (start k .args .edges .now) r
-found k r e = subst (LentIs (start k .args .line .now) (start k .args .table .now) (start k .args .edges .now)) e (k .check .ensures .0)
+found : (k : tie.After-check) (r : CallCheck) → k .check .result ≡ r → CallCheckIs (start k .args .line .now) (start k .args .table .now) (start k .args .edges .now) r
+found k r e = subst (CallCheckIs (start k .args .line .now) (start k .args .table .now) (start k .args .edges .now)) e (k .check .ensures .0)
 
 sound : (n : tie.After-n) → let s = start (n .before .before) .args in
     Accepted (s .line .now) (s .table .now) (s .edges .now) (n .n .given .0 .0) (n .n .given .0 .1 .0) (n .n .given .0 .1 .1 .0)
-unfolding LentIs
+unfolding CallCheckIs
 sound n = found (n .before .before) _ (n .n .given .1)
 
 -- the index over the table's records
 indexed : (n : tie.After-n) → let k = n .before .before in RecordIndex (start k .args .table .now) (n .n .given .0 .1 .0) (k .check .last .1 .1 .1 .0) (k .check .last .1 .1 .1 .1 .0)
-unfolding LentIndexed
-indexed n = let k = n .before .before in subst (LentIndexed _ _ _) (n .n .given .1) (k .check .ensures .1)
+unfolding CallCheckIndexed
+indexed n = let k = n .before .before in subst (CallCheckIndexed _ _ _) (n .n .given .1) (k .check .ensures .1)
 
 returns : tie.Need-returns
 returns c = answer-short _ _ _ _ _ (c .if1 .taken)

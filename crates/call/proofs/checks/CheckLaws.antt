@@ -33,7 +33,7 @@ use Rattle.answers.specs.declared.Refusal.the-variants.{NotUtf8, OverLong, BadT
 use Rattle.call.specs.declared.checks.CallCheck.{CallCheck}
 use Rattle.call.specs.declared.checks.CallCheck.the-variants as CallCheck
 use Rattle.answers.specs.Answers as Answers
-use Rattle.call.specs.Checks.{tableRefusal, Accepted, LentIs, RestIs}
+use Rattle.call.specs.Checks.{tableRefusal, Accepted, CallCheckIs, RestIs}
 
 -- ---- a table is refused by 4 or by 5
 abbrev Numbered : {A : Type 0} → Checked A → Type 0
@@ -108,16 +108,16 @@ module _ (n : ℕ) (table given : List ℕ) where
 
 -- ---- the line
 module _ (line table given : List ℕ) {c : LineCheck} (e : c ≡ lineCheck line) where
-  pub lent-ill : {at : _} → c ≡ IllFormed at → LentIs line table given (CallCheck.Refused (NotUtf8 at))
-  unfolding LentIs
+  pub lent-ill : {at : _} → c ≡ IllFormed at → CallCheckIs line table given (CallCheck.Refused (NotUtf8 at))
+  unfolding CallCheckIs
   lent-ill f = λ out. rw (sym e ∙ f)
 
-  pub lent-long : {at : _} → c ≡ TooLong at → LentIs line table given (CallCheck.Refused (OverLong at))
-  unfolding LentIs
+  pub lent-long : {at : _} → c ≡ TooLong at → CallCheckIs line table given (CallCheck.Refused (OverLong at))
+  unfolding CallCheckIs
   lent-long f = λ out. rw (sym e ∙ f)
 
-  pub lent-chars : {n : ℕ} → c ≡ Chars n → (r : CallCheck) → RestIs n table given r → LentIs line table given r
-  unfolding LentIs RestIs
+  pub lent-chars : {n : ℕ} → c ≡ Chars n → (r : CallCheck) → RestIs n table given r → CallCheckIs line table given r
+  unfolding CallCheckIs RestIs
   lent-chars {n} f (CallCheck.Accepted m h k) q =
       let l = checked-line line n (sym e ∙ f) in
       rw (q .0) (record { ready = record { formed = l .2; count = sym (l .0); few = l .1; checked = q .1 }; edges = q .2 })

@@ -16,7 +16,7 @@ use Rattle.pass_list.specs.declared.run.PassAnswer.the-variants as PassAnswer
 use Rattle.pass_list.specs.StoredEdge.{StoredEdge, Every, AllSmall, nil, cons}
 use Rattle.pass_list.specs.StoredPass.{kindOf, after, added, firstAbove}
 use Rattle.pass_list.specs.Stored.{storedListAt}
-use Rattle.pass_list.specs.Answers.{passed, PassedIs}
+use Rattle.pass_list.specs.Answers.{passed, PassAnswerIs}
 use Rattle.pass_list.specs.Edges.{edgeOf}
 use Rattle.pass_list.proofs.StoredLaws.{length-stored-edges}
 use Rattle.pass_list.specs.InTurn.{through, addedBy, ofKind}
@@ -61,7 +61,7 @@ module _ {w t : List ℕ} {i : ℕ} {s : List ℕ} {n : ℕ} (scalars : Scalars 
   earlier = rw (nth-kind i h) (q .kinds)
 
   -- the pass ran over the list behind the lattice, from s to v
-  module _ (v : List ℕ) {r : PassAnswer} (p : PassedIs (nth i) (behind s n) (drop END v) r) where
+  module _ (v : List ℕ) {r : PassAnswer} (p : PassAnswerIs (nth i) (behind s n) (drop END v) r) where
     pub one-above : (l : Lattice) (a : Place) → r ≡ PassAnswer.Above a → OnePass w t i s l n v (Above a)
     unfolding OnePass
     one-above l a e = go (firstAbove (added (nth i) (behind s n))) (sym (p .answer) ∙ e)

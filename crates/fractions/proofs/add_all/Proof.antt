@@ -3,7 +3,7 @@
 use Prim.Native.Nat.{_-_}
 use native.Mathlib.Omega.{arith}
 use borrow.Author.Needs.{needs}
-use Rattle.fractions.proofs.MadesLaws.{Grown, grown-start, grown-next, grown-more, grown-ends}
+use Rattle.fractions.proofs.OutcomesLaws.{Grown, grown-start, grown-next, grown-more, grown-ends}
 use Rattle.fractions.proofs.add_all.Statement.{statement}
 use Rattle.fractions.proofs.add_all.Tie as tie
 

@@ -16,7 +16,7 @@ use Rattle.numbers.specs.Fractions.{Outcome, made, nothing, fractionEdge, scrip
 use Rattle.fraction_choices.specs.declared.decision.Form.the-variants.{Nothing, Percent, Fraction, TxtPercent}
 use Rattle.fraction_choices.specs.declared.decision.Choice.{Choice}
 use Rattle.fraction_choices.specs.Choice.{valueOr, outcomeOf}
-use Rattle.fractions.specs.MadeParts.{fractionWith, txtPercentOf}
+use Rattle.fractions.specs.NewParts.{fractionWith, txtPercentOf}
 use Rattle.fractions.specs.NewEdge.{percentOf, fractionOf, addOutcome}
 
 -- ---- fractions

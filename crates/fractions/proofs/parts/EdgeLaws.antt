@@ -28,7 +28,7 @@ use Rattle.numbers.proofs.stages.ReadLaws.{every-at, call-legals, EdgeThere, ed
 use Rattle.numbers.specs.Listed.{valueOf, wholeValue}
 use Rattle.numbers.specs.Fractions.{scriptOf, isNumeric}
 use Rattle.fraction_choices.specs.Choice.{numberOr, valueOr, HasValue, Two, One}
-use Rattle.fractions.specs.MadeParts.{HeadIs, HoldsCall}
+use Rattle.fractions.specs.NewParts.{HeadIs, HoldsCall}
 
 -- ---- tests and options
 pub not-true : (t : Bool) → not t ≡ true → t ≡ false

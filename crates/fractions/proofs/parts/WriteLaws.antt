@@ -1,4 +1,4 @@
--- The edges that are written, as they are defined (`specs/MadeParts.antt`). No contract cites this file.
+-- The edges that are written, as they are defined (`specs/NewParts.antt`). No contract cites this file.
 -- In order: a percentage; the fields of a fraction. Assumes nothing.
 use mathlib.Core.Path.{_≡_, refl}
 use mathlib.Core.List.{List, []}
@@ -12,7 +12,7 @@ use Rattle.edge.specs.Write.{regular, numeric, Writable}
 use Rattle.numbers.specs.Fractions.{fractionType}
 use Rattle.fractions.specs.declared.parts.Script.{Script}
 use Rattle.fractions.specs.declared.parts.Script.the-variants.{Absent, Bytes}
-use Rattle.fractions.specs.MadeParts.{scriptFrom, scriptLen, fractionFields, fractionWith}
+use Rattle.fractions.specs.NewParts.{scriptFrom, scriptLen, fractionFields, fractionWith}
 
 -- ---- a percentage
 pub regular-is : {a b y z : ℕ} {s t : Text} (ty : Text) → a ≡ b → y ≡ z → s ≡ t → regular a y ty s ≡ regular b z ty t

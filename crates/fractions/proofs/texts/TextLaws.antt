@@ -8,7 +8,7 @@ use lib.Seq.{sets, length-sets}
 use Rattle.fields.specs.Part.{part}
 use Rattle.fields.proofs.PartLaws.{part-sets}
 use Rattle.whole.proofs.SetsLaws.{sets-then}
-use Rattle.fractions.specs.MadeTexts.{TextIs}
+use Rattle.fractions.specs.NewTexts.{TextIs}
 
 front : (s t : List ℕ) → length t ≤ length s → take (length t) (sets s 0 t) ≡ t
 unfolding part

@@ -12,7 +12,7 @@ use Rattle.pass_list.specs.declared.run.PassAnswer.{PassAnswer}
 use Rattle.pass_list.specs.StoredEdge.{AllSmall}
 use Rattle.pass_list.specs.Layout.{SIZE}
 use Rattle.pass_list.specs.Stored.{storedListAt}
-use Rattle.pass_list.specs.Answers.{PassedIs}
+use Rattle.pass_list.specs.Answers.{PassAnswerIs}
 
 -- what is lent from an offset on, and what is there when ys are back in its place
 module _ (a : ℕ) (w : List ℕ) where
@@ -29,7 +29,7 @@ module _ (a : ℕ) (w : List ℕ) where
       let e : postOf a (length w - a) w ≡ [] = drop-of-length-le (drop a w) {i = length w - a} (omega arith) in
       drop-at (take a w) (ys ++ postOf a (length w - a) w) a (length-take-le a w h) ∙ ap (λ (z : List ℕ). ys ++ z) e ∙ append-nil ys
 
-  pub passed-behind : (p : Pass) (ys : List ℕ) (n : ℕ) (r : PassAnswer) → a ≤ length w → PassedIs p (storedListAt (take (length w - a) (drop a w)) 0 n) ys r
-      → PassedIs p (storedListAt (drop a w) 0 n) (drop a (putMid a (length w - a) w ys)) r
+  pub passed-behind : (p : Pass) (ys : List ℕ) (n : ℕ) (r : PassAnswer) → a ≤ length w → PassAnswerIs p (storedListAt (take (length w - a) (drop a w)) 0 n) ys r
+      → PassAnswerIs p (storedListAt (drop a w) 0 n) (drop a (putMid a (length w - a) w ys)) r
   passed-behind p ys n r h q =
-      subst (λ (s : List ℕ). PassedIs p (storedListAt (drop a w) 0 n) s r) (sym (back-behind ys h)) (subst (λ (s : List ℕ). PassedIs p (storedListAt s 0 n) ys r) lent-behind q)
+      subst (λ (s : List ℕ). PassAnswerIs p (storedListAt (drop a w) 0 n) s r) (sym (back-behind ys h)) (subst (λ (s : List ℕ). PassAnswerIs p (storedListAt s 0 n) ys r) lent-behind q)

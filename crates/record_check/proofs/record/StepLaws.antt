@@ -1,4 +1,4 @@
--- Laws of `specs/Step.antt`: what a look at a record's fields tells of the record. No contract cites this file.
+-- Laws of `specs/RecordCheck.antt`: what a look at a record's fields tells of the record. No contract cites this file.
 use mathlib.Core.Path.{_≡_, sym, _∙_}
 use mathlib.Core.Bool.{Bool, true, false}
 use mathlib.Core.List.{List}
@@ -12,7 +12,7 @@ use Rattle.table.proofs.LayoutLaws.{record-is}
 use Rattle.table.proofs.CheckLaws.{item-fault, item-legal, item-illegal}
 use Rattle.table.proofs.record.WalkLaws.{fields-code}
 use Rattle.record_check.proofs.number.LookLaws.{Looked}
-use Rattle.record_check.specs.Step.{Passed}
+use Rattle.record_check.specs.RecordCheck.{Passed}
 
 module _ (s : List ℕ) (at least : ℕ) (h : at + 5 ≤ length s) (k : getD s (at + 4) 0 < 128) {c : ℕ} (e : c ≡ leAt s at 4) where
   reads : {r : Record} {next : ℕ} → readFields c (getD s (at + 4) 0) s (at + 5) ≡ Is r next → readRecord s at ≡ Is r next

@@ -15,7 +15,7 @@ use Rattle.table.specs.Index.{Whole, RecordsTail, Entry, strideOf, IndexGrowing
 use Rattle.table.specs.declared.index.Index.{Index}
 use Rattle.table.proofs.index.IndexLaws.{index-none, tail-all, tail-entry, tail-next}
 use Rattle.record_check.specs.Plain.{LegalAt}
-use Rattle.record_check.specs.Step.{Passed}
+use Rattle.record_check.specs.RecordCheck.{Passed}
 
 module _ (s : List ℕ) (at least : ℕ) where
   pub plain-passed : {c next : ℕ} → LegalAt least c (readRecord s at) next → Passed s at least c next

@@ -1,5 +1,5 @@
 -- `call::checks::check` meets its contract, by what the line's check answers. Assumes nothing.
-use Rattle.call.specs.Checks.{LentIndexed}
+use Rattle.call.specs.Checks.{CallCheckIndexed}
 use borrow.Author.Needs.{needs}
 use Rattle.call.proofs.checks.CheckLaws.{lent-ill, lent-long, lent-chars}
 use Rattle.call.proofs.checks.check.Statement.{statement}
@@ -21,11 +21,11 @@ check-rest-requires : tie.Need-check-rest-requires
 check-rest-requires c κs = search needs
 
 returns : tie.Need-returns
-unfolding LentIndexed
+unfolding CallCheckIndexed
 returns c = (lent-ill _ _ _ (c .before .before .before .check-line .ensures .is) (c .before .at .given .1), tt)
 
 returns-2 : tie.Need-returns-2
-unfolding LentIndexed
+unfolding CallCheckIndexed
 returns-2 c = (lent-long _ _ _ (c .before .before .before .check-line .ensures .is) (c .before .at2 .given .1), tt)
 
 returns-3 : tie.Need-returns-3

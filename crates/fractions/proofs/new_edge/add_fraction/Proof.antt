@@ -8,7 +8,7 @@ use Rattle.edge.specs.Edge.{Edge}
 use Rattle.lattice.specs.Lattice.{add}
 use Rattle.lattice.specs.Kept.{noEdge, Holds}
 use Rattle.fraction_choices.specs.Choice.{Two}
-use Rattle.fractions.specs.MadeParts.{HoldsCall, scriptFrom, fractionWith}
+use Rattle.fractions.specs.NewParts.{HoldsCall, scriptFrom, fractionWith}
 use Rattle.fractions.specs.NewEdge.{fractionOf}
 use Rattle.fractions.proofs.texts.TextLaws.{text-count}
 use Rattle.fractions.proofs.new_edge.FractionLaws.{fraction-is}

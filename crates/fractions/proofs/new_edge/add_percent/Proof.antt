@@ -11,7 +11,7 @@ use Rattle.lattice.specs.Lattice.{add}
 use Rattle.lattice.specs.Kept.{Holds}
 use Rattle.numbers.specs.Fractions.{percentageType}
 use Rattle.fraction_choices.specs.Choice.{Two}
-use Rattle.fractions.specs.MadeParts.{HoldsCall}
+use Rattle.fractions.specs.NewParts.{HoldsCall}
 use Rattle.fractions.specs.NewEdge.{percentOf}
 use Rattle.fractions.proofs.texts.TextLaws.{text-count}
 use Rattle.fractions.proofs.parts.WriteLaws.{regular-is}

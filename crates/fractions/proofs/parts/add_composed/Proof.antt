@@ -7,7 +7,7 @@ use Rattle.edge.specs.Write.{numeric}
 use Rattle.lattice.specs.Lattice.{add}
 use Rattle.lattice.specs.Kept.{Holds}
 use Rattle.numbers.specs.Fractions.{fractionType}
-use Rattle.fractions.specs.MadeParts.{scriptFrom, fractionWith}
+use Rattle.fractions.specs.NewParts.{scriptFrom, fractionWith}
 use Rattle.lattice.proofs.HoldsLaws.{behind-same}
 use Rattle.fractions.proofs.parts.WriteLaws.{fields-edge, fields-writable, fields-short}
 use borrow.Author.Needs.{needs}

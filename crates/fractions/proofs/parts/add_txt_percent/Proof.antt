@@ -9,7 +9,7 @@ use Rattle.edge.specs.Write.{regular}
 use Rattle.lattice.specs.Lattice.{add}
 use Rattle.lattice.specs.Kept.{Holds}
 use Rattle.numbers.specs.Fractions.{percentageType}
-use Rattle.fractions.specs.MadeParts.{HoldsCall, txtPercentOf}
+use Rattle.fractions.specs.NewParts.{HoldsCall, txtPercentOf}
 use Rattle.fractions.proofs.texts.TextLaws.{text-count}
 use Rattle.fractions.proofs.parts.WriteLaws.{regular-is}
 use Rattle.lattice.proofs.HoldsLaws.{behind-same}

@@ -9,7 +9,7 @@ use lib.ListN.{length}
 use Rattle.fields.specs.Part.{part, partOf}
 use Rattle.fields.proofs.PartLaws.{length-part, part-sets}
 use Rattle.edge.specs.Layout.{stands, numericAt}
-use Rattle.fractions.specs.MadeParts.{scriptFrom}
+use Rattle.fractions.specs.NewParts.{scriptFrom}
 use Rattle.fractions.proofs.parts.EdgeLaws.{script-inside, script-there, script-absent, not-true, not-false}
 use borrow.Author.Needs.{needs}
 use Rattle.fractions.proofs.parts.copy_script.Statement.{statement}

@@ -1,6 +1,6 @@
 -- `fractions::parts::fraction_fields` meets its contract, by whether there is a script. Assumes nothing.
 use mathlib.Core.Path.{sym}
-use Rattle.fractions.specs.MadeParts.{fractionFields}
+use Rattle.fractions.specs.NewParts.{fractionFields}
 use borrow.Author.Needs.{needs}
 use Rattle.fractions.proofs.parts.fraction_fields.Statement.{statement}
 use Rattle.fractions.proofs.parts.fraction_fields.Tie as tie

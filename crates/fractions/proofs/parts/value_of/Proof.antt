@@ -11,7 +11,7 @@ use Rattle.edge.specs.declared.NumFields.{NumFields}
 use Rattle.edge.proofs.theorems.Theorems.{f64-bits-not-nan, f64-bits-back}
 use Rattle.lattice.specs.Kept.{noEdge}
 use Rattle.fraction_choices.specs.Choice.{HasValue}
-use Rattle.fractions.specs.MadeParts.{HoldsCall}
+use Rattle.fractions.specs.NewParts.{HoldsCall}
 use Rattle.fractions.proofs.parts.EdgeLaws.{call-at, ValueRead, value-read}
 use Rattle.fractions.proofs.parts.value_of.Statement.{statement}
 use Rattle.fractions.proofs.parts.value_of.Tie as tie

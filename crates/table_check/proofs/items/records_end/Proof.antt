@@ -6,7 +6,7 @@ use lib.ListN.{length}
 use Rattle.table.specs.Check.{readRecords}
 use Rattle.table.specs.Answers.{endOf}
 use Rattle.table.proofs.CheckLaws.{records-none, records-stop}
-use Rattle.record_check.specs.Step.{StepIs}
+use Rattle.record_check.specs.RecordCheck.{RecordCheckIs}
 use Rattle.table_check.proofs.items.StepLaws.{passed-turn, Making, making-none, making-index, making-more}
 use borrow.Author.Needs.{needs}
 use Rattle.table_check.proofs.items.records_end.Statement.{statement}
@@ -49,7 +49,7 @@ loop-again c =
     let k = entered .before .before .before in
     let m = k .before .before in
     let l = m .before .before in
-    let p = subst (StepIs _ _ _) (k .code .given .1) (m .record-item .ensures) in
+    let p = subst (RecordCheckIs _ _ _) (k .code .given .1) (m .record-item .ensures) in
     let h = m .before .loop-test .taken in
     (sym (passed-turn _ _ _ _ h p) ∙ l .loop .inv .0, making-more _ _ _ (l .loop .inv .1) p h (entered .index-record .ensures .0) (entered .index-record .ensures .1), entered .index-record .kept .0 ∙ l .loop .inv .2)
 
@@ -63,7 +63,7 @@ returns : tie.Need-returns Inv-loop μ-loop
 returns c =
     let m = c .before .before .before in
     let l = m .before .before in
-    (records-stop _ _ _ _ (m .before .loop-test .taken) (subst (StepIs _ _ _) (c .before .number .given .1) (m .record-item .ensures)) ∙ l .loop .inv .0, making-index _ _ _ (l .loop .inv .1))
+    (records-stop _ _ _ _ (m .before .loop-test .taken) (subst (RecordCheckIs _ _ _) (c .before .number .given .1) (m .record-item .ensures)) ∙ l .loop .inv .0, making-index _ _ _ (l .loop .inv .1))
 
 same-length-2 : tie.Need-same-length-2 Inv-loop μ-loop
 same-length-2 c = let l = c .before in l .loop .inv .2 ∙ sym (l .before .before .before .pre)
