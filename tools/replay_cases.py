@@ -18,6 +18,9 @@ here = pathlib.Path(__file__).parent
 sys.path.insert(0, str(here / "model"))
 import model  # noqa: E402
 
+# the characters of 02's formal table (S-11) for those of the plain one
+FORMAL = dict(zip(map(ord, "一二三四五六七八九十百千万"), map(ord, "壹貳參肆伍陸柒捌玖拾佰仟萬")))
+FORMAL_LINES = "壹萬伍 壹萬零伍 佰分之伍 百分之伍 零 捌佰零參 拾拾 柒億玖兆 一万五 壹万伍 壹萬五".split() + ["玖" * 16, "玖" * 17]
 GATE = here.parent / "crates/replay"
 ORACLE = here / "oracle/target/release/oracle"
 MOST = 900
@@ -36,13 +39,49 @@ def differ(path):
     print(next((k for k, (stored, got) in enumerate(pairs) if stored != got), "none"))
 
 
+def formal(cases):
+    """These cases and FORMAL_LINES, read with the formal table: the plain one's records under their new characters, in rising order."""
+    parts = frames(cases)
+    cases = list(zip(parts, parts, parts))
+    _, records = model.read_table(cases[0][1])
+    reader = model.Reader(cases[0][1])
+    reader.number(2)
+    for _ in range(4):
+        for _ in range(reader.number(1)):
+            reader.string(1)
+    head, rest = cases[0][1][: reader.at], cases[0][1][reader.at :]
+    renamed, at = [], 0
+    for code_point in records:
+        size = record_size(rest, at)
+        renamed.append((FORMAL.get(code_point, code_point), rest[at + 4 : at + size]))
+        at += size
+    table = head + b"".join(struct.pack("<I", c) + r for c, r in sorted(renamed))
+    lines = [line.decode().translate(FORMAL).encode() for line, _, _ in cases] + [line.encode() for line in FORMAL_LINES]
+    return b"".join(struct.pack("<I", len(part)) + part for line in lines for part in (line, table, b"\0\0"))
+
+
+def record_size(data, at):
+    reader = model.Reader(data)
+    reader.at = at + 4
+    bits = reader.number(1)
+    reader.string(1)
+    if bits & 1:
+        reader.string(1)
+    reader.at += 8 * ((bits >> 1 & 1) + 2 * (bits >> 2 & 1) + (bits >> 3 & 1) + (bits >> 4 & 1))
+    if bits >> 5 & 1:
+        reader.string(1)
+    return reader.at - at
+
+
 def main():
     if sys.argv[1:2] == ["differ"]:
         return differ(sys.argv[2])
     count, seed = [int(a) for a in sys.argv[1:]] + [500, 7][len(sys.argv) - 1 :]
     stdin, stdout, last, written = bytearray(), bytearray(), None, 0
-    for family in ("limits", "plain", "numerals", "marks", "tables", "given", "faults"):
-        cases = subprocess.run([ORACLE, "gen", "--family", family, "--seed", str(seed), "--count", str(count)], check=True, capture_output=True).stdout
+    for family in ("limits", "plain", "numerals", "marks", "tables", "given", "faults", "formal"):
+        name = "numerals" if family == "formal" else family
+        cases = subprocess.run([ORACLE, "gen", "--family", name, "--seed", str(seed), "--count", str(count)], check=True, capture_output=True).stdout
+        cases = formal(cases) if family == "formal" else cases
         answers = subprocess.run([ORACLE, "answer"], input=cases, check=True, capture_output=True).stdout
         parts = frames(cases)
         for line, table, edges, answer in zip(parts, parts, parts, frames(answers)):

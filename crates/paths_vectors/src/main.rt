@@ -139,26 +139,26 @@ fn all<'a>(line: &'a [u8], listing: &'a [u8]) {
 // A path into an output just long enough, and what its listing shows.
 fn shown_along(line: &[u8], listing: &[u8]) {
     let mut out = [0u8; 32];
-    path(line, listing, 0, 3, false, &mut out);
-    shown(line, &out, 0);
-    shown(line, &out, 2);
+    path(line, listing, Place(0), Place(3), false, &mut out);
+    shown(line, &out, Place(0));
+    shown(line, &out, Place(2));
 }
 
 // Several edges of each class: the first of its class in listing order is given.
 fn several<'a>(line: &'a [u8], listing: &'a [u8]) {
-    best(line, listing, 0, 2, false);
-    best(line, listing, 0, 2, true);
-    best(line, listing, 0, 1, false);
-    best(line, listing, 1, 2, false);
-    best(line, listing, 2, 3, false);
-    best(line, listing, 2, 3, true);
-    right(line, listing, 0, false);
-    right(line, listing, 0, true);
-    left(line, listing, 2, false);
-    left(line, listing, 3, false);
-    shown(line, listing, 0);
-    shown(line, listing, 1);
-    shown(line, listing, 2);
+    best(line, listing, Place(0), Place(2), false);
+    best(line, listing, Place(0), Place(2), true);
+    best(line, listing, Place(0), Place(1), false);
+    best(line, listing, Place(1), Place(2), false);
+    best(line, listing, Place(2), Place(3), false);
+    best(line, listing, Place(2), Place(3), true);
+    right(line, listing, Place(0), false);
+    right(line, listing, Place(0), true);
+    left(line, listing, Place(2), false);
+    left(line, listing, Place(3), false);
+    shown(line, listing, Place(0));
+    shown(line, listing, Place(1));
+    shown(line, listing, Place(2));
     shown_along(line, listing);
 }
 

@@ -62,7 +62,7 @@ module _ (s : List ℕ) (at : ℕ) {e : EdgeView} (head : e ≡ viewAt s at) {nu
       unfolding edgeAt viewAt numericAt
       share-without off = let z : stands 2 (mapAt s at) ≡ false = sym (bit-2 ∙ rw head) ∙ not-true fraction off in rw (is-numeric, is-active, z)
 
-      pub share-there : {d : NumFields} → not fraction ≡ false → d ≡ fieldsAt (e .map) s (e .fields) → Share.Of (d .numerator) (d .denominator) ≡ said (share (edgeAt s at))
+      pub share-there : {d : NumFields} → not fraction ≡ false → d ≡ fieldsAt (e .map) s (e .fields .0) → Share.Of (d .numerator) (d .denominator) ≡ said (share (edgeAt s at))
       unfolding edgeAt viewAt numericAt fieldsAt
       share-there there fields =
           let z : stands 2 (mapAt s at) ≡ true = sym (bit-2 ∙ rw head) ∙ not-false fraction there in rw (fields, head, is-numeric, is-active, z)
