@@ -39,5 +39,5 @@ fn replay() {
         }
         count += 1;
     }
-    assert_eq!((count, answers), (2097, &[][..]));
+    assert_eq!((count, answers), (2186, &[][..]));
 }
