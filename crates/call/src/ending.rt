@@ -11,12 +11,12 @@ use lattice::Finished;
 use lattice::Lattice;
 
 // What the call answers for a finished lattice.
-pub fn finish_call(w: &[u8], l: Lattice, out: &mut [u8]) -> Answer
-    requires { ⌜ ((es : List Edge) × Holds (now w) l es) ⌝ }
-    ensures { λ r. ⌜ ((es : List Edge) → Holds (now (w .entry)) l es
+pub fn finish_call(work: &[u8], lattice: Lattice, out: &mut [u8]) -> Answer
+    requires { ⌜ ((es : List Edge) × Holds (now work) lattice es) ⌝ }
+    ensures { λ r. ⌜ ((es : List Edge) → Holds (now (work .entry)) lattice es
         → AnswerIs (now (out .entry)) (now (out .exit)) r (finished (length (now (out .entry))) es)) ⌝ }
 {
-    match lattice::ends::finish(w, l, out) {
+    match lattice::ends::finish(work, lattice, out) {
         Finished::Listing(len) => Answer::Listing(len),
         Finished::TooLong => Answer::Refused(Refusal::TooLong),
     }

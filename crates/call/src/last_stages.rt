@@ -17,26 +17,26 @@ use lattice::Lattice;
 use table::shape::Shape;
 use text::check::PLACES;
 
-// The stages after the passes, for a line of n characters; k stored edges are in the list after G4.
+// The stages after the passes, for a line of so many places; so many stored edges are in the list after G4.
 pub fn run_last_stages(
-    w: &mut [u8],
-    l: Lattice,
+    work: &mut [u8],
+    lattice: Lattice,
     line: &[u8],
     offs: &[usize; PLACES],
     table: &[u8],
-    h: Shape,
-    n: usize,
-    k: usize,
+    shape: Shape,
+    places: usize,
+    stored: usize,
 ) -> Lattice
-    requires { ⌜ Ready (now line) (now table) h n × ((es : List Edge) × Holds (now w) l es × CallEdges n es)
-        × Offsets (now line) (now offs) × AllGrounded (chars (now line)) (now table) (behind (now w) k)
-        × CallEdges n (listedStored (chars (now line)) (now table) (behind (now w) k))
-        × (END + k * SIZE ≤ length (now w)) ⌝ }
-    ensures { λ r. ⌜ ((es : List Edge) → Holds (now (w .entry)) l es → CallEdges n es
-        → Holds (now (w .exit)) r (restOf (tableOf (now (table .entry)) h) (chars (now (line .entry))) (map (edgeOf (chars (now (line .entry))) (now (table .entry))) (behind (now (w .entry)) k)) es)) ⌝ }
+    requires { ⌜ Ready (now line) (now table) shape places × ((es : List Edge) × Holds (now work) lattice es × CallEdges places es)
+        × Offsets (now line) (now offs) × AllGrounded (chars (now line)) (now table) (behind (now work) stored)
+        × CallEdges places (listedStored (chars (now line)) (now table) (behind (now work) stored))
+        × (END + stored * SIZE ≤ length (now work)) ⌝ }
+    ensures { λ r. ⌜ ((es : List Edge) → Holds (now (work .entry)) lattice es → CallEdges places es
+        → Holds (now (work .exit)) r (restOf (tableOf (now (table .entry)) shape) (chars (now (line .entry))) (map (edgeOf (chars (now (line .entry))) (now (table .entry))) (behind (now (work .entry)) stored)) es)) ⌝ }
 {
-    let made = fractions::fractions(w, l, line, offs, table, h, n);
-    let signed = signs::add_signs(w, made, line, offs, table, h, k);
-    let apart = separators::separate(w, signed);
-    fallback::fallback(w, apart, line, offs, n)
+    let made = fractions::fractions(work, lattice, line, offs, table, shape, places);
+    let signed = signs::add_signs(work, made, line, offs, table, shape, stored);
+    let apart = separators::separate(work, signed);
+    fallback::fallback(work, apart, line, offs, places)
 }

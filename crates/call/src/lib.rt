@@ -31,8 +31,8 @@ fn checked_call(
     line: &[u8],
     offs: &[usize; PLACES],
     table: &[u8],
-    h: Shape,
-    n: usize,
+    shape: Shape,
+    places: usize,
     edges: &[u8],
     count: usize,
     index: &[u32; INDEX_SIZE],
@@ -41,13 +41,32 @@ fn checked_call(
     out: &mut [u8],
 ) -> Answer
     requires { ⌜ Offsets (now line) (now offs) × (workSize ≤ length (now work))
-        × Accepted (now line) (now table) (now edges) n h count × RecordIndex (now table) h (now index) entries ⌝ }
-    ensures { λ r. ⌜ AnswerIs (now (out .entry)) (now (out .exit)) r (afterChecks (tableOf (now (table .entry)) h) (chars (now (line .entry))) (length (now (out .entry))) (listed (now (edges .entry)))) ⌝ }
+        × Accepted (now line) (now table) (now edges) places shape count × RecordIndex (now table) shape (now index) entries ⌝ }
+    ensures { λ r. ⌜ AnswerIs (now (out .entry)) (now (out .exit)) r (afterChecks (tableOf (now (table .entry)) shape) (chars (now (line .entry))) (length (now (out .entry))) (listed (now (edges .entry)))) ⌝ }
 {
-    match first_stages::run_first_stages(work, line, offs, table, h, edges, count, index, entries) {
+    match first_stages::run_first_stages(
+        work,
+        line,
+        offs,
+        table,
+        shape,
+        edges,
+        count,
+        index,
+        entries,
+    ) {
         PassesAnswer::Above(p) => Answer::Refused(Refusal::AboveTop(p)),
         PassesAnswer::Added(m, k) => {
-            let l = crate::last_stages::run_last_stages(work, m, line, offs, table, h, n, k);
+            let l = crate::last_stages::run_last_stages(
+                work,
+                m,
+                line,
+                offs,
+                table,
+                shape,
+                places,
+                k,
+            );
             crate::ending::finish_call(work, l, out)
         }
     }

@@ -28,23 +28,23 @@ fn fraction_at(table: &[u8], at: usize) -> Fraction
 
 // A character is added: its type is a part of the table, its txt the rom there or else the character in the line.
 pub fn add_char(
-    w: &mut [u8],
-    l: Lattice,
+    work: &mut [u8],
+    lattice: Lattice,
     line: &[u8],
     offs: &[usize; PLACES],
     table: &[u8],
-    x: PassEdge,
+    edge: PassEdge,
 ) -> Lattice
-    requires { ⌜ Addable (now w) l (now line) (now offs) (now table) x × (kindNumber (x .kind) ≡ 0) ⌝ }
-    ensures { λ r. ⌜ Added (now (line .entry)) (now (table .entry)) x (now (w .entry)) l (now (w .exit)) r ⌝ }
+    requires { ⌜ Addable (now work) lattice (now line) (now offs) (now table) edge × (kindNumber (edge .kind) ≡ 0) ⌝ }
+    ensures { λ r. ⌜ Added (now (line .entry)) (now (table .entry)) edge (now (work .entry)) lattice (now (work .exit)) r ⌝ }
 {
-    let at = x.record_at.0;
+    let at = edge.record_at.0;
     let f = fraction_at(table, at);
     let ty = pass_edge::type_at(table, at);
     if table[at + 4] / bits::ROM % 2 == 1 {
         let rom = pass_edge::rom_at(table, at);
-        return pass_edge::listed::add_texts(w, l, line, offs, table, x, f, ty, rom);
+        return pass_edge::listed::add_texts(work, lattice, line, offs, table, edge, f, ty, rom);
     }
-    let own = pass_edge::line_part(line, offs, x.start, x.end);
-    pass_edge::listed::add_texts(w, l, line, offs, table, x, f, ty, own)
+    let own = pass_edge::line_part(line, offs, edge.start, edge.end);
+    pass_edge::listed::add_texts(work, lattice, line, offs, table, edge, f, ty, own)
 }

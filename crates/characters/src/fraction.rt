@@ -7,12 +7,12 @@ use table::bits;
 use table::layout::NumProp;
 
 // The fraction of a record, in lowest terms.
-pub fn fraction_of(p: NumProp) -> Fraction
-    requires { ⌜ (p .map / 4 % 2 ≡ 1 → 0 < p .numbers .denominator) ⌝ }
-    ensures { λ r. ⌜ FractionIs r (recordFraction p) ⌝ }
+pub fn fraction_of(prop: NumProp) -> Fraction
+    requires { ⌜ (prop .map / 4 % 2 ≡ 1 → 0 < prop .numbers .denominator) ⌝ }
+    ensures { λ r. ⌜ FractionIs r (recordFraction prop) ⌝ }
 {
-    if p.map / bits::FRACTION % 2 == 1 {
-        let r = passes::ratio::lowest(p.numbers.numerator, p.numbers.denominator);
+    if prop.map / bits::FRACTION % 2 == 1 {
+        let r = passes::ratio::lowest(prop.numbers.numerator, prop.numbers.denominator);
         return Fraction {
             there: true,
             numerator: r.numerator,

@@ -28,27 +28,27 @@ fn number_if(there: bool, n: u64) -> u64
     if there { n } else { 0 }
 }
 
-fn is_cjk(table: &[u8], p: Part) -> bool
-    requires { ⌜ Within (now table) p ⌝ }
-    ensures { λ r. ⌜ r ≡ same (partOf (now (table .entry)) p) cjk ⌝ }
+fn is_cjk(table: &[u8], script: Part) -> bool
+    requires { ⌜ Within (now table) script ⌝ }
+    ensures { λ r. ⌜ r ≡ same (partOf (now (table .entry)) script) cjk ⌝ }
 {
-    let at = p.at.0;
-    let end = at + p.len;
+    let at = script.at.0;
+    let end = at + script.len;
     text::same_bytes(&table[at..end], b"CJK")
 }
 
-fn char_num(table: &[u8], p: NumProp, record_at: Offset, place: Place, c: u32) -> PassData
-    requires { ⌜ Inside (now table) p × Small (charStored (now table) p («record_at» .0) (place .0) c) ⌝ }
-    ensures { λ r. ⌜ r ≡ numData (charStored (now (table .entry)) p («record_at» .0) (place .0) c) ⌝ }
+fn char_num(table: &[u8], prop: NumProp, record_at: Offset, place: Place, code: u32) -> PassData
+    requires { ⌜ Inside (now table) prop × Small (charStored (now table) prop («record_at» .0) (place .0) code) ⌝ }
+    ensures { λ r. ⌜ r ≡ numData (charStored (now (table .entry)) prop («record_at» .0) (place .0) code) ⌝ }
 {
-    let n = p.numbers;
-    let num_type = p.num_type;
-    let script = p.script;
+    let n = prop.numbers;
+    let num_type = prop.num_type;
+    let script = prop.script;
     let script_at = script.at;
-    let has_value = p.map / bits::VALUE % 2 == 1;
-    let has_base = p.map / bits::BASE % 2 == 1;
-    let has_mult = p.map / bits::MULT % 2 == 1;
-    let has_script = p.map / bits::SCRIPT % 2 == 1;
+    let has_value = prop.map / bits::VALUE % 2 == 1;
+    let has_base = prop.map / bits::BASE % 2 == 1;
+    let has_mult = prop.map / bits::MULT % 2 == 1;
+    let has_script = prop.map / bits::SCRIPT % 2 == 1;
     let value = number_if(has_value, n.value);
     PassData {
         value: whole::exact_f64(value),
@@ -58,26 +58,32 @@ fn char_num(table: &[u8], p: NumProp, record_at: Offset, place: Place, c: u32) -
         has_base: has_base,
         has_mult: has_mult,
         has_script: has_script,
-        large_power: p.map / bits::LARGE_POWER % 2 == 1,
+        large_power: prop.map / bits::LARGE_POWER % 2 == 1,
         digit: is_digit_type(table, num_type) & has_value & (value <= 9),
-        gap: (c == 0x96F6) | (c == 0x3007),
+        gap: (code == 0x96F6) | (code == 0x3007),
         cjk: has_script & is_cjk(table, script),
         script: script_at,
         script_len: script.len,
     }
 }
 
-// The edge of the code point c at a place of the line; its record p stands at record_at in the table.
-pub fn char_edge(table: &[u8], p: NumProp, record_at: Offset, place: Place, c: u32) -> PassEdge
-    requires { ⌜ Inside (now table) p × Small (charStored (now table) p («record_at» .0) (place .0) c)
+// The edge of a code point at a place of the line; its record stands at record_at in the table.
+pub fn char_edge(
+    table: &[u8],
+    prop: NumProp,
+    record_at: Offset,
+    place: Place,
+    code: u32,
+) -> PassEdge
+    requires { ⌜ Inside (now table) prop × Small (charStored (now table) prop («record_at» .0) (place .0) code)
         × (place .0 + 1 < u16Limit) ⌝ }
-    ensures { λ r. ⌜ EdgeIs r (charStored (now (table .entry)) p («record_at» .0) (place .0) c) ⌝ }
+    ensures { λ r. ⌜ EdgeIs r (charStored (now (table .entry)) prop («record_at» .0) (place .0) code) ⌝ }
 {
     PassEdge {
         start: place,
         end: Place(place.0 + 1),
         kind: Kind::Character,
         record_at: record_at,
-        num: char_num(table, p, record_at, place, c),
+        num: char_num(table, prop, record_at, place, code),
     }
 }

@@ -18,37 +18,37 @@ use text::Place;
 use text::check::PLACES;
 
 // The edge of a character at a place, by its first byte, if it is a digit whose place has no mark.
-fn add_digit(w: &mut [u8], l: Lattice, b: u8, place: Place, marked: bool) -> Lattice
-    requires { ⌜ ((es : List Edge) × Holds (now w) l es) × (place .0 < maxChars) ⌝ }
-    ensures { λ r. ⌜ SameBehind (now (w .entry)) (now (w .exit)) × ((es : List Edge) → Holds (now (w .entry)) l es
-        → Holds (now (w .exit)) r (addAll es (digitEdge b (place .0) marked))) ⌝ }
+fn add_digit(work: &mut [u8], lattice: Lattice, byte: u8, place: Place, marked: bool) -> Lattice
+    requires { ⌜ ((es : List Edge) × Holds (now work) lattice es) × (place .0 < maxChars) ⌝ }
+    ensures { λ r. ⌜ SameBehind (now (work .entry)) (now (work .exit)) × ((es : List Edge) → Holds (now (work .entry)) lattice es
+        → Holds (now (work .exit)) r (addAll es (digitEdge byte (place .0) marked))) ⌝ }
 {
-    if marked | (b < 48) | (57 < b) {
-        return l;
+    if marked | (byte < 48) | (57 < byte) {
+        return lattice;
     }
-    let txt = [b];
-    lattice_add::regular::add_regular(w, l, place, Place(place.0 + 1), b"num", &txt)
+    let txt = [byte];
+    lattice_add::regular::add_regular(work, lattice, place, Place(place.0 + 1), b"num", &txt)
 }
 
-// The edges of all digits whose places have no mark. One walk over the n characters of the line: ASCII digits, and no others, begin with the byte of one.
+// The edges of all digits whose places have no mark. One walk over the characters of the line: ASCII digits, and no others, begin with the byte of one.
 fn add_unmarked(
-    w: &mut [u8],
-    l: Lattice,
+    work: &mut [u8],
+    lattice: Lattice,
     line: &[u8],
     offs: &[usize; PLACES],
-    n: usize,
+    places: usize,
     marks: &[bool; PLACES],
 ) -> Lattice
-    requires { ⌜ ((es : List Edge) × Holds (now w) l es) × Offsets (now line) (now offs)
-        × (length (chars (now line)) ≡ n) × (n ≤ maxChars) ⌝ }
-    ensures { λ r. ⌜ SameBehind (now (w .entry)) (now (w .exit)) × ((es : List Edge) → Holds (now (w .entry)) l es
-        → Holds (now (w .exit)) r (addAll es (unmarked (now (marks .entry)) 0 (chars (now (line .entry)))))) ⌝ }
+    requires { ⌜ ((es : List Edge) × Holds (now work) lattice es) × Offsets (now line) (now offs)
+        × (length (chars (now line)) ≡ places) × (places ≤ maxChars) ⌝ }
+    ensures { λ r. ⌜ SameBehind (now (work .entry)) (now (work .exit)) × ((es : List Edge) → Holds (now (work .entry)) lattice es
+        → Holds (now (work .exit)) r (addAll es (unmarked (now (marks .entry)) 0 (chars (now (line .entry)))))) ⌝ }
 {
-    let mut grown = l;
+    let mut grown = lattice;
     let mut place = 0;
-    while place < n {
+    while place < places {
         let at = offs[place];
-        grown = add_digit(w, grown, line[at], Place(place), marks[place]);
+        grown = add_digit(work, grown, line[at], Place(place), marks[place]);
         place += 1;
     }
     grown
@@ -68,20 +68,26 @@ pub fn any_digit(line: &[u8]) -> bool
     found
 }
 
-// The fallback's edges are added, for a line of n characters. The marks are those of the lattice before the first of them.
-pub fn fallback(w: &mut [u8], l: Lattice, line: &[u8], offs: &[usize; PLACES], n: usize) -> Lattice
-    requires { ⌜ Offsets (now line) (now offs) × (length (chars (now line)) ≡ n) × (n ≤ maxChars)
-        × ((es : List Edge) × Holds (now w) l es × Legals n es) ⌝ }
-    ensures { λ r. ⌜ SameBehind (now (w .entry)) (now (w .exit)) × ((es : List Edge) → Holds (now (w .entry)) l es
-        → Legals n es → Holds (now (w .exit)) r (addAll es (fallback es 0 (chars (now (line .entry)))))) ⌝ }
+// The fallback's edges are added, for a line of so many places. The marks are those of the lattice before the first of them.
+pub fn fallback(
+    work: &mut [u8],
+    lattice: Lattice,
+    line: &[u8],
+    offs: &[usize; PLACES],
+    places: usize,
+) -> Lattice
+    requires { ⌜ Offsets (now line) (now offs) × (length (chars (now line)) ≡ places) × (places ≤ maxChars)
+        × ((es : List Edge) × Holds (now work) lattice es × Legals places es) ⌝ }
+    ensures { λ r. ⌜ SameBehind (now (work .entry)) (now (work .exit)) × ((es : List Edge) → Holds (now (work .entry)) lattice es
+        → Legals places es → Holds (now (work .exit)) r (addAll es (fallback es 0 (chars (now (line .entry)))))) ⌝ }
 {
-    if l.len == 0 {
-        return l;
+    if lattice.len == 0 {
+        return lattice;
     }
     if !any_digit(line) {
-        return l;
+        return lattice;
     }
     let mut marks = [false; PLACES];
-    marks::mark_places(w, l, Asked::OnePlace, &mut marks);
-    add_unmarked(w, l, line, offs, n, &marks)
+    marks::mark_places(work, lattice, Asked::OnePlace, &mut marks);
+    add_unmarked(work, lattice, line, offs, places, &marks)
 }

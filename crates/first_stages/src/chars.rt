@@ -41,33 +41,33 @@ pub struct CharsAnswer {
     pub count: usize,
 }
 
-// The edge of the code point c, whose record p stands at record_at: it is stored as the n-th stored edge behind the lattice, and added to the lattice while it is at hand.
+// The edge of a code point whose record stands at record_at: it is stored behind the lattice, behind so many stored edges, and added to the lattice while it is at hand.
 fn put_and_add(
-    w: &mut [u8],
-    l: Lattice,
-    n: usize,
+    work: &mut [u8],
+    lattice: Lattice,
+    count: usize,
     line: &[u8],
     offs: &[usize; PLACES],
     table: &[u8],
-    p: NumProp,
+    prop: NumProp,
     record_at: Offset,
     place: Place,
-    c: u32,
+    code: u32,
 ) -> Lattice
-    requires { ⌜ Room (now w) l (now line) (now offs) × (n < maxChars) × (place .0 < maxChars) × Inside (now table) p
-        × Grounded (chars (now line)) (now table) (charStored (now table) p («record_at» .0) (place .0) c) ⌝ }
-    ensures { λ r. ⌜ (behind (now (w .exit)) (n + 1) ≡ behind (now (w .entry)) n ++ (charStored (now (table .entry)) p («record_at» .0) (place .0) c ∷ []))
-        × ((es : List Edge) → Holds (now (w .entry)) l es
-        → Holds (now (w .exit)) r (add es (listedEdge (edgeOf (chars (now (line .entry))) (now (table .entry)) (charStored (now (table .entry)) p («record_at» .0) (place .0) c))))) ⌝ }
+    requires { ⌜ Room (now work) lattice (now line) (now offs) × (count < maxChars) × (place .0 < maxChars) × Inside (now table) prop
+        × Grounded (chars (now line)) (now table) (charStored (now table) prop («record_at» .0) (place .0) code) ⌝ }
+    ensures { λ r. ⌜ (behind (now (work .exit)) (count + 1) ≡ behind (now (work .entry)) count ++ (charStored (now (table .entry)) prop («record_at» .0) (place .0) code ∷ []))
+        × ((es : List Edge) → Holds (now (work .entry)) lattice es
+        → Holds (now (work .exit)) r (add es (listedEdge (edgeOf (chars (now (line .entry))) (now (table .entry)) (charStored (now (table .entry)) prop («record_at» .0) (place .0) code))))) ⌝ }
 {
-    let e = char_edge(table, p, record_at, place, c);
-    write_edge(w, lattice::END + n * SIZE, e);
-    characters::add::add_char(w, l, line, offs, table, e)
+    let e = char_edge(table, prop, record_at, place, code);
+    write_edge(work, lattice::END + count * SIZE, e);
+    characters::add::add_char(work, lattice, line, offs, table, e)
 }
 
 // One character more: its edge behind those of the characters before it, if it has a record.
 fn add_char(
-    w: &mut [u8],
+    work: &mut [u8],
     done: CharsAnswer,
     line: &[u8],
     offs: &[usize; PLACES],
@@ -76,20 +76,20 @@ fn add_char(
     index: &[u32; INDEX_SIZE],
     entries: usize,
     place: Place,
-    c: u32,
+    code: u32,
 ) -> CharsAnswer
-    requires { ⌜ Room (now w) (done .lattice) (now line) (now offs) × Records (now table) all
+    requires { ⌜ Room (now work) (done .lattice) (now line) (now offs) × Records (now table) all
         × Indexed (now table) (recordsIn (now table) all) (now index) (all .left) entries × (done .count ≤ place .0)
-        × (place .0 < length (chars (now line))) × (getD (chars (now line)) (place .0) 0 ≡ c) ⌝ }
+        × (place .0 < length (chars (now line))) × (getD (chars (now line)) (place .0) 0 ≡ code) ⌝ }
     ensures { λ r. ⌜ ((s : List ℕ) (l : Lattice)
-        → Adding (now (line .entry)) (now (table .entry)) (recordsIn (now (table .entry)) all) (place .0) s l (now (w .entry)) done
-        → Adding (now (line .entry)) (now (table .entry)) (recordsIn (now (table .entry)) all) (place .0 + 1) s l (now (w .exit)) r) ⌝ }
+        → Adding (now (line .entry)) (now (table .entry)) (recordsIn (now (table .entry)) all) (place .0) s l (now (work .entry)) done
+        → Adding (now (line .entry)) (now (table .entry)) (recordsIn (now (table .entry)) all) (place .0 + 1) s l (now (work .exit)) r) ⌝ }
 {
     let l = done.lattice;
     let n = done.count;
-    match find_char(table, all, index, entries, c) {
+    match find_char(table, all, index, entries, code) {
         CharRecord::At(p, at) => CharsAnswer {
-            lattice: put_and_add(w, l, n, line, offs, table, p, Offset(at), place, c),
+            lattice: put_and_add(work, l, n, line, offs, table, p, Offset(at), place, code),
             count: n + 1,
         },
         CharRecord::Nothing => done,
@@ -98,8 +98,8 @@ fn add_char(
 
 // The characters of a well-formed line one after the other.
 fn add_chars(
-    w: &mut [u8],
-    l: Lattice,
+    work: &mut [u8],
+    lattice: Lattice,
     line: &[u8],
     offs: &[usize; PLACES],
     table: &[u8],
@@ -107,12 +107,12 @@ fn add_chars(
     index: &[u32; INDEX_SIZE],
     entries: usize,
 ) -> CharsAnswer
-    requires { ⌜ Room (now w) l (now line) (now offs) × (wellFormed (now line) ≡ true) × Records (now table) all
+    requires { ⌜ Room (now work) lattice (now line) (now offs) × (wellFormed (now line) ≡ true) × Records (now table) all
         × Indexed (now table) (recordsIn (now table) all) (now index) (all .left) entries ⌝ }
-    ensures { λ r. ⌜ Adding (now (line .entry)) (now (table .entry)) (recordsIn (now (table .entry)) all) (length (chars (now (line .entry)))) (now (w .entry)) l (now (w .exit)) r ⌝ }
+    ensures { λ r. ⌜ Adding (now (line .entry)) (now (table .entry)) (recordsIn (now (table .entry)) all) (length (chars (now (line .entry)))) (now (work .entry)) lattice (now (work .exit)) r ⌝ }
 {
     let mut done = CharsAnswer {
-        lattice: l,
+        lattice: lattice,
         count: 0,
     };
     let mut place: usize = 0;
@@ -120,7 +120,7 @@ fn add_chars(
     while at < line.len() {
         let c = text::known::char_at(line, Offset(at));
         done = add_char(
-            w,
+            work,
             done,
             line,
             offs,
@@ -139,24 +139,24 @@ fn add_chars(
 
 // The edges of the line's characters are added to the lattice, and their stored edges stand behind it. index is that over the table's records.
 pub fn initialize_num_edges(
-    w: &mut [u8],
-    l: Lattice,
+    work: &mut [u8],
+    lattice: Lattice,
     line: &[u8],
     offs: &[usize; PLACES],
     table: &[u8],
-    h: Shape,
+    shape: Shape,
     index: &[u32; INDEX_SIZE],
     entries: usize,
 ) -> CharsAnswer
-    requires { ⌜ ((es : List Edge) × Holds (now w) l es) × Offsets (now line) (now offs) × (workSize ≤ length (now w))
-        × ((n : ℕ) × Ready (now line) (now table) h n) × RecordIndex (now table) h (now index) entries ⌝ }
-    ensures { λ r. ⌜ FirstDone (now (line .entry)) (now (table .entry)) h (now (w .entry)) l (now (w .exit)) r ⌝ }
+    requires { ⌜ ((es : List Edge) × Holds (now work) lattice es) × Offsets (now line) (now offs) × (workSize ≤ length (now work))
+        × ((n : ℕ) × Ready (now line) (now table) shape n) × RecordIndex (now table) shape (now index) entries ⌝ }
+    ensures { λ r. ⌜ FirstDone (now (line .entry)) (now (table .entry)) shape (now (work .entry)) lattice (now (work .exit)) r ⌝ }
 {
     // the table begins with the count of its records
     let count = fields::u16_at(table, 0) as usize;
     let all = RecordRun {
-        at: h.records,
+        at: shape.records,
         left: count,
     };
-    add_chars(w, l, line, offs, table, all, index, entries)
+    add_chars(work, lattice, line, offs, table, all, index, entries)
 }

@@ -38,27 +38,27 @@ pub enum PassesAnswer {
 
 // A joined stored edge is added: its type is the pass, its txt its digits or its value.
 fn add_joined(
-    w: &mut [u8],
-    l: Lattice,
+    work: &mut [u8],
+    lattice: Lattice,
     line: &[u8],
     offs: &[usize; PLACES],
     table: &[u8],
-    x: PassEdge,
+    edge: PassEdge,
 ) -> Lattice
-    requires { ⌜ Addable (now w) l (now line) (now offs) (now table) x × (kindNumber (x .kind) ≡ 0 → ⊥) ⌝ }
-    ensures { λ r. ⌜ Added (now (line .entry)) (now (table .entry)) x (now (w .entry)) l (now (w .exit)) r ⌝ }
+    requires { ⌜ Addable (now work) lattice (now line) (now offs) (now table) edge × (kindNumber (edge .kind) ≡ 0 → ⊥) ⌝ }
+    ensures { λ r. ⌜ Added (now (line .entry)) (now (table .entry)) edge (now (work .entry)) lattice (now (work .exit)) r ⌝ }
 {
     let mut ty = [0u8; MAX_STRING];
     let mut txt = [0u8; MAX_CHARS];
-    let ty_len = pass_edge::edge_type::type_of(&mut ty, table, x);
-    let len = pass_edge::txt::txt_of(&mut txt, line, offs, table, x);
+    let ty_len = pass_edge::edge_type::type_of(&mut ty, table, edge);
+    let len = pass_edge::txt::txt_of(&mut txt, line, offs, table, edge);
     pass_edge::listed::add_texts(
-        w,
-        l,
+        work,
+        lattice,
         line,
         offs,
         table,
-        x,
+        edge,
         Fraction {
             there: false,
             numerator: 0,
@@ -71,53 +71,53 @@ fn add_joined(
 
 // The i-th stored edge of the list behind the lattice is added, if it is of this kind. The others are told by their kind alone: most are of another.
 fn add_if(
-    w: &mut [u8],
-    l: Lattice,
+    work: &mut [u8],
+    lattice: Lattice,
     line: &[u8],
     offs: &[usize; PLACES],
     table: &[u8],
     i: usize,
     kind: u16,
 ) -> Lattice
-    requires { ⌜ ((es : List Edge) × Holds (now w) l es) × Offsets (now line) (now offs)
+    requires { ⌜ ((es : List Edge) × Holds (now work) lattice es) × Offsets (now line) (now offs)
         × (length (chars (now line)) ≤ maxChars)
-        × Grounded (chars (now line)) (now table) (storedAt (drop END (now w)) (i * SIZE))
-        × (END + i * SIZE + SIZE ≤ length (now w)) × (kind ≡ 0 → ⊥) ⌝ }
-    ensures { λ r. ⌜ SameBehind (now (w .entry)) (now (w .exit)) × ((es : List Edge) → Holds (now (w .entry)) l es
-        → Holds (now (w .exit)) r (addIf (chars (now (line .entry))) (now (table .entry)) kind es (storedAt (drop END (now (w .entry))) (i * SIZE)))) ⌝ }
+        × Grounded (chars (now line)) (now table) (storedAt (drop END (now work)) (i * SIZE))
+        × (END + i * SIZE + SIZE ≤ length (now work)) × (kind ≡ 0 → ⊥) ⌝ }
+    ensures { λ r. ⌜ SameBehind (now (work .entry)) (now (work .exit)) × ((es : List Edge) → Holds (now (work .entry)) lattice es
+        → Holds (now (work .exit)) r (addIf (chars (now (line .entry))) (now (table .entry)) kind es (storedAt (drop END (now (work .entry))) (i * SIZE)))) ⌝ }
 {
     let at = lattice::END + i * SIZE;
-    let found = kind_number(kind_at(w, at));
+    let found = kind_number(kind_at(work, at));
     if found != kind {
-        return l;
+        return lattice;
     }
-    let x = pass_list::read::read_edge(w, at);
-    add_joined(w, l, line, offs, table, x)
+    let x = pass_list::read::read_edge(work, at);
+    add_joined(work, lattice, line, offs, table, x)
 }
 
-// The stage: of the n stored edges of the list behind the lattice, those of a kind are added in turn.
+// The stage: of the stored edges of the list behind the lattice, those of a kind are added in turn.
 fn add_of_kind(
-    w: &mut [u8],
-    l: Lattice,
+    work: &mut [u8],
+    lattice: Lattice,
     line: &[u8],
     offs: &[usize; PLACES],
     table: &[u8],
-    n: usize,
+    stored: usize,
     kind: u16,
 ) -> Lattice
-    requires { ⌜ ((es : List Edge) × Holds (now w) l es) × Offsets (now line) (now offs)
+    requires { ⌜ ((es : List Edge) × Holds (now work) lattice es) × Offsets (now line) (now offs)
         × (length (chars (now line)) ≤ maxChars)
-        × AllGrounded (chars (now line)) (now table) (storedListAt (drop END (now w)) 0 n)
-        × (END + n * SIZE ≤ length (now w)) × (kind ≡ 0 → ⊥) ⌝ }
-    ensures { λ r. ⌜ SameBehind (now (w .entry)) (now (w .exit)) × ((es : List Edge) → Holds (now (w .entry)) l es
-        → Holds (now (w .exit)) r (addAll es (map listedEdge (map (edgeOf (chars (now (line .entry))) (now (table .entry))) (ofKind kind (storedListAt (drop END (now (w .entry))) 0 n)))))) ⌝ }
+        × AllGrounded (chars (now line)) (now table) (storedListAt (drop END (now work)) 0 stored)
+        × (END + stored * SIZE ≤ length (now work)) × (kind ≡ 0 → ⊥) ⌝ }
+    ensures { λ r. ⌜ SameBehind (now (work .entry)) (now (work .exit)) × ((es : List Edge) → Holds (now (work .entry)) lattice es
+        → Holds (now (work .exit)) r (addAll es (map listedEdge (map (edgeOf (chars (now (line .entry))) (now (table .entry))) (ofKind kind (storedListAt (drop END (now (work .entry))) 0 stored)))))) ⌝ }
 {
     // two words, not a structure: one that is handed back in two pieces and copied as a whole makes the processor wait
-    let mut count = l.count;
-    let mut len = l.len;
+    let mut count = lattice.count;
+    let mut len = lattice.len;
     let mut i = 0;
-    while i < n {
-        let done = add_if(w, Lattice { count, len }, line, offs, table, i, kind);
+    while i < stored {
+        let done = add_if(work, Lattice { count, len }, line, offs, table, i, kind);
         count = done.count;
         len = done.len;
         i += 1;
@@ -127,51 +127,51 @@ fn add_of_kind(
 
 // The i-th pass, and the edges that it joins are added to the lattice.
 fn one_pass(
-    w: &mut [u8],
-    l: Lattice,
+    work: &mut [u8],
+    lattice: Lattice,
     line: &[u8],
     offs: &[usize; PLACES],
     table: &[u8],
-    n: usize,
+    stored: usize,
     i: usize,
 ) -> PassesAnswer
-    requires { ⌜ ((es : List Edge) × Holds (now w) l es) × Offsets (now line) (now offs)
-        × (length (chars (now line)) ≤ maxChars) × (workSize ≤ length (now w))
-        × PassList (chars (now line)) (now table) (suc i) (now w) n × (i < 5) ⌝ }
-    ensures { λ r. ⌜ OnePass (chars (now (line .entry))) (now (table .entry)) i (now (w .entry)) l n (now (w .exit)) r ⌝ }
+    requires { ⌜ ((es : List Edge) × Holds (now work) lattice es) × Offsets (now line) (now offs)
+        × (length (chars (now line)) ≤ maxChars) × (workSize ≤ length (now work))
+        × PassList (chars (now line)) (now table) (suc i) (now work) stored × (i < 5) ⌝ }
+    ensures { λ r. ⌜ OnePass (chars (now (line .entry))) (now (table .entry)) i (now (work .entry)) lattice stored (now (work .exit)) r ⌝ }
 {
-    match pass_run::nth::pass_behind(w, lattice::END, n, i) {
+    match pass_run::nth::pass_behind(work, lattice::END, stored, i) {
         PassAnswer::Above(p) => PassesAnswer::Above(p),
         PassAnswer::Edges(k) => {
             // as many edges as before: none is joined
-            if k == n {
-                return PassesAnswer::Added(l, k);
+            if k == stored {
+                return PassesAnswer::Added(lattice, k);
             }
-            let m = add_of_kind(w, l, line, offs, table, k, (i + 1) as u16);
+            let m = add_of_kind(work, lattice, line, offs, table, k, (i + 1) as u16);
             PassesAnswer::Added(m, k)
         }
     }
 }
 
-// The five passes in turn over the n stored edges behind the lattice.
+// The five passes in turn over the stored edges behind the lattice.
 pub fn five_passes(
-    w: &mut [u8],
-    l: Lattice,
+    work: &mut [u8],
+    lattice: Lattice,
     line: &[u8],
     offs: &[usize; PLACES],
     table: &[u8],
-    n: usize,
+    stored: usize,
 ) -> PassesAnswer
-    requires { ⌜ ((es : List Edge) × Holds (now w) l es) × Offsets (now line) (now offs)
-        × (length (chars (now line)) ≤ maxChars) × (workSize ≤ length (now w))
-        × PassList (chars (now line)) (now table) 1 (now w) n ⌝ }
-    ensures { λ r. ⌜ FivePasses (chars (now (line .entry))) (now (table .entry)) (now (w .entry)) l n (now (w .exit)) r ⌝ }
+    requires { ⌜ ((es : List Edge) × Holds (now work) lattice es) × Offsets (now line) (now offs)
+        × (length (chars (now line)) ≤ maxChars) × (workSize ≤ length (now work))
+        × PassList (chars (now line)) (now table) 1 (now work) stored ⌝ }
+    ensures { λ r. ⌜ FivePasses (chars (now (line .entry))) (now (table .entry)) (now (work .entry)) lattice stored (now (work .exit)) r ⌝ }
 {
-    let mut grown = l;
-    let mut count = n;
+    let mut grown = lattice;
+    let mut count = stored;
     let mut i = 0;
     while i < 5 {
-        match one_pass(w, grown, line, offs, table, count, i) {
+        match one_pass(work, grown, line, offs, table, count, i) {
             PassesAnswer::Above(p) => {
                 return PassesAnswer::Above(p);
             }

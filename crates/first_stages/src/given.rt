@@ -12,17 +12,17 @@ ghost use Rattle.lattice.specs.Kept.{Holds, SameBehind};
 use lattice::Lattice;
 
 // The edges of an accepted listing are added, one after the other from its front.
-pub fn add_all_given(w: &mut [u8], l: Lattice, given: &[u8], count: usize) -> Lattice
-    requires { ⌜ ((es : List Edge) × Holds (now w) l es) × ((n : ℕ) × (checkListing true n (now given) ≡ Edges count)) ⌝ }
-    ensures { λ r. ⌜ SameBehind (now (w .entry)) (now (w .exit)) × ((es : List Edge) → Holds (now (w .entry)) l es
-        → Holds (now (w .exit)) r (addAll es (listed (now (given .entry))))) ⌝ }
+pub fn add_all_given(work: &mut [u8], lattice: Lattice, given: &[u8], count: usize) -> Lattice
+    requires { ⌜ ((es : List Edge) × Holds (now work) lattice es) × ((n : ℕ) × (checkListing true n (now given) ≡ Edges count)) ⌝ }
+    ensures { λ r. ⌜ SameBehind (now (work .entry)) (now (work .exit)) × ((es : List Edge) → Holds (now (work .entry)) lattice es
+        → Holds (now (work .exit)) r (addAll es (listed (now (given .entry))))) ⌝ }
 {
-    let mut grown = l;
+    let mut grown = lattice;
     let mut at = 2;
     let mut left = count;
     while 0 < left {
         let next = edge::next::next_at(given, at);
-        grown = lattice_add::given::add_given(w, grown, given, at, next);
+        grown = lattice_add::given::add_given(work, grown, given, at, next);
         at = next;
         left -= 1;
     }

@@ -19,24 +19,33 @@ use text::check::PLACES;
 
 // The given edges, those of the characters, and those that the five passes join.
 pub fn run_first_stages(
-    w: &mut [u8],
+    work: &mut [u8],
     line: &[u8],
     offs: &[usize; PLACES],
     table: &[u8],
-    h: Shape,
+    shape: Shape,
     edges: &[u8],
     count: usize,
     index: &[u32; INDEX_SIZE],
     entries: usize,
 ) -> PassesAnswer
-    requires { ⌜ Offsets (now line) (now offs) × (workSize ≤ length (now w))
-        × ((n : ℕ) × Ready (now line) (now table) h n × (checkListing true n (now edges) ≡ Edges count))
-        × RecordIndex (now table) h (now index) entries ⌝ }
-    ensures { λ r. ⌜ CallPassed (now (line .entry)) (now (table .entry)) h (now (edges .entry)) (now (w .exit)) r ⌝ }
+    requires { ⌜ Offsets (now line) (now offs) × (workSize ≤ length (now work))
+        × ((n : ℕ) × Ready (now line) (now table) shape n × (checkListing true n (now edges) ≡ Edges count))
+        × RecordIndex (now table) shape (now index) entries ⌝ }
+    ensures { λ r. ⌜ CallPassed (now (line .entry)) (now (table .entry)) shape (now (edges .entry)) (now (work .exit)) r ⌝ }
 {
-    let none = lattice::ends::empty(w);
-    let given = crate::given::add_all_given(w, none, edges, count);
-    let first = crate::chars::initialize_num_edges(w, given, line, offs, table, h, index, entries);
+    let none = lattice::ends::empty(work);
+    let given = crate::given::add_all_given(work, none, edges, count);
+    let first = crate::chars::initialize_num_edges(
+        work,
+        given,
+        line,
+        offs,
+        table,
+        shape,
+        index,
+        entries,
+    );
     let l = first.lattice;
-    crate::five_passes::five_passes(w, l, line, offs, table, first.count)
+    crate::five_passes::five_passes(work, l, line, offs, table, first.count)
 }

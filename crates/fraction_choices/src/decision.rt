@@ -35,10 +35,10 @@ pub struct Choice {
 }
 
 // The number by which an array keeps a form: a reference to an array of enums is not covered by the toolchain.
-pub fn code_of(f: Form) -> usize
-    ensures { λ r. ⌜ r ≡ codeOf f ⌝ }
+pub fn code_of(form: Form) -> usize
+    ensures { λ r. ⌜ r ≡ codeOf form ⌝ }
 {
-    match f {
+    match form {
         Form::Nothing => 0,
         Form::Percent => 1,
         Form::Fraction => 2,
@@ -73,43 +73,43 @@ pub enum WholeValue {
 }
 
 // The value of the edge at an offset.
-fn whole_value_at(w: &[u8], at: usize) -> WholeValue
-    requires { ⌜ (nextAt (now w) at ≤ length (now w)) × WholeValued (edgeAt (now w) at) ⌝ }
-    ensures { λ r. ⌜ optionOf r ≡ wholeValue (edgeAt (now (w .entry)) at) ⌝ }
+fn whole_value_at(work: &[u8], at: usize) -> WholeValue
+    requires { ⌜ (nextAt (now work) at ≤ length (now work)) × WholeValued (edgeAt (now work) at) ⌝ }
+    ensures { λ r. ⌜ optionOf r ≡ wholeValue (edgeAt (now (work .entry)) at) ⌝ }
 {
-    let e = edge::head::edge_at(w, at);
+    let e = edge::head::edge_at(work, at);
     if !edge::bit(e.map, bits::NUMERIC) {
         return WholeValue::Nothing;
     }
     if !edge::bit(e.map, bits::VALUE) {
         return WholeValue::Nothing;
     }
-    let d = edge::numeric::fields_at(e.map, w, e.fields.0);
+    let d = edge::numeric::fields_at(e.map, work, e.fields.0);
     WholeValue::Whole(whole::whole_part(f64::from_bits(d.value)))
 }
 
 // The value of the i-th edge.
-fn whole_value(w: &[u8], l: Lattice, i: usize) -> WholeValue
-    requires { ⌜ ((es : List Edge) × HoldsLine (now w) l es) × (i < l .count) ⌝ }
-    ensures { λ r. ⌜ ((es : List Edge) → HoldsLine (now (w .entry)) l es → optionOf r ≡ wholeValue (getD es i noEdge)) ⌝ }
+fn whole_value(work: &[u8], lattice: Lattice, i: usize) -> WholeValue
+    requires { ⌜ ((es : List Edge) × HoldsLine (now work) lattice es) × (i < lattice .count) ⌝ }
+    ensures { λ r. ⌜ ((es : List Edge) → HoldsLine (now (work .entry)) lattice es → optionOf r ≡ wholeValue (getD es i noEdge)) ⌝ }
 {
-    let at = lattice::offset_at(w, l, i);
-    whole_value_at(w, at)
+    let at = lattice::offset_at(work, lattice, i);
+    whole_value_at(work, at)
 }
 
 // Whether the i-th edge is numeric.
-fn is_numeric(w: &[u8], l: Lattice, i: usize) -> bool
-    requires { ⌜ ((es : List Edge) × HoldsLine (now w) l es) × (i < l .count) ⌝ }
-    ensures { λ r. ⌜ ((es : List Edge) → HoldsLine (now (w .entry)) l es → r ≡ isNumeric (getD es i noEdge)) ⌝ }
+fn is_numeric(work: &[u8], lattice: Lattice, i: usize) -> bool
+    requires { ⌜ ((es : List Edge) × HoldsLine (now work) lattice es) × (i < lattice .count) ⌝ }
+    ensures { λ r. ⌜ ((es : List Edge) → HoldsLine (now (work .entry)) lattice es → r ≡ isNumeric (getD es i noEdge)) ⌝ }
 {
-    let at = lattice::offset_at(w, l, i);
-    edge::bit(fields::u16_at(w, at), bits::NUMERIC)
+    let at = lattice::offset_at(work, lattice, i);
+    edge::bit(fields::u16_at(work, at), bits::NUMERIC)
 }
 
 // "Otherwise a percentage marker with a numeric right neighbour": right is one more than its index, 0 for none.
-fn otherwise(w: &[u8], l: Lattice, percent: bool, right: usize) -> Choice
-    requires { ⌜ ((es : List Edge) × HoldsLine (now w) l es) × (right ≤ l .count) ⌝ }
-    ensures { λ r. ⌜ ((es : List Edge) → HoldsLine (now (w .entry)) l es → r ≡ otherwiseOf percent es right) ⌝ }
+fn otherwise(work: &[u8], lattice: Lattice, percent: bool, right: usize) -> Choice
+    requires { ⌜ ((es : List Edge) × HoldsLine (now work) lattice es) × (right ≤ lattice .count) ⌝ }
+    ensures { λ r. ⌜ ((es : List Edge) → HoldsLine (now (work .entry)) lattice es → r ≡ otherwiseOf percent es right) ⌝ }
 {
     if !percent {
         return Choice {
@@ -126,7 +126,7 @@ fn otherwise(w: &[u8], l: Lattice, percent: bool, right: usize) -> Choice
         };
     }
     let index = right - 1;
-    if !is_numeric(w, l, index) {
+    if !is_numeric(work, lattice, index) {
         return Choice {
             form: Form::Nothing,
             left: 0,
@@ -185,9 +185,16 @@ fn with_values(
 }
 
 // The choice between two neighbours, each one more than its index, 0 for none.
-fn between(w: &[u8], l: Lattice, percent: bool, other: Choice, left: usize, right: usize) -> Choice
-    requires { ⌜ ((es : List Edge) × HoldsLine (now w) l es) × (left ≤ l .count) × (right ≤ l .count) ⌝ }
-    ensures { λ r. ⌜ ((es : List Edge) → HoldsLine (now (w .entry)) l es → r ≡ betweenOf percent other es left right) ⌝ }
+fn between(
+    work: &[u8],
+    lattice: Lattice,
+    percent: bool,
+    other: Choice,
+    left: usize,
+    right: usize,
+) -> Choice
+    requires { ⌜ ((es : List Edge) × HoldsLine (now work) lattice es) × (left ≤ lattice .count) × (right ≤ lattice .count) ⌝ }
+    ensures { λ r. ⌜ ((es : List Edge) → HoldsLine (now (work .entry)) lattice es → r ≡ betweenOf percent other es left right) ⌝ }
 {
     if left == 0 {
         return other;
@@ -197,51 +204,51 @@ fn between(w: &[u8], l: Lattice, percent: bool, other: Choice, left: usize, righ
     }
     let i = left - 1;
     let j = right - 1;
-    let u = whole_value(w, l, i);
-    let v = whole_value(w, l, j);
+    let u = whole_value(work, lattice, i);
+    let v = whole_value(work, lattice, j);
     with_values(percent, other, i, u, j, v)
 }
 
-// What a marker of n characters at a place leads to: percent, or a connector.
+// What a marker of so many characters at a place leads to: percent, or a connector.
 fn marked(
-    w: &[u8],
-    l: Lattice,
+    work: &[u8],
+    lattice: Lattice,
     lefts: &[usize; PLACES],
     rights: &[usize; PLACES],
     percent: bool,
     place: Place,
-    n: usize,
+    size: usize,
 ) -> Choice
-    requires { ⌜ ((es : List Edge) × HoldsNeighbors (now w) l (now lefts) (now rights) es) × (place .0 + n ≤ maxChars) ⌝ }
+    requires { ⌜ ((es : List Edge) × HoldsNeighbors (now work) lattice (now lefts) (now rights) es) × (place .0 + size ≤ maxChars) ⌝ }
     ensures { λ r. ⌜ ((es : List Edge)
-        → HoldsNeighbors (now (w .entry)) l (now (lefts .entry)) (now (rights .entry)) es
-        → (outcomeOf es (place .0) r ≡ marked percent es (place .0) n) × Valid es r) ⌝ }
+        → HoldsNeighbors (now (work .entry)) lattice (now (lefts .entry)) (now (rights .entry)) es
+        → (outcomeOf es (place .0) r ≡ marked percent es (place .0) size) × Valid es r) ⌝ }
 {
     let p = place.0;
     let left = lefts[p];
-    let right = rights[p + n];
-    let other = otherwise(w, l, percent, right);
-    between(w, l, percent, other, left, right)
+    let right = rights[p + size];
+    let other = otherwise(work, lattice, percent, right);
+    between(work, lattice, percent, other, left, right)
 }
 
 // What the marker at a place leads to, by the neighbours that the two tables of `fraction_choices::neighbors` keep.
 pub fn outcome_at(
-    w: &[u8],
-    l: Lattice,
+    work: &[u8],
+    lattice: Lattice,
     lefts: &[usize; PLACES],
     rights: &[usize; PLACES],
     marker: Marker,
-    p: Place,
+    place: Place,
 ) -> Choice
-    requires { ⌜ ((es : List Edge) × HoldsNeighbors (now w) l (now lefts) (now rights) es)
-        × (p .0 + sizeOf (markerOf marker) ≤ maxChars) ⌝ }
+    requires { ⌜ ((es : List Edge) × HoldsNeighbors (now work) lattice (now lefts) (now rights) es)
+        × (place .0 + sizeOf (markerOf marker) ≤ maxChars) ⌝ }
     ensures { λ r. ⌜ ((es : List Edge)
-        → HoldsNeighbors (now (w .entry)) l (now (lefts .entry)) (now (rights .entry)) es
-        → (outcomeOf es (p .0) r ≡ byMarker es (p .0) (markerOf marker)) × Valid es r) ⌝ }
+        → HoldsNeighbors (now (work .entry)) lattice (now (lefts .entry)) (now (rights .entry)) es
+        → (outcomeOf es (place .0) r ≡ byMarker es (place .0) (markerOf marker)) × Valid es r) ⌝ }
 {
     match marker {
-        Marker::Percentage(n) => marked(w, l, lefts, rights, true, p, n),
-        Marker::Connector(n) => marked(w, l, lefts, rights, false, p, n),
+        Marker::Percentage(n) => marked(work, lattice, lefts, rights, true, place, n),
+        Marker::Connector(n) => marked(work, lattice, lefts, rights, false, place, n),
         Marker::NoMarker => Choice {
             form: Form::Nothing,
             left: 0,

@@ -24,52 +24,62 @@ use text::check::PLACES;
 
 // What the marker at a place leads to. before and behind keep the left and the right neighbours of all places.
 fn choice_at(
-    w: &[u8],
-    l: Lattice,
+    work: &[u8],
+    lattice: Lattice,
     line: &[u8],
     offs: &[usize; PLACES],
     table: &[u8],
-    h: Shape,
+    shape: Shape,
     before: &[usize; PLACES],
     behind: &[usize; PLACES],
-    p: Place,
+    place: Place,
 ) -> Choice
-    requires { ⌜ ((n : ℕ) × Ready (now line) (now table) h n) × Offsets (now line) (now offs)
-        × ((es : List Edge) × HoldsNeighbors (now w) l (now before) (now behind) es)
-        × (p .0 < length (chars (now line))) ⌝ }
+    requires { ⌜ ((n : ℕ) × Ready (now line) (now table) shape n) × Offsets (now line) (now offs)
+        × ((es : List Edge) × HoldsNeighbors (now work) lattice (now before) (now behind) es)
+        × (place .0 < length (chars (now line))) ⌝ }
     ensures { λ r. ⌜ ((es : List Edge)
-        → HoldsNeighbors (now (w .entry)) l (now (before .entry)) (now (behind .entry)) es
-        → (outcomeOf es (p .0) r ≡ outcomeAt (tableOf (now (table .entry)) h) (chars (now (line .entry))) es (p .0)) × Valid es r) ⌝ }
+        → HoldsNeighbors (now (work .entry)) lattice (now (before .entry)) (now (behind .entry)) es
+        → (outcomeOf es (place .0) r ≡ outcomeAt (tableOf (now (table .entry)) shape) (chars (now (line .entry))) es (place .0)) × Valid es r) ⌝ }
 {
-    let marker = markers::find::marker_at(line, offs, table, h, p);
-    crate::decision::outcome_at(w, l, before, behind, marker, p)
+    let marker = markers::find::marker_at(line, offs, table, shape, place);
+    crate::decision::outcome_at(work, lattice, before, behind, marker, place)
 }
 
-// The same of all n places.
+// The same of all places.
 fn choose_all(
-    w: &[u8],
-    l: Lattice,
+    work: &[u8],
+    lattice: Lattice,
     line: &[u8],
     offs: &[usize; PLACES],
     table: &[u8],
-    h: Shape,
-    n: usize,
+    shape: Shape,
+    places: usize,
     before: &[usize; PLACES],
     behind: &[usize; PLACES],
     forms: &mut [usize; MAX_CHARS],
     lefts: &mut [usize; MAX_CHARS],
     rights: &mut [usize; MAX_CHARS],
 )
-    requires { ⌜ Ready (now line) (now table) h n × Offsets (now line) (now offs)
-        × ((es : List Edge) × HoldsNeighbors (now w) l (now before) (now behind) es) × (length (now forms) ≡ maxChars)
+    requires { ⌜ Ready (now line) (now table) shape places × Offsets (now line) (now offs)
+        × ((es : List Edge) × HoldsNeighbors (now work) lattice (now before) (now behind) es) × (length (now forms) ≡ maxChars)
         × (length (now lefts) ≡ maxChars) × (length (now rights) ≡ maxChars) ⌝ }
     ensures { λ _. ⌜ ((es : List Edge)
-        → HoldsNeighbors (now (w .entry)) l (now (before .entry)) (now (behind .entry)) es
-        → Decided (tableOf (now (table .entry)) h) (chars (now (line .entry))) es (now (forms .exit)) (now (lefts .exit)) (now (rights .exit)) n) ⌝ }
+        → HoldsNeighbors (now (work .entry)) lattice (now (before .entry)) (now (behind .entry)) es
+        → Decided (tableOf (now (table .entry)) shape) (chars (now (line .entry))) es (now (forms .exit)) (now (lefts .exit)) (now (rights .exit)) places) ⌝ }
 {
     let mut p = 0;
-    while p < n {
-        let c = choice_at(w, l, line, offs, table, h, before, behind, Place(p));
+    while p < places {
+        let c = choice_at(
+            work,
+            lattice,
+            line,
+            offs,
+            table,
+            shape,
+            before,
+            behind,
+            Place(p),
+        );
         let form = c.form;
         forms[p] = crate::decision::code_of(form);
         lefts[p] = c.left;
@@ -78,37 +88,37 @@ fn choose_all(
     }
 }
 
-// The choices of all n places, from the neighbours in the lattice.
+// The choices of all places, from the neighbours in the lattice.
 pub fn choose(
-    w: &[u8],
-    l: Lattice,
+    work: &[u8],
+    lattice: Lattice,
     line: &[u8],
     offs: &[usize; PLACES],
     table: &[u8],
-    h: Shape,
-    n: usize,
+    shape: Shape,
+    places: usize,
     forms: &mut [usize; MAX_CHARS],
     lefts: &mut [usize; MAX_CHARS],
     rights: &mut [usize; MAX_CHARS],
 )
-    requires { ⌜ Ready (now line) (now table) h n × Offsets (now line) (now offs)
-        × ((es : List Edge) × HoldsLine (now w) l es) × (length (now forms) ≡ maxChars)
+    requires { ⌜ Ready (now line) (now table) shape places × Offsets (now line) (now offs)
+        × ((es : List Edge) × HoldsLine (now work) lattice es) × (length (now forms) ≡ maxChars)
         × (length (now lefts) ≡ maxChars) × (length (now rights) ≡ maxChars) ⌝ }
-    ensures { λ _. ⌜ ((es : List Edge) → HoldsLine (now (w .entry)) l es
-        → Decided (tableOf (now (table .entry)) h) (chars (now (line .entry))) es (now (forms .exit)) (now (lefts .exit)) (now (rights .exit)) n) ⌝ }
+    ensures { λ _. ⌜ ((es : List Edge) → HoldsLine (now (work .entry)) lattice es
+        → Decided (tableOf (now (table .entry)) shape) (chars (now (line .entry))) es (now (forms .exit)) (now (lefts .exit)) (now (rights .exit)) places) ⌝ }
 {
     let mut before = [0usize; PLACES];
     let mut behind = [0usize; PLACES];
-    crate::neighbors::neighbors(w, l, false, &mut before);
-    crate::neighbors::neighbors(w, l, true, &mut behind);
+    crate::neighbors::neighbors(work, lattice, false, &mut before);
+    crate::neighbors::neighbors(work, lattice, true, &mut behind);
     choose_all(
-        w,
-        l,
+        work,
+        lattice,
         line,
         offs,
         table,
-        h,
-        n,
+        shape,
+        places,
         &before,
         &behind,
         forms,

@@ -24,45 +24,45 @@ fn side(right: bool, place: Place) -> Query
 }
 
 // The place whose right or left neighbour the edge at an offset may be.
-fn place_at(w: &[u8], at: usize, right: bool) -> Place
-    requires { ⌜ at + 10 ≤ length (now w) ⌝ }
-    ensures { λ r. ⌜ r .0 ≡ placeOf right (edgeAt (now (w .entry)) at) ⌝ }
+fn place_at(work: &[u8], at: usize, right: bool) -> Place
+    requires { ⌜ at + 10 ≤ length (now work) ⌝ }
+    ensures { λ r. ⌜ r .0 ≡ placeOf right (edgeAt (now (work .entry)) at) ⌝ }
 {
     if right {
-        Place(fields::u16_at(w, at + 2) as usize)
+        Place(fields::u16_at(work, at + 2) as usize)
     } else {
-        Place(fields::u16_at(w, at + 4) as usize)
+        Place(fields::u16_at(work, at + 4) as usize)
     }
 }
 
 // The right or the left neighbours of all places, and their scores. One walk over the lattice.
 fn scored_neighbors(
-    w: &[u8],
-    l: Lattice,
+    work: &[u8],
+    lattice: Lattice,
     right: bool,
     tops: &mut [usize; PLACES],
     table: &mut [usize; PLACES],
 )
-    requires { ⌜ ((es : List Edge) × HoldsLine (now w) l es) × (now tops ≡ replicate PLACES 0)
+    requires { ⌜ ((es : List Edge) × HoldsLine (now work) lattice es) × (now tops ≡ replicate PLACES 0)
         × (now table ≡ replicate PLACES 0) ⌝ }
-    ensures { λ _. ⌜ ((es : List Edge) → HoldsLine (now (w .entry)) l es → Neighbors right es (now (table .exit))) ⌝ }
+    ensures { λ _. ⌜ ((es : List Edge) → HoldsLine (now (work .entry)) lattice es → Neighbors right es (now (table .exit))) ⌝ }
 {
     let mut at = 2;
     let mut i = 0;
-    while i < l.count {
-        let place = place_at(w, at, right);
-        let score = paths::score::score_at(w, at, side(right, place), false);
+    while i < lattice.count {
+        let place = place_at(work, at, right);
+        let score = paths::score::score_at(work, at, side(right, place), false);
         paths::best::keep(tops, table, place, score, i + 1);
-        at = edge::next::next_at(w, at);
+        at = edge::next::next_at(work, at);
         i += 1;
     }
 }
 
 // The right or the left neighbours of all places: one more than their indices, 0 for none.
-pub fn neighbors(w: &[u8], l: Lattice, right: bool, table: &mut [usize; PLACES])
-    requires { ⌜ ((es : List Edge) × HoldsLine (now w) l es) × (now table ≡ replicate PLACES 0) ⌝ }
-    ensures { λ _. ⌜ ((es : List Edge) → HoldsLine (now (w .entry)) l es → Neighbors right es (now (table .exit))) ⌝ }
+pub fn neighbors(work: &[u8], lattice: Lattice, right: bool, table: &mut [usize; PLACES])
+    requires { ⌜ ((es : List Edge) × HoldsLine (now work) lattice es) × (now table ≡ replicate PLACES 0) ⌝ }
+    ensures { λ _. ⌜ ((es : List Edge) → HoldsLine (now (work .entry)) lattice es → Neighbors right es (now (table .exit))) ⌝ }
 {
     let mut tops = [0usize; PLACES];
-    scored_neighbors(w, l, right, &mut tops, table);
+    scored_neighbors(work, lattice, right, &mut tops, table);
 }

@@ -15,50 +15,50 @@ use lattice::Lattice;
 use text::check::MAX_CHARS;
 
 // Two edges turn inactive.
-fn turn_off_both(w: &mut [u8], l: Lattice, left: usize, right: usize)
-    requires { ⌜ ((es : List Edge) × Holds (now w) l es) × (l .len ≡ 0 → ⊥) × (left < l .count) × (right < l .count) ⌝ }
-    ensures { λ _. ⌜ SameBehind (now (w .entry)) (now (w .exit)) × ((es : List Edge) → Holds (now (w .entry)) l es → Holds (now (w .exit)) l (turnOffAt (turnOffAt es left) right)) ⌝ }
+fn turn_off_both(work: &mut [u8], lattice: Lattice, left: usize, right: usize)
+    requires { ⌜ ((es : List Edge) × Holds (now work) lattice es) × (lattice .len ≡ 0 → ⊥) × (left < lattice .count) × (right < lattice .count) ⌝ }
+    ensures { λ _. ⌜ SameBehind (now (work .entry)) (now (work .exit)) × ((es : List Edge) → Holds (now (work .entry)) lattice es → Holds (now (work .exit)) lattice (turnOffAt (turnOffAt es left) right)) ⌝ }
 {
-    lattice::turn_off(w, l, left);
-    lattice::turn_off(w, l, right);
+    lattice::turn_off(work, lattice, left);
+    lattice::turn_off(work, lattice, right);
 }
 
 // The edges that a choice uses turn inactive.
-fn turn_off_used(w: &mut [u8], l: Lattice, c: Choice)
-    requires { ⌜ ((es : List Edge) × Holds (now w) l es × Valid es c) × (l .len ≡ 0 → ⊥) ⌝ }
-    ensures { λ _. ⌜ SameBehind (now (w .entry)) (now (w .exit))
-        × ((es : List Edge) → Holds (now (w .entry)) l es → Holds (now (w .exit)) l (turnOff es (usedBy c))) ⌝ }
+fn turn_off_used(work: &mut [u8], lattice: Lattice, choice: Choice)
+    requires { ⌜ ((es : List Edge) × Holds (now work) lattice es × Valid es choice) × (lattice .len ≡ 0 → ⊥) ⌝ }
+    ensures { λ _. ⌜ SameBehind (now (work .entry)) (now (work .exit))
+        × ((es : List Edge) → Holds (now (work .entry)) lattice es → Holds (now (work .exit)) lattice (turnOff es (usedBy choice))) ⌝ }
 {
-    let left = c.left;
-    let right = c.right;
-    let form = c.form;
+    let left = choice.left;
+    let right = choice.right;
+    let form = choice.form;
     match form {
         Form::Nothing => {}
-        Form::Percent => turn_off_both(w, l, left, right),
-        Form::Fraction => turn_off_both(w, l, left, right),
-        Form::TxtPercent => lattice::turn_off(w, l, right),
+        Form::Percent => turn_off_both(work, lattice, left, right),
+        Form::Fraction => turn_off_both(work, lattice, left, right),
+        Form::TxtPercent => lattice::turn_off(work, lattice, right),
     }
 }
 
-// The edges that the choices of n places use turn inactive.
+// The edges that the choices of all places use turn inactive.
 pub fn turn_off_all(
-    w: &mut [u8],
-    l: Lattice,
+    work: &mut [u8],
+    lattice: Lattice,
     forms: &[usize; MAX_CHARS],
     lefts: &[usize; MAX_CHARS],
     rights: &[usize; MAX_CHARS],
-    n: usize,
+    places: usize,
 )
-    requires { ⌜ ((es : List Edge) × Holds (now w) l es × AllValid es (now forms) (now lefts) (now rights) n)
-        × (l .len ≡ 0 → ⊥) × (n ≤ maxChars) ⌝ }
-    ensures { λ _. ⌜ SameBehind (now (w .entry)) (now (w .exit)) × ((es : List Edge) → Holds (now (w .entry)) l es
-        → AllValid es (now (forms .entry)) (now (lefts .entry)) (now (rights .entry)) n
-        → Holds (now (w .exit)) l (turnOff es (usedEdges (outcomesOf es (now (forms .entry)) (now (lefts .entry)) (now (rights .entry)) 0 n)))) ⌝ }
+    requires { ⌜ ((es : List Edge) × Holds (now work) lattice es × AllValid es (now forms) (now lefts) (now rights) places)
+        × (lattice .len ≡ 0 → ⊥) × (places ≤ maxChars) ⌝ }
+    ensures { λ _. ⌜ SameBehind (now (work .entry)) (now (work .exit)) × ((es : List Edge) → Holds (now (work .entry)) lattice es
+        → AllValid es (now (forms .entry)) (now (lefts .entry)) (now (rights .entry)) places
+        → Holds (now (work .exit)) lattice (turnOff es (usedEdges (outcomesOf es (now (forms .entry)) (now (lefts .entry)) (now (rights .entry)) 0 places)))) ⌝ }
 {
     let mut p = 0;
-    while p < n {
+    while p < places {
         let c = fraction_choices::decision::choice_of(forms[p], lefts[p], rights[p]);
-        turn_off_used(w, l, c);
+        turn_off_used(work, lattice, c);
         p += 1;
     }
 }

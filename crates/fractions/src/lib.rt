@@ -24,25 +24,25 @@ use text::Place;
 use text::check::MAX_CHARS;
 use text::check::PLACES;
 
-// The edges that the choices of n places make are added.
+// The edges that the choices of all places make are added.
 fn add_all(
-    w: &mut [u8],
-    l: Lattice,
+    work: &mut [u8],
+    lattice: Lattice,
     forms: &[usize; MAX_CHARS],
     lefts: &[usize; MAX_CHARS],
     rights: &[usize; MAX_CHARS],
-    n: usize,
+    places: usize,
 ) -> Lattice
-    requires { ⌜ ((es : List Edge) × Planned n (now w) l es (now forms) (now lefts) (now rights)) × (n ≤ maxChars) ⌝ }
-    ensures { λ r. ⌜ SameBehind (now (w .entry)) (now (w .exit)) × ((es : List Edge)
-        → Planned n (now (w .entry)) l es (now (forms .entry)) (now (lefts .entry)) (now (rights .entry))
-        → Holds (now (w .exit)) r (addAll es (newEdges (outcomesOf es (now (forms .entry)) (now (lefts .entry)) (now (rights .entry)) 0 n)))) ⌝ }
+    requires { ⌜ ((es : List Edge) × Planned places (now work) lattice es (now forms) (now lefts) (now rights)) × (places ≤ maxChars) ⌝ }
+    ensures { λ r. ⌜ SameBehind (now (work .entry)) (now (work .exit)) × ((es : List Edge)
+        → Planned places (now (work .entry)) lattice es (now (forms .entry)) (now (lefts .entry)) (now (rights .entry))
+        → Holds (now (work .exit)) r (addAll es (newEdges (outcomesOf es (now (forms .entry)) (now (lefts .entry)) (now (rights .entry)) 0 places)))) ⌝ }
 {
-    let mut grown = l;
+    let mut grown = lattice;
     let mut p = 0;
-    while p < n {
+    while p < places {
         let c = fraction_choices::decision::choice_of(forms[p], lefts[p], rights[p]);
-        grown = crate::new_edge::add_choice(w, grown, Place(p), c);
+        grown = crate::new_edge::add_choice(work, grown, Place(p), c);
         p += 1;
     }
     grown
@@ -50,41 +50,41 @@ fn add_all(
 
 // The stage of fractions and percentages. A lattice that is full stays as it is, and so does one of a line without markers.
 pub fn fractions(
-    w: &mut [u8],
-    l: Lattice,
+    work: &mut [u8],
+    lattice: Lattice,
     line: &[u8],
     offs: &[usize; PLACES],
     table: &[u8],
-    h: Shape,
-    n: usize,
+    shape: Shape,
+    places: usize,
 ) -> Lattice
-    requires { ⌜ Ready (now line) (now table) h n × ((es : List Edge) × Holds (now w) l es × CallEdges n es)
+    requires { ⌜ Ready (now line) (now table) shape places × ((es : List Edge) × Holds (now work) lattice es × CallEdges places es)
         × Offsets (now line) (now offs) ⌝ }
-    ensures { λ r. ⌜ SameBehind (now (w .entry)) (now (w .exit)) × ((es : List Edge) → Holds (now (w .entry)) l es
-        → CallEdges n es
-        → Holds (now (w .exit)) r (fractions (tableOf (now (table .entry)) h) (chars (now (line .entry))) es)) ⌝ }
+    ensures { λ r. ⌜ SameBehind (now (work .entry)) (now (work .exit)) × ((es : List Edge) → Holds (now (work .entry)) lattice es
+        → CallEdges places es
+        → Holds (now (work .exit)) r (fractions (tableOf (now (table .entry)) shape) (chars (now (line .entry))) es)) ⌝ }
 {
-    if l.len == 0 {
-        return l;
+    if lattice.len == 0 {
+        return lattice;
     }
-    if !markers::any::any_marker(line, offs, table, h, n) {
-        return l;
+    if !markers::any::any_marker(line, offs, table, shape, places) {
+        return lattice;
     }
     let mut forms = [0usize; MAX_CHARS];
     let mut lefts = [0usize; MAX_CHARS];
     let mut rights = [0usize; MAX_CHARS];
     fraction_choices::choose(
-        w,
-        l,
+        work,
+        lattice,
         line,
         offs,
         table,
-        h,
-        n,
+        shape,
+        places,
         &mut forms,
         &mut lefts,
         &mut rights,
     );
-    crate::deactivate::turn_off_all(w, l, &forms, &lefts, &rights, n);
-    add_all(w, l, &forms, &lefts, &rights, n)
+    crate::deactivate::turn_off_all(work, lattice, &forms, &lefts, &rights, places);
+    add_all(work, lattice, &forms, &lefts, &rights, places)
 }

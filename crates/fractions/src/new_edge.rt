@@ -17,56 +17,56 @@ use lattice::Lattice;
 use text::Place;
 
 // "right%" over all three.
-fn add_percent(w: &mut [u8], l: Lattice, left: usize, right: usize) -> Lattice
-    requires { ⌜ ((n : ℕ) × ((es : List Edge) × HoldsCall n (now w) l es × Two es left right)) × (l .len ≡ 0 → ⊥) ⌝ }
-    ensures { λ r. ⌜ SameBehind (now (w .entry)) (now (w .exit)) × ((n : ℕ) (es : List Edge)
-        → HoldsCall n (now (w .entry)) l es → Two es left right
-        → Holds (now (w .exit)) r (add es (percentOf es left right))) ⌝ }
+fn add_percent(work: &mut [u8], lattice: Lattice, left: usize, right: usize) -> Lattice
+    requires { ⌜ ((n : ℕ) × ((es : List Edge) × HoldsCall n (now work) lattice es × Two es left right)) × (lattice .len ≡ 0 → ⊥) ⌝ }
+    ensures { λ r. ⌜ SameBehind (now (work .entry)) (now (work .exit)) × ((n : ℕ) (es : List Edge)
+        → HoldsCall n (now (work .entry)) lattice es → Two es left right
+        → Holds (now (work .exit)) r (add es (percentOf es left right))) ⌝ }
 {
-    let a = crate::parts::head_of(w, l, left);
-    let b = crate::parts::head_of(w, l, right);
-    let v = crate::parts::value_of(w, l, right);
+    let a = crate::parts::head_of(work, lattice, left);
+    let b = crate::parts::head_of(work, lattice, right);
+    let v = crate::parts::value_of(work, lattice, right);
     let mut buf = [0u8; TEXT_ROOM];
     let n = crate::texts::put_percent(&mut buf, v);
-    lattice_add::regular::add_regular(w, l, a.start, b.end, b"percentage", &buf[..n])
+    lattice_add::regular::add_regular(work, lattice, a.start, b.end, b"percentage", &buf[..n])
 }
 
 // "right/left" over all three.
-fn add_fraction(w: &mut [u8], l: Lattice, left: usize, right: usize) -> Lattice
-    requires { ⌜ ((n : ℕ) × ((es : List Edge) × HoldsCall n (now w) l es × Two es left right × (0 < valueOr (getD es left noEdge))))
-        × (l .len ≡ 0 → ⊥) ⌝ }
-    ensures { λ r. ⌜ SameBehind (now (w .entry)) (now (w .exit)) × ((n : ℕ) (es : List Edge)
-        → HoldsCall n (now (w .entry)) l es → Two es left right
-        → Holds (now (w .exit)) r (add es (fractionOf es left right))) ⌝ }
+fn add_fraction(work: &mut [u8], lattice: Lattice, left: usize, right: usize) -> Lattice
+    requires { ⌜ ((n : ℕ) × ((es : List Edge) × HoldsCall n (now work) lattice es × Two es left right × (0 < valueOr (getD es left noEdge))))
+        × (lattice .len ≡ 0 → ⊥) ⌝ }
+    ensures { λ r. ⌜ SameBehind (now (work .entry)) (now (work .exit)) × ((n : ℕ) (es : List Edge)
+        → HoldsCall n (now (work .entry)) lattice es → Two es left right
+        → Holds (now (work .exit)) r (add es (fractionOf es left right))) ⌝ }
 {
-    let a = crate::parts::head_of(w, l, left);
-    let b = crate::parts::head_of(w, l, right);
-    let lv = crate::parts::value_of(w, l, left);
-    let rv = crate::parts::value_of(w, l, right);
+    let a = crate::parts::head_of(work, lattice, left);
+    let b = crate::parts::head_of(work, lattice, right);
+    let lv = crate::parts::value_of(work, lattice, left);
+    let rv = crate::parts::value_of(work, lattice, right);
     let mut buf = [0u8; TEXT_ROOM];
     let mut script = [0u8; TEXT_ROOM];
     let n = crate::texts::put_fraction(&mut buf, rv, lv);
-    let s = crate::parts::copy_script(&mut script, w, b.map, b.fields.0);
+    let s = crate::parts::copy_script(&mut script, work, b.map, b.fields.0);
     let q = passes::ratio::lowest(rv, lv);
-    crate::parts::add_composed(w, l, a.start, b.end, &buf[..n], q, s, &script)
+    crate::parts::add_composed(work, lattice, a.start, b.end, &buf[..n], q, s, &script)
 }
 
 // The edge that the choice at a place makes is added; a lattice that is full stays as it is.
-pub fn add_choice(w: &mut [u8], l: Lattice, p: Place, c: Choice) -> Lattice
-    requires { ⌜ ((n : ℕ) × ((es : List Edge) × HoldsChoice n (now w) l es c)) × (p .0 < u16Limit) ⌝ }
-    ensures { λ r. ⌜ SameBehind (now (w .entry)) (now (w .exit)) × ((n : ℕ) (es : List Edge)
-        → HoldsChoice n (now (w .entry)) l es c → Holds (now (w .exit)) r (addOutcome es (outcomeOf es (p .0) c))) ⌝ }
+pub fn add_choice(work: &mut [u8], lattice: Lattice, place: Place, choice: Choice) -> Lattice
+    requires { ⌜ ((n : ℕ) × ((es : List Edge) × HoldsChoice n (now work) lattice es choice)) × (place .0 < u16Limit) ⌝ }
+    ensures { λ r. ⌜ SameBehind (now (work .entry)) (now (work .exit)) × ((n : ℕ) (es : List Edge)
+        → HoldsChoice n (now (work .entry)) lattice es choice → Holds (now (work .exit)) r (addOutcome es (outcomeOf es (place .0) choice))) ⌝ }
 {
-    if l.len == 0 {
-        return l;
+    if lattice.len == 0 {
+        return lattice;
     }
-    let left = c.left;
-    let right = c.right;
-    let form = c.form;
+    let left = choice.left;
+    let right = choice.right;
+    let form = choice.form;
     match form {
-        Form::Nothing => l,
-        Form::Percent => add_percent(w, l, left, right),
-        Form::Fraction => add_fraction(w, l, left, right),
-        Form::TxtPercent => crate::parts::add_txt_percent(w, l, p, right),
+        Form::Nothing => lattice,
+        Form::Percent => add_percent(work, lattice, left, right),
+        Form::Fraction => add_fraction(work, lattice, left, right),
+        Form::TxtPercent => crate::parts::add_txt_percent(work, lattice, place, right),
     }
 }

@@ -34,26 +34,26 @@ pub enum Script {
 // ---- fields
 
 // The script of a numeric edge with this map, whose fields stand at an offset.
-pub fn copy_script(buf: &mut [u8; TEXT_ROOM], w: &[u8], map: u16, at: usize) -> Script
-    requires { ⌜ (fieldsEnd map (now w) at ≤ length (now w))
-        × ((t : Text) → numericAt map (now w) at .script ≡ some t → length t ≤ maxString) ⌝ }
-    ensures { λ r. ⌜ (scriptFrom (now (buf .exit)) r ≡ numericAt map (now (w .entry)) at .script)
+pub fn copy_script(buf: &mut [u8; TEXT_ROOM], work: &[u8], map: u16, at: usize) -> Script
+    requires { ⌜ (fieldsEnd map (now work) at ≤ length (now work))
+        × ((t : Text) → numericAt map (now work) at .script ≡ some t → length t ≤ maxString) ⌝ }
+    ensures { λ r. ⌜ (scriptFrom (now (buf .exit)) r ≡ numericAt map (now (work .entry)) at .script)
         × (scriptLen r ≤ maxString) ⌝ }
 {
-    let d = edge::numeric::fields_at(map, w, at);
+    let d = edge::numeric::fields_at(map, work, at);
     if !edge::bit(map, bits::SCRIPT) {
         return Script::Absent;
     }
     let from = d.script.at.0;
     let n = d.script.len;
     let to = from + n;
-    fields::copy::copy_in(buf, 0, &w[from..to]);
+    fields::copy::copy_in(buf, 0, &work[from..to]);
     Script::Bytes(n)
 }
 
 // The fields of a fraction.
-fn fraction_fields(n: usize, q: Ratio, s: Script) -> NumFields
-    ensures { λ r. ⌜ r ≡ fractionFields n (q .numerator) (q .denominator) s ⌝ }
+fn fraction_fields(size: usize, ratio: Ratio, copied: Script) -> NumFields
+    ensures { λ r. ⌜ r ≡ fractionFields size (ratio .numerator) (ratio .denominator) copied ⌝ }
 {
     let none = Part {
         at: Offset(0),
@@ -61,14 +61,14 @@ fn fraction_fields(n: usize, q: Ratio, s: Script) -> NumFields
     };
     let orig = Part {
         at: Offset(0),
-        len: n,
+        len: size,
     };
-    match s {
+    match copied {
         Script::Absent => NumFields {
             map: 133,
             value: 0,
-            numerator: q.numerator,
-            denominator: q.denominator,
+            numerator: ratio.numerator,
+            denominator: ratio.denominator,
             base: 0,
             base_multiplier: 0,
             orig,
@@ -78,8 +78,8 @@ fn fraction_fields(n: usize, q: Ratio, s: Script) -> NumFields
         Script::Bytes(k) => NumFields {
             map: 165,
             value: 0,
-            numerator: q.numerator,
-            denominator: q.denominator,
+            numerator: ratio.numerator,
+            denominator: ratio.denominator,
             base: 0,
             base_multiplier: 0,
             orig,
@@ -95,58 +95,69 @@ fn fraction_fields(n: usize, q: Ratio, s: Script) -> NumFields
 // ---- reading
 
 // The head of the i-th edge.
-pub fn head_of(w: &[u8], l: Lattice, i: usize) -> EdgeView
-    requires { ⌜ ((n : ℕ) × ((es : List Edge) × HoldsCall n (now w) l es)) × (l .len ≡ 0 → ⊥) × (i < l .count) ⌝ }
-    ensures { λ r. ⌜ ((n : ℕ) (es : List Edge) → HoldsCall n (now (w .entry)) l es → HeadIs (now (w .entry)) (getD es i noEdge) r) ⌝ }
+pub fn head_of(work: &[u8], lattice: Lattice, i: usize) -> EdgeView
+    requires { ⌜ ((n : ℕ) × ((es : List Edge) × HoldsCall n (now work) lattice es)) × (lattice .len ≡ 0 → ⊥) × (i < lattice .count) ⌝ }
+    ensures { λ r. ⌜ ((n : ℕ) (es : List Edge) → HoldsCall n (now (work .entry)) lattice es → HeadIs (now (work .entry)) (getD es i noEdge) r) ⌝ }
 {
-    let at = lattice::offset_at(w, l, i);
-    edge::head::edge_at(w, at)
+    let at = lattice::offset_at(work, lattice, i);
+    edge::head::edge_at(work, at)
 }
 
 // The value of the i-th edge, which has one.
-pub fn value_of(w: &[u8], l: Lattice, i: usize) -> u64
-    requires { ⌜ ((n : ℕ) × ((es : List Edge) × HoldsCall n (now w) l es × HasValue (getD es i noEdge)))
-        × (l .len ≡ 0 → ⊥) × (i < l .count) ⌝ }
-    ensures { λ r. ⌜ ((n : ℕ) (es : List Edge) → HoldsCall n (now (w .entry)) l es → HasValue (getD es i noEdge)
+pub fn value_of(work: &[u8], lattice: Lattice, i: usize) -> u64
+    requires { ⌜ ((n : ℕ) × ((es : List Edge) × HoldsCall n (now work) lattice es × HasValue (getD es i noEdge)))
+        × (lattice .len ≡ 0 → ⊥) × (i < lattice .count) ⌝ }
+    ensures { λ r. ⌜ ((n : ℕ) (es : List Edge) → HoldsCall n (now (work .entry)) lattice es → HasValue (getD es i noEdge)
         → r ≡ valueOr (getD es i noEdge)) ⌝ }
 {
-    let e = head_of(w, l, i);
-    let d = edge::numeric::fields_at(e.map, w, e.fields.0);
+    let e = head_of(work, lattice, i);
+    let d = edge::numeric::fields_at(e.map, work, e.fields.0);
     whole::whole_part(f64::from_bits(d.value))
 }
 
 // ---- adding
 
 // The right edge's txt and "%", from a place on.
-pub fn add_txt_percent(w: &mut [u8], l: Lattice, p: Place, right: usize) -> Lattice
-    requires { ⌜ ((n : ℕ) × ((es : List Edge) × HoldsCall n (now w) l es × One es right)) × (l .len ≡ 0 → ⊥)
-        × (p .0 < u16Limit) ⌝ }
-    ensures { λ r. ⌜ SameBehind (now (w .entry)) (now (w .exit)) × ((n : ℕ) (es : List Edge)
-        → HoldsCall n (now (w .entry)) l es → One es right
-        → Holds (now (w .exit)) r (add es (txtPercentOf es (p .0) right))) ⌝ }
+pub fn add_txt_percent(work: &mut [u8], lattice: Lattice, place: Place, right: usize) -> Lattice
+    requires { ⌜ ((n : ℕ) × ((es : List Edge) × HoldsCall n (now work) lattice es × One es right)) × (lattice .len ≡ 0 → ⊥)
+        × (place .0 < u16Limit) ⌝ }
+    ensures { λ r. ⌜ SameBehind (now (work .entry)) (now (work .exit)) × ((n : ℕ) (es : List Edge)
+        → HoldsCall n (now (work .entry)) lattice es → One es right
+        → Holds (now (work .exit)) r (add es (txtPercentOf es (place .0) right))) ⌝ }
 {
-    let b = head_of(w, l, right);
+    let b = head_of(work, lattice, right);
     let mut buf = [0u8; TEXT_ROOM];
-    let n = crate::texts::put_txt_percent(&mut buf, w, b.txt);
-    lattice_add::regular::add_regular(w, l, p, b.end, b"percentage", &buf[..n])
+    let n = crate::texts::put_txt_percent(&mut buf, work, b.txt);
+    lattice_add::regular::add_regular(work, lattice, place, b.end, b"percentage", &buf[..n])
 }
 
 // The fraction with this text, its script at the front of a buffer.
 pub fn add_composed(
-    w: &mut [u8],
-    l: Lattice,
+    work: &mut [u8],
+    lattice: Lattice,
     start: Place,
     end: Place,
     txt: &[u8],
-    q: Ratio,
-    s: Script,
+    ratio: Ratio,
+    copied: Script,
     script: &[u8; TEXT_ROOM],
 ) -> Lattice
-    requires { ⌜ ((es : List Edge) × Holds (now w) l es) × (start .0 < u16Limit) × (end .0 < u16Limit)
-        × (length (now txt) ≤ textRoom) × (scriptLen s ≤ maxString) ⌝ }
-    ensures { λ r. ⌜ SameBehind (now (w .entry)) (now (w .exit)) × ((es : List Edge) → Holds (now (w .entry)) l es
-        → Holds (now (w .exit)) r (add es (fractionWith (start .0) (end .0) (now (txt .entry)) (q .numerator, q .denominator) (scriptFrom (now (script .entry)) s)))) ⌝ }
+    requires { ⌜ ((es : List Edge) × Holds (now work) lattice es) × (start .0 < u16Limit) × (end .0 < u16Limit)
+        × (length (now txt) ≤ textRoom) × (scriptLen copied ≤ maxString) ⌝ }
+    ensures { λ r. ⌜ SameBehind (now (work .entry)) (now (work .exit)) × ((es : List Edge) → Holds (now (work .entry)) lattice es
+        → Holds (now (work .exit)) r (add es (fractionWith (start .0) (end .0) (now (txt .entry)) (ratio .numerator, ratio .denominator) (scriptFrom (now (script .entry)) copied)))) ⌝ }
 {
-    let d = fraction_fields(txt.len(), q, s);
-    lattice_add::numeric::add_numeric(w, l, start, end, b"fraction", txt, d, txt, script, b"")
+    let d = fraction_fields(txt.len(), ratio, copied);
+    lattice_add::numeric::add_numeric(
+        work,
+        lattice,
+        start,
+        end,
+        b"fraction",
+        txt,
+        d,
+        txt,
+        script,
+        b"",
+    )
 }

@@ -13,10 +13,10 @@ use fields::Part;
 pub const TEXT_ROOM: usize = 300;
 
 // A number and "%".
-pub fn put_percent(buf: &mut [u8; TEXT_ROOM], v: u64) -> usize
-    ensures { λ r. ⌜ TextIs (now (buf .exit)) r (decimal v ++ (37 ∷ [])) ⌝ }
+pub fn put_percent(buf: &mut [u8; TEXT_ROOM], value: u64) -> usize
+    ensures { λ r. ⌜ TextIs (now (buf .exit)) r (decimal value ++ (37 ∷ [])) ⌝ }
 {
-    let end = whole::decimal::put_decimal(buf, 0, v);
+    let end = whole::decimal::put_decimal(buf, 0, value);
     buf[end] = 37;
     end + 1
 }
@@ -31,14 +31,14 @@ pub fn put_fraction(buf: &mut [u8; TEXT_ROOM], right: u64, left: u64) -> usize
 }
 
 // A text of the lattice and "%".
-pub fn put_txt_percent(buf: &mut [u8; TEXT_ROOM], w: &[u8], t: Part) -> usize
-    requires { ⌜ (t .at .0 + t .len ≤ length (now w)) × (t .len ≤ maxChars) ⌝ }
-    ensures { λ r. ⌜ TextIs (now (buf .exit)) r (partOf (now (w .entry)) t ++ (37 ∷ [])) ⌝ }
+pub fn put_txt_percent(buf: &mut [u8; TEXT_ROOM], work: &[u8], txt: Part) -> usize
+    requires { ⌜ (txt .at .0 + txt .len ≤ length (now work)) × (txt .len ≤ maxChars) ⌝ }
+    ensures { λ r. ⌜ TextIs (now (buf .exit)) r (partOf (now (work .entry)) txt ++ (37 ∷ [])) ⌝ }
 {
-    let from = t.at.0;
-    let n = t.len;
+    let from = txt.at.0;
+    let n = txt.len;
     let to = from + n;
-    fields::copy::copy_in(buf, 0, &w[from..to]);
+    fields::copy::copy_in(buf, 0, &work[from..to]);
     buf[n] = 37;
     n + 1
 }

@@ -11,32 +11,32 @@ use crate::HEADS;
 use crate::Lattice;
 
 // A lattice without edges.
-pub fn empty(w: &mut [u8]) -> Lattice
-    requires { ⌜ END ≤ length (now w) ⌝ }
-    ensures { λ r. ⌜ SameBehind (now (w .entry)) (now (w .exit)) × Holds (now (w .exit)) r [] ⌝ }
+pub fn empty(work: &mut [u8]) -> Lattice
+    requires { ⌜ END ≤ length (now work) ⌝ }
+    ensures { λ r. ⌜ SameBehind (now (work .entry)) (now (work .exit)) × Holds (now (work .exit)) r [] ⌝ }
 {
-    fields::write::put_u16(w, 0, 0);
+    fields::write::put_u16(work, 0, 0);
     let mut b = 0;
     while b < BUCKETS {
-        fields::write::put_u16(w, HEADS + 2 * b, 0);
+        fields::write::put_u16(work, HEADS + 2 * b, 0);
         b += 1;
     }
     Lattice { count: 0, len: 2 }
 }
 
 // The listing goes to the output, or is refused: the output is then as it was.
-pub fn finish(w: &[u8], l: Lattice, out: &mut [u8]) -> Finished
-    requires { ⌜ ((es : List Edge) × Holds (now w) l es) ⌝ }
-    ensures answer { λ r. ⌜ ((es : List Edge) → Holds (now (w .entry)) l es → r ≡ finished (length (now (out .entry))) es) ⌝ }
-    ensures output { λ _. ⌜ ((es : List Edge) → Holds (now (w .entry)) l es → now (out .exit) ≡ finishedOut (now (out .entry)) es) ⌝ }
+pub fn finish(work: &[u8], lattice: Lattice, out: &mut [u8]) -> Finished
+    requires { ⌜ ((es : List Edge) × Holds (now work) lattice es) ⌝ }
+    ensures answer { λ r. ⌜ ((es : List Edge) → Holds (now (work .entry)) lattice es → r ≡ finished (length (now (out .entry))) es) ⌝ }
+    ensures output { λ _. ⌜ ((es : List Edge) → Holds (now (work .entry)) lattice es → now (out .exit) ≡ finishedOut (now (out .entry)) es) ⌝ }
 {
-    let len = l.len;
-    if l.len == 0 {
+    let len = lattice.len;
+    if lattice.len == 0 {
         return Finished::TooLong;
     }
     if out.len() < len {
         return Finished::TooLong;
     }
-    fields::copy::copy_in(out, 0, &w[..len]);
+    fields::copy::copy_in(out, 0, &work[..len]);
     Finished::Listing(len)
 }

@@ -25,64 +25,71 @@ fn mix(h: u64, v: u32) -> u64
     (h + v as u64) * 1640531527 % 4294967296
 }
 
-// The bucket of a key of n bytes, by its length, its first four bytes and its last four.
-fn bucket_of(s: &[u8], at: usize, n: usize) -> usize
-    requires { ⌜ (at + n ≤ length (now s)) × (4 ≤ n) ⌝ }
-    ensures { λ r. ⌜ r ≡ hash (part (now (s .entry)) at n) ⌝ }
+// The bucket of a key, by its length, its first four bytes and its last four.
+fn bucket_of(source: &[u8], at: usize, size: usize) -> usize
+    requires { ⌜ (at + size ≤ length (now source)) × (4 ≤ size) ⌝ }
+    ensures { λ r. ⌜ r ≡ hash (part (now (source .entry)) at size) ⌝ }
 {
-    let spans = mix(n as u64 % 4294967296, fields::u32_at(s, at));
-    (mix(spans, fields::u32_at(s, at + (n - 4))) / 16777216) as usize
+    let spans = mix(size as u64 % 4294967296, fields::u32_at(source, at));
+    (mix(spans, fields::u32_at(source, at + (size - 4))) / 16777216) as usize
 }
 
-// Whether n bytes of w are those of s.
-fn same_parts(w: &[u8], a: usize, s: &[u8], b: usize, n: usize) -> bool
-    requires { ⌜ (a ≤ length (now w)) × (b + n ≤ length (now s)) ⌝ }
-    ensures { λ r. ⌜ r ≡ same (part (now (w .entry)) a n) (part (now (s .entry)) b n) ⌝ }
+// Whether so many bytes of the work space are those of the source.
+fn same_parts(work: &[u8], a: usize, source: &[u8], b: usize, size: usize) -> bool
+    requires { ⌜ (a ≤ length (now work)) × (b + size ≤ length (now source)) ⌝ }
+    ensures { λ r. ⌜ r ≡ same (part (now (work .entry)) a size) (part (now (source .entry)) b size) ⌝ }
 {
-    if w.len() - a < n {
+    if work.len() - a < size {
         return false;
     }
-    let a_end = a + n;
-    let b_end = b + n;
-    text::same_bytes(&w[a..a_end], &s[b..b_end])
+    let a_end = a + size;
+    let b_end = b + size;
+    text::same_bytes(&work[a..a_end], &source[b..b_end])
 }
 
 // Whether an edge of the lattice has this key: those of its bucket are looked at.
-fn has_key(w: &[u8], s: &[u8], at: usize, n: usize, bucket: usize) -> bool
-    requires { ⌜ Search (now w) (now s) at n bucket ⌝ }
-    ensures { λ r. ⌜ ((q : Search (now (w .entry)) (now (s .entry)) at n bucket) → r ≡ has (q .es) (q .e)) ⌝ }
+fn has_key(work: &[u8], source: &[u8], at: usize, size: usize, bucket: usize) -> bool
+    requires { ⌜ Search (now work) (now source) at size bucket ⌝ }
+    ensures { λ r. ⌜ ((q : Search (now (work .entry)) (now (source .entry)) at size bucket) → r ≡ has (q .es) (q .e)) ⌝ }
 {
-    let mut edge = fields::u16_at(w, HEADS + 2 * bucket) as usize;
+    let mut edge = fields::u16_at(work, HEADS + 2 * bucket) as usize;
     while 0 < edge {
         let i = edge - 1;
-        let off = fields::u16_at(w, OFFSETS + 2 * i) as usize;
-        if same_parts(w, off + 2, s, at, n) {
+        let off = fields::u16_at(work, OFFSETS + 2 * i) as usize;
+        if same_parts(work, off + 2, source, at, size) {
             return true;
         }
-        edge = fields::u16_at(w, NEXTS + 2 * i) as usize;
+        edge = fields::u16_at(work, NEXTS + 2 * i) as usize;
     }
     false
 }
 
-// What is to be done with the edge of s that stands from at to the offset to and has a key of n bytes. It is looked for before the room is
+// What is to be done with the edge of the source that stands from at to the offset to and has a key of so many bytes. It is looked for before the room is
 // tested: one that is there already is no overflow.
-pub fn plan_add(w: &[u8], l: Lattice, s: &[u8], at: usize, n: usize, to: usize) -> Adding
-    requires { ⌜ ((es : List Edge) × Holds (now w) l es) × ((e : Edge) × Stands (now s) at n to e) ⌝ }
-    ensures { λ r. ⌜ ((es : List Edge) (e : Edge) → Holds (now (w .entry)) l es → Stands (now (s .entry)) at n to e
-        → AddingIs l es e r) ⌝ }
+pub fn plan_add(
+    work: &[u8],
+    lattice: Lattice,
+    source: &[u8],
+    at: usize,
+    size: usize,
+    to: usize,
+) -> Adding
+    requires { ⌜ ((es : List Edge) × Holds (now work) lattice es) × ((e : Edge) × Stands (now source) at size to e) ⌝ }
+    ensures { λ r. ⌜ ((es : List Edge) (e : Edge) → Holds (now (work .entry)) lattice es → Stands (now (source .entry)) at size to e
+        → AddingIs lattice es e r) ⌝ }
 {
-    if l.len == 0 {
+    if lattice.len == 0 {
         return Adding::Nothing;
     }
     let key = at + 2;
-    let bucket = bucket_of(s, key, n);
-    if has_key(w, s, key, n, bucket) {
+    let bucket = bucket_of(source, key, size);
+    if has_key(work, source, key, size, bucket) {
         return Adding::Nothing;
     }
-    if MOST_EDGES <= l.count {
+    if MOST_EDGES <= lattice.count {
         return Adding::TooMuch;
     }
-    if MOST_BYTES - l.len < to - at {
+    if MOST_BYTES - lattice.len < to - at {
         return Adding::TooMuch;
     }
     Adding::Into(bucket)

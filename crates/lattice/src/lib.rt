@@ -50,11 +50,11 @@ pub enum Adding {
 }
 
 // Where the i-th edge stands in the listing.
-pub fn offset_at(w: &[u8], l: Lattice, i: usize) -> usize
-    requires { ⌜ ((es : List Edge) × Holds (now w) l es) × (l .len ≡ 0 → ⊥) × (i < l .count) ⌝ }
-    ensures { λ r. ⌜ ((es : List Edge) → Holds (now (w .entry)) l es → r ≡ offset es i) ⌝ }
+pub fn offset_at(work: &[u8], lattice: Lattice, i: usize) -> usize
+    requires { ⌜ ((es : List Edge) × Holds (now work) lattice es) × (lattice .len ≡ 0 → ⊥) × (i < lattice .count) ⌝ }
+    ensures { λ r. ⌜ ((es : List Edge) → Holds (now (work .entry)) lattice es → r ≡ offset es i) ⌝ }
 {
-    fields::u16_at(w, OFFSETS + 2 * i) as usize
+    fields::u16_at(work, OFFSETS + 2 * i) as usize
 }
 
 // A map without the bit of active edges.
@@ -69,12 +69,12 @@ fn inactive_map(map: u16) -> u16
 }
 
 // The i-th edge turns inactive.
-pub fn turn_off(w: &mut [u8], l: Lattice, i: usize)
-    requires { ⌜ ((es : List Edge) × Holds (now w) l es) × (l .len ≡ 0 → ⊥) × (i < l .count) ⌝ }
-    ensures { λ _. ⌜ SameBehind (now (w .entry)) (now (w .exit))
-        × ((es : List Edge) → Holds (now (w .entry)) l es → Holds (now (w .exit)) l (turnOffAt es i)) ⌝ }
+pub fn turn_off(work: &mut [u8], lattice: Lattice, i: usize)
+    requires { ⌜ ((es : List Edge) × Holds (now work) lattice es) × (lattice .len ≡ 0 → ⊥) × (i < lattice .count) ⌝ }
+    ensures { λ _. ⌜ SameBehind (now (work .entry)) (now (work .exit))
+        × ((es : List Edge) → Holds (now (work .entry)) lattice es → Holds (now (work .exit)) lattice (turnOffAt es i)) ⌝ }
 {
-    let at = offset_at(w, l, i);
-    let map = inactive_map(fields::u16_at(w, at));
-    fields::write::put_u16(w, at, map);
+    let at = offset_at(work, lattice, i);
+    let map = inactive_map(fields::u16_at(work, at));
+    fields::write::put_u16(work, at, map);
 }

@@ -10,22 +10,22 @@ use crate::HEADS;
 use crate::NEXTS;
 use crate::OFFSETS;
 
-// The i-th cell from base on is v.
-fn put_cell(w: &mut [u8], base: usize, i: usize, v: usize)
-    requires { ⌜ (base + 2 * i + 2 ≤ length (now w)) × (v < u16Limit) ⌝ }
-    ensures { λ _. ⌜ now (w .exit) ≡ sets (now (w .entry)) (base + 2 * i) (bytesOf 2 v) ⌝ }
+// The i-th cell from base on gets a value.
+fn put_cell(work: &mut [u8], base: usize, i: usize, value: usize)
+    requires { ⌜ (base + 2 * i + 2 ≤ length (now work)) × (value < u16Limit) ⌝ }
+    ensures { λ _. ⌜ now (work .exit) ≡ sets (now (work .entry)) (base + 2 * i) (bytesOf 2 value) ⌝ }
 {
-    fields::write::put_u16(w, base + 2 * i, v as u16);
+    fields::write::put_u16(work, base + 2 * i, value as u16);
 }
 
-// The cells and the count with one edge more, the n-th, at offset len.
-pub fn link(w: &mut [u8], n: usize, len: usize, bucket: usize)
-    requires { ⌜ (END ≤ length (now w)) × (n < mostEdges) × (len ≤ mostBytes) × (bucket < BUCKETS) ⌝ }
-    ensures { λ _. ⌜ now (w .exit) ≡ linked (now (w .entry)) n len bucket ⌝ }
+// The cells and the count with one edge more, behind so many, at offset len.
+pub fn link(work: &mut [u8], count: usize, len: usize, bucket: usize)
+    requires { ⌜ (END ≤ length (now work)) × (count < mostEdges) × (len ≤ mostBytes) × (bucket < BUCKETS) ⌝ }
+    ensures { λ _. ⌜ now (work .exit) ≡ linked (now (work .entry)) count len bucket ⌝ }
 {
-    let head = fields::u16_at(w, HEADS + 2 * bucket) as usize;
-    put_cell(w, OFFSETS, n, len);
-    put_cell(w, NEXTS, n, head);
-    put_cell(w, HEADS, bucket, n + 1);
-    fields::write::put_u16(w, 0, (n + 1) as u16);
+    let head = fields::u16_at(work, HEADS + 2 * bucket) as usize;
+    put_cell(work, OFFSETS, count, len);
+    put_cell(work, NEXTS, count, head);
+    put_cell(work, HEADS, bucket, count + 1);
+    fields::write::put_u16(work, 0, (count + 1) as u16);
 }

@@ -11,20 +11,20 @@ use lattice::Adding;
 use lattice::Lattice;
 
 // The regular edge that stands in a listing from at to the offset to is added. It may be longer than the room behind the lattice's listing.
-pub fn add_given(w: &mut [u8], l: Lattice, s: &[u8], at: usize, to: usize) -> Lattice
-    requires { ⌜ ((es : List Edge) × Holds (now w) l es) × (mapAt (now s) at ≡ 0) × (to ≡ nextAt (now s) at)
-        × (to ≤ length (now s)) ⌝ }
-    ensures { λ r. ⌜ SameBehind (now (w .entry)) (now (w .exit)) × ((es : List Edge) → Holds (now (w .entry)) l es
-        → Holds (now (w .exit)) r (add es (edgeAt (now (s .entry)) at))) ⌝ }
+pub fn add_given(work: &mut [u8], lattice: Lattice, given: &[u8], at: usize, to: usize) -> Lattice
+    requires { ⌜ ((es : List Edge) × Holds (now work) lattice es) × (mapAt (now given) at ≡ 0) × (to ≡ nextAt (now given) at)
+        × (to ≤ length (now given)) ⌝ }
+    ensures { λ r. ⌜ SameBehind (now (work .entry)) (now (work .exit)) × ((es : List Edge) → Holds (now (work .entry)) lattice es
+        → Holds (now (work .exit)) r (add es (edgeAt (now (given .entry)) at))) ⌝ }
 {
-    let count = l.count;
-    let len = l.len;
-    match lattice::find::plan_add(w, l, s, at, to - at - 2, to) {
-        Adding::Nothing => l,
+    let count = lattice.count;
+    let len = lattice.len;
+    match lattice::find::plan_add(work, lattice, given, at, to - at - 2, to) {
+        Adding::Nothing => lattice,
         Adding::TooMuch => Lattice { count, len: 0 },
         Adding::Into(bucket) => {
-            fields::copy::copy_in(w, len, &s[at..to]);
-            lattice::link::link(w, count, len, bucket);
+            fields::copy::copy_in(work, len, &given[at..to]);
+            lattice::link::link(work, count, len, bucket);
             Lattice {
                 count: count + 1,
                 len: len + (to - at),

@@ -12,19 +12,19 @@ ghost use Rattle.lattice.specs.Kept.{Stands, Holds, SameBehind};
 use lattice::Adding;
 use lattice::Lattice;
 
-// The edge that is composed behind the listing, up to an offset and with a key of n bytes, is added.
-pub fn add_edge(w: &mut [u8], l: Lattice, n: usize, to: usize) -> Lattice
-    requires { ⌜ ((es : List Edge) × Holds (now w) l es) × ((e : Edge) × Stands (now w) (l .len) n to e) ⌝ }
-    ensures { λ r. ⌜ SameBehind (now (w .entry)) (now (w .exit)) × ((es : List Edge) (e : Edge)
-        → Holds (now (w .entry)) l es → Stands (now (w .entry)) (l .len) n to e → Holds (now (w .exit)) r (add es e)) ⌝ }
+// The edge that is composed behind the listing, up to an offset and with a key of so many bytes, is added.
+pub fn add_edge(work: &mut [u8], lattice: Lattice, size: usize, to: usize) -> Lattice
+    requires { ⌜ ((es : List Edge) × Holds (now work) lattice es) × ((e : Edge) × Stands (now work) (lattice .len) size to e) ⌝ }
+    ensures { λ r. ⌜ SameBehind (now (work .entry)) (now (work .exit)) × ((es : List Edge) (e : Edge)
+        → Holds (now (work .entry)) lattice es → Stands (now (work .entry)) (lattice .len) size to e → Holds (now (work .exit)) r (add es e)) ⌝ }
 {
-    let count = l.count;
-    let len = l.len;
-    match lattice::find::plan_add(w, l, w, len, n, to) {
-        Adding::Nothing => l,
+    let count = lattice.count;
+    let len = lattice.len;
+    match lattice::find::plan_add(work, lattice, work, len, size, to) {
+        Adding::Nothing => lattice,
         Adding::TooMuch => Lattice { count, len: 0 },
         Adding::Into(bucket) => {
-            lattice::link::link(w, count, len, bucket);
+            lattice::link::link(work, count, len, bucket);
             Lattice {
                 count: count + 1,
                 len: to,

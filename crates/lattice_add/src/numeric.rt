@@ -12,28 +12,39 @@ use edge::Written;
 use lattice::Lattice;
 use text::Place;
 
-// A numeric edge is added. The texts of its data are parts of o (orig_txt), c (script) and v (value_s).
+// A numeric edge is added. The texts of its data are parts of orig (orig_txt), script and value (value_s).
 pub fn add_numeric(
-    w: &mut [u8],
-    l: Lattice,
+    work: &mut [u8],
+    lattice: Lattice,
     start: Place,
     end: Place,
     ty: &[u8],
     txt: &[u8],
-    d: NumFields,
-    o: &[u8],
-    c: &[u8],
-    v: &[u8],
+    num: NumFields,
+    orig: &[u8],
+    script: &[u8],
+    value: &[u8],
 ) -> Lattice
-    requires { ⌜ ((es : List Edge) × Holds (now w) l es) × (start .0 < u16Limit) × (end .0 < u16Limit)
-        × Writable (now o) (now c) (now v) d
-        × (length (now ty) + length (now txt) + d .orig .len + d .script .len + d .«value_s» .len ≤ 1990) ⌝ }
-    ensures { λ r. ⌜ SameBehind (now (w .entry)) (now (w .exit)) × ((es : List Edge) → Holds (now (w .entry)) l es
-        → Holds (now (w .exit)) r (add es (numeric (start .0) (end .0) (now (ty .entry)) (now (txt .entry)) (now (o .entry)) (now (c .entry)) (now (v .entry)) d))) ⌝ }
+    requires { ⌜ ((es : List Edge) × Holds (now work) lattice es) × (start .0 < u16Limit) × (end .0 < u16Limit)
+        × Writable (now orig) (now script) (now value) num
+        × (length (now ty) + length (now txt) + num .orig .len + num .script .len + num .«value_s» .len ≤ 1990) ⌝ }
+    ensures { λ r. ⌜ SameBehind (now (work .entry)) (now (work .exit)) × ((es : List Edge) → Holds (now (work .entry)) lattice es
+        → Holds (now (work .exit)) r (add es (numeric (start .0) (end .0) (now (ty .entry)) (now (txt .entry)) (now (orig .entry)) (now (script .entry)) (now (value .entry)) num))) ⌝ }
 {
-    let len = l.len;
-    match edge_write::numeric::write_numeric(w, len, start, end, ty, txt, d, o, c, v) {
-        Written::To(to) => crate::add_edge(w, l, 8 + ty.len() + txt.len(), to),
-        Written::NoRoom => l,
+    let len = lattice.len;
+    match edge_write::numeric::write_numeric(
+        work,
+        len,
+        start,
+        end,
+        ty,
+        txt,
+        num,
+        orig,
+        script,
+        value,
+    ) {
+        Written::To(to) => crate::add_edge(work, lattice, 8 + ty.len() + txt.len(), to),
+        Written::NoRoom => lattice,
     }
 }

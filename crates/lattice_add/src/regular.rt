@@ -13,21 +13,21 @@ use text::Place;
 
 // A regular edge is added.
 pub fn add_regular(
-    w: &mut [u8],
-    l: Lattice,
+    work: &mut [u8],
+    lattice: Lattice,
     start: Place,
     end: Place,
     ty: &[u8],
     txt: &[u8],
 ) -> Lattice
-    requires { ⌜ ((es : List Edge) × Holds (now w) l es) × (start .0 < u16Limit) × (end .0 < u16Limit)
+    requires { ⌜ ((es : List Edge) × Holds (now work) lattice es) × (start .0 < u16Limit) × (end .0 < u16Limit)
         × (length (now ty) + length (now txt) ≤ 2000) ⌝ }
-    ensures { λ r. ⌜ SameBehind (now (w .entry)) (now (w .exit)) × ((es : List Edge) → Holds (now (w .entry)) l es
-        → Holds (now (w .exit)) r (add es (regular (start .0) (end .0) (now (ty .entry)) (now (txt .entry))))) ⌝ }
+    ensures { λ r. ⌜ SameBehind (now (work .entry)) (now (work .exit)) × ((es : List Edge) → Holds (now (work .entry)) lattice es
+        → Holds (now (work .exit)) r (add es (regular (start .0) (end .0) (now (ty .entry)) (now (txt .entry))))) ⌝ }
 {
-    let len = l.len;
-    match edge_write::regular::write_regular(w, len, start, end, ty, txt) {
-        Written::To(to) => crate::add_edge(w, l, 8 + ty.len() + txt.len(), to),
-        Written::NoRoom => l,
+    let len = lattice.len;
+    match edge_write::regular::write_regular(work, len, start, end, ty, txt) {
+        Written::To(to) => crate::add_edge(work, lattice, 8 + ty.len() + txt.len(), to),
+        Written::NoRoom => lattice,
     }
 }

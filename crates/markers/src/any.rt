@@ -16,16 +16,16 @@ ghost use Rattle.table.specs.Answers.{Within, tableOf};
 ghost use Rattle.numbers.specs.Ready.{Ready, Offsets};
 ghost use Rattle.markers.specs.Marks.{Formed, standsFrom, anyStands, marked};
 
-// Whether the bytes m stand at one of the n places of the line.
-fn stands_somewhere(line: &[u8], offs: &[usize; PLACES], n: usize, m: &[u8]) -> bool
-    requires { ⌜ Offsets (now line) (now offs) × (length (chars (now line)) ≡ n) × (n ≤ maxChars)
-        × (wellFormed (now m) ≡ true) ⌝ }
-    ensures { λ r. ⌜ r ≡ standsFrom (chars (now (line .entry))) 0 n (now (m .entry)) ⌝ }
+// Whether the bytes of a marker stand at one of the line's places.
+fn stands_somewhere(line: &[u8], offs: &[usize; PLACES], places: usize, marker: &[u8]) -> bool
+    requires { ⌜ Offsets (now line) (now offs) × (length (chars (now line)) ≡ places) × (places ≤ maxChars)
+        × (wellFormed (now marker) ≡ true) ⌝ }
+    ensures { λ r. ⌜ r ≡ standsFrom (chars (now (line .entry))) 0 places (now (marker .entry)) ⌝ }
 {
     let mut p = 0;
-    while p < n {
+    while p < places {
         let at = offs[p];
-        if crate::stands(line, at, m) {
+        if crate::stands(line, at, marker) {
             return true;
         }
         p += 1;
@@ -34,21 +34,27 @@ fn stands_somewhere(line: &[u8], offs: &[usize; PLACES], n: usize, m: &[u8]) -> 
 }
 
 // The same of a text of the table.
-fn text_somewhere(line: &[u8], offs: &[usize; PLACES], n: usize, table: &[u8], m: Part) -> bool
-    requires { ⌜ Offsets (now line) (now offs) × (length (chars (now line)) ≡ n) × (n ≤ maxChars)
-        × Within (now table) m × (wellFormed (partOf (now table) m) ≡ true) ⌝ }
-    ensures { λ r. ⌜ r ≡ standsFrom (chars (now (line .entry))) 0 n (partOf (now (table .entry)) m) ⌝ }
+fn text_somewhere(
+    line: &[u8],
+    offs: &[usize; PLACES],
+    places: usize,
+    table: &[u8],
+    marker: Part,
+) -> bool
+    requires { ⌜ Offsets (now line) (now offs) × (length (chars (now line)) ≡ places) × (places ≤ maxChars)
+        × Within (now table) marker × (wellFormed (partOf (now table) marker) ≡ true) ⌝ }
+    ensures { λ r. ⌜ r ≡ standsFrom (chars (now (line .entry))) 0 places (partOf (now (table .entry)) marker) ⌝ }
 {
-    let from = m.at.0;
-    let end = from + m.len;
-    stands_somewhere(line, offs, n, &table[from..end])
+    let from = marker.at.0;
+    let end = from + marker.len;
+    stands_somewhere(line, offs, places, &table[from..end])
 }
 
-// Whether a text of a list of the table stands at one of the n places.
-fn any_of(line: &[u8], offs: &[usize; PLACES], n: usize, table: &[u8], list: usize) -> bool
-    requires { ⌜ Offsets (now line) (now offs) × (length (chars (now line)) ≡ n) × (n ≤ maxChars)
+// Whether a text of a list of the table stands at one of the line's places.
+fn any_of(line: &[u8], offs: &[usize; PLACES], places: usize, table: &[u8], list: usize) -> bool
+    requires { ⌜ Offsets (now line) (now offs) × (length (chars (now line)) ≡ places) × (places ≤ maxChars)
         × Formed (listAt (now table) list) ⌝ }
-    ensures { λ r. ⌜ r ≡ anyStands (chars (now (line .entry))) 0 n (listAt (now (table .entry)) list) ⌝ }
+    ensures { λ r. ⌜ r ≡ anyStands (chars (now (line .entry))) 0 places (listAt (now (table .entry)) list) ⌝ }
 {
     if table.len() <= list {
         return false;
@@ -58,7 +64,7 @@ fn any_of(line: &[u8], offs: &[usize; PLACES], n: usize, table: &[u8], list: usi
     while 0 < left {
         match table::layout::text_at(table, next) {
             TextAt::Text(m, behind) => {
-                if text_somewhere(line, offs, n, table, m) {
+                if text_somewhere(line, offs, places, table, m) {
                     return true;
                 }
                 next = behind;
@@ -72,13 +78,19 @@ fn any_of(line: &[u8], offs: &[usize; PLACES], n: usize, table: &[u8], list: usi
     false
 }
 
-// Whether a marker stands at one of the n places of the line.
-pub fn any_marker(line: &[u8], offs: &[usize; PLACES], table: &[u8], h: Shape, n: usize) -> bool
-    requires { ⌜ Ready (now line) (now table) h n × Offsets (now line) (now offs) ⌝ }
-    ensures { λ r. ⌜ r ≡ marked (tableOf (now (table .entry)) h) (chars (now (line .entry))) ⌝ }
+// Whether a marker stands at one of the line's places.
+pub fn any_marker(
+    line: &[u8],
+    offs: &[usize; PLACES],
+    table: &[u8],
+    shape: Shape,
+    places: usize,
+) -> bool
+    requires { ⌜ Ready (now line) (now table) shape places × Offsets (now line) (now offs) ⌝ }
+    ensures { λ r. ⌜ r ≡ marked (tableOf (now (table .entry)) shape) (chars (now (line .entry))) ⌝ }
 {
-    if any_of(line, offs, n, table, h.percentages) {
+    if any_of(line, offs, places, table, shape.percentages) {
         return true;
     }
-    any_of(line, offs, n, table, h.connectors)
+    any_of(line, offs, places, table, shape.connectors)
 }

@@ -17,12 +17,12 @@ ghost use Rattle.numbers.specs.Ready.{Ready, Offsets};
 ghost use Rattle.markers.specs.Marks.{sizeAt, longestAt, markerOf};
 
 // How many characters a text of the table has, if it stands at an offset of the line; 0 where it does not.
-fn size_at(line: &[u8], at: usize, table: &[u8], m: Part) -> usize
-    requires { ⌜ (at ≤ length (now line)) × Within (now table) m ⌝ }
-    ensures { λ r. ⌜ r ≡ sizeAt (now (line .entry)) at (partOf (now (table .entry)) m) ⌝ }
+fn size_at(line: &[u8], at: usize, table: &[u8], marker: Part) -> usize
+    requires { ⌜ (at ≤ length (now line)) × Within (now table) marker ⌝ }
+    ensures { λ r. ⌜ r ≡ sizeAt (now (line .entry)) at (partOf (now (table .entry)) marker) ⌝ }
 {
-    let from = m.at.0;
-    let end = from + m.len;
+    let from = marker.at.0;
+    let end = from + marker.len;
     let bytes = &table[from..end];
     if crate::stands(line, at, bytes) {
         let w = text::line::walk(bytes, bytes.len());
@@ -37,14 +37,14 @@ fn larger_of(a: usize, b: usize) -> usize
     if a <= b { b } else { a }
 }
 
-// The longest of n texts of the table that stands at an offset of the line, in characters.
-fn longest_of(line: &[u8], at: usize, table: &[u8], from: usize, n: usize) -> usize
+// The longest of so many texts of the table that stands at an offset of the line, in characters.
+fn longest_of(line: &[u8], at: usize, table: &[u8], from: usize, count: usize) -> usize
     requires { ⌜ at ≤ length (now line) ⌝ }
-    ensures { λ r. ⌜ r ≡ longestAt (now (line .entry)) at (textsAt n (now (table .entry)) from) ⌝ }
+    ensures { λ r. ⌜ r ≡ longestAt (now (line .entry)) at (textsAt count (now (table .entry)) from) ⌝ }
 {
     let mut best = 0;
     let mut next = from;
-    let mut left = n;
+    let mut left = count;
     while 0 < left {
         match table::layout::text_at(table, next) {
             TextAt::Text(m, behind) => {
@@ -87,14 +87,20 @@ fn longer_of(percentage: usize, connector: usize) -> Marker
 }
 
 // The marker that counts at a place.
-pub fn marker_at(line: &[u8], offs: &[usize; PLACES], table: &[u8], h: Shape, p: Place) -> Marker
-    requires { ⌜ ((n : ℕ) × Ready (now line) (now table) h n) × Offsets (now line) (now offs)
-        × (p .0 < length (chars (now line))) ⌝ }
-    ensures { λ r. ⌜ markerOf r ≡ markerAt (tableOf (now (table .entry)) h) (chars (now (line .entry))) (p .0) ⌝ }
+pub fn marker_at(
+    line: &[u8],
+    offs: &[usize; PLACES],
+    table: &[u8],
+    shape: Shape,
+    here: Place,
+) -> Marker
+    requires { ⌜ ((n : ℕ) × Ready (now line) (now table) shape n) × Offsets (now line) (now offs)
+        × (here .0 < length (chars (now line))) ⌝ }
+    ensures { λ r. ⌜ markerOf r ≡ markerAt (tableOf (now (table .entry)) shape) (chars (now (line .entry))) (here .0) ⌝ }
 {
-    let place = p.0;
+    let place = here.0;
     let at = offs[place];
-    let percentage = longest_in(line, at, table, h.percentages);
-    let connector = longest_in(line, at, table, h.connectors);
+    let percentage = longest_in(line, at, table, shape.percentages);
+    let connector = longest_in(line, at, table, shape.connectors);
     longer_of(percentage, connector)
 }

@@ -26,68 +26,68 @@ pub enum Sign {
     NoSign,
 }
 
-// Whether the bytes m don't stand before an offset of the line, by their last one: most characters of a line begin with the same few bytes.
-fn last_differs(line: &[u8], end: usize, m: &[u8]) -> bool
-    requires { ⌜ (end ≤ length (now line)) × (length (now m) ≤ end) ⌝ }
-    ensures { λ r. ⌜ (r ≡ true → NotBefore (now (line .entry)) end (now (m .entry))) ⌝ }
+// Whether the bytes of a marker don't stand before an offset of the line, by their last one: most characters of a line begin with the same few bytes.
+fn last_differs(line: &[u8], end: usize, marker: &[u8]) -> bool
+    requires { ⌜ (end ≤ length (now line)) × (length (now marker) ≤ end) ⌝ }
+    ensures { λ r. ⌜ (r ≡ true → NotBefore (now (line .entry)) end (now (marker .entry))) ⌝ }
 {
-    let size = m.len();
+    let size = marker.len();
     if size == 0 {
         return false;
     }
-    line[end - 1] != m[size - 1]
+    line[end - 1] != marker[size - 1]
 }
 
-// Whether the bytes m stand in the line at an offset.
-pub fn stands(line: &[u8], at: usize, m: &[u8]) -> bool
+// Whether the bytes of a marker stand in the line at an offset.
+pub fn stands(line: &[u8], at: usize, marker: &[u8]) -> bool
     requires { ⌜ at ≤ length (now line) ⌝ }
-    ensures { λ r. ⌜ r ≡ bytesAt (now (line .entry)) at (now (m .entry)) ⌝ }
+    ensures { λ r. ⌜ r ≡ bytesAt (now (line .entry)) at (now (marker .entry)) ⌝ }
 {
-    if line.len() - at < m.len() {
+    if line.len() - at < marker.len() {
         return false;
     }
-    let end = at + m.len();
-    if last_differs(line, end, m) {
+    let end = at + marker.len();
+    if last_differs(line, end, marker) {
         return false;
     }
-    text::same_bytes(&line[at..end], m)
+    text::same_bytes(&line[at..end], marker)
 }
 
 // ---- a sign directly before a place
 
 // By the sign's characters, counted back from the place.
-fn counted_back(line: &[u8], offs: &[usize; PLACES], p: Place, m: &[u8]) -> Sign
+fn counted_back(line: &[u8], offs: &[usize; PLACES], here: Place, sign: &[u8]) -> Sign
     requires { ⌜ (length (chars (now line)) ≤ maxChars) × Offsets (now line) (now offs)
-        × (p .0 ≤ length (chars (now line))) × (wellFormed (now m) ≡ true) ⌝ }
-    ensures { λ r. ⌜ r ≡ signOf (chars (now (line .entry))) (p .0) (now (m .entry)) ⌝ }
+        × (here .0 ≤ length (chars (now line))) × (wellFormed (now sign) ≡ true) ⌝ }
+    ensures { λ r. ⌜ r ≡ signOf (chars (now (line .entry))) (here .0) (now (sign .entry)) ⌝ }
 {
-    let place = p.0;
-    let w = text::line::walk(m, m.len());
+    let place = here.0;
+    let w = text::line::walk(sign, sign.len());
     let size = w.count;
     if place < size {
         return Sign::NoSign;
     }
     let from = place - size;
     let at = offs[from];
-    if stands(line, at, m) {
+    if stands(line, at, sign) {
         return Sign::Before(size);
     }
     Sign::NoSign
 }
 
-// The sign m of the table directly before a place of the line. Its characters are counted only where its last byte stands there.
-pub fn sign_before(line: &[u8], offs: &[usize; PLACES], p: Place, m: &[u8]) -> Sign
+// The sign of the table directly before a place of the line. Its characters are counted only where its last byte stands there.
+pub fn sign_before(line: &[u8], offs: &[usize; PLACES], here: Place, sign: &[u8]) -> Sign
     requires { ⌜ (length (chars (now line)) ≤ maxChars) × Offsets (now line) (now offs)
-        × (p .0 ≤ length (chars (now line))) × (wellFormed (now m) ≡ true) ⌝ }
-    ensures { λ r. ⌜ r ≡ signOf (chars (now (line .entry))) (p .0) (now (m .entry)) ⌝ }
+        × (here .0 ≤ length (chars (now line))) × (wellFormed (now sign) ≡ true) ⌝ }
+    ensures { λ r. ⌜ r ≡ signOf (chars (now (line .entry))) (here .0) (now (sign .entry)) ⌝ }
 {
-    let place = p.0;
+    let place = here.0;
     let end = offs[place];
-    if end < m.len() {
+    if end < sign.len() {
         return Sign::NoSign;
     }
-    if last_differs(line, end, m) {
+    if last_differs(line, end, sign) {
         return Sign::NoSign;
     }
-    counted_back(line, offs, p, m)
+    counted_back(line, offs, here, sign)
 }

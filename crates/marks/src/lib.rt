@@ -24,55 +24,55 @@ pub enum Asked {
 }
 
 // Sets the mark of the place where an edge ends whose txt ends with a digit.
-fn mark_end(s: &[u8], at: usize, marks: &mut [bool; PLACES])
-    requires { ⌜ Spanned 256 (now s) at ⌝ }
-    ensures { λ _. ⌜ now (marks .exit) ≡ cond (endsWithDigit (edgeAt (now (s .entry)) at .txt)) (set (now (marks .entry)) (edgeAt (now (s .entry)) at .end) true) (now (marks .entry)) ⌝ }
+fn mark_end(work: &[u8], at: usize, marks: &mut [bool; PLACES])
+    requires { ⌜ Spanned 256 (now work) at ⌝ }
+    ensures { λ _. ⌜ now (marks .exit) ≡ cond (endsWithDigit (edgeAt (now (work .entry)) at .txt)) (set (now (marks .entry)) (edgeAt (now (work .entry)) at .end) true) (now (marks .entry)) ⌝ }
 {
-    let e = edge::head::edge_at(s, at);
+    let e = edge::head::edge_at(work, at);
     let txt = e.txt;
     let end = e.end;
     let from = txt.at.0;
     let to = from + txt.len;
     let place = end.0;
-    if digits::ends::ends_with_digit(&s[from..to]) {
+    if digits::ends::ends_with_digit(&work[from..to]) {
         marks[place] = true;
     }
 }
 
 // Sets the mark of an edge's place where the edge is numeric and one place long.
-fn mark_place(s: &[u8], at: usize, marks: &mut [bool; PLACES])
-    requires { ⌜ Spanned 256 (now s) at ⌝ }
-    ensures { λ _. ⌜ now (marks .exit) ≡ cond (onePlace (edgeAt (now (s .entry)) at)) (set (now (marks .entry)) (edgeAt (now (s .entry)) at .start) true) (now (marks .entry)) ⌝ }
+fn mark_place(work: &[u8], at: usize, marks: &mut [bool; PLACES])
+    requires { ⌜ Spanned 256 (now work) at ⌝ }
+    ensures { λ _. ⌜ now (marks .exit) ≡ cond (onePlace (edgeAt (now (work .entry)) at)) (set (now (marks .entry)) (edgeAt (now (work .entry)) at .start) true) (now (marks .entry)) ⌝ }
 {
-    let map = fields::u16_at(s, at);
-    let start = fields::u16_at(s, at + 2) as usize;
-    let end = fields::u16_at(s, at + 4) as usize;
+    let map = fields::u16_at(work, at);
+    let start = fields::u16_at(work, at + 2) as usize;
+    let end = fields::u16_at(work, at + 4) as usize;
     if edge::bit(map, bits::NUMERIC) & (end == start + 1) {
         marks[start] = true;
     }
 }
 
 // Sets the mark of an edge, if it is one that is asked for.
-fn mark(s: &[u8], at: usize, asked: Asked, marks: &mut [bool; PLACES])
-    requires { ⌜ Spanned 256 (now s) at ⌝ }
-    ensures { λ _. ⌜ now (marks .exit) ≡ cond (asks asked (edgeAt (now (s .entry)) at)) (set (now (marks .entry)) (placeBy asked (edgeAt (now (s .entry)) at)) true) (now (marks .entry)) ⌝ }
+fn mark(work: &[u8], at: usize, asked: Asked, marks: &mut [bool; PLACES])
+    requires { ⌜ Spanned 256 (now work) at ⌝ }
+    ensures { λ _. ⌜ now (marks .exit) ≡ cond (asks asked (edgeAt (now (work .entry)) at)) (set (now (marks .entry)) (placeBy asked (edgeAt (now (work .entry)) at)) true) (now (marks .entry)) ⌝ }
 {
     match asked {
-        Asked::DigitEnds => mark_end(s, at, marks),
-        Asked::OnePlace => mark_place(s, at, marks),
+        Asked::DigitEnds => mark_end(work, at, marks),
+        Asked::OnePlace => mark_place(work, at, marks),
     }
 }
 
 // The marks of all edges that are asked for. One walk over the lattice.
-pub fn mark_places(w: &[u8], l: Lattice, asked: Asked, marks: &mut [bool; PLACES])
-    requires { ⌜ (l .len ≡ 0 → ⊥) × ((n : ℕ) × (n ≤ 256) × ((es : List Edge) × Holds (now w) l es × Legals n es)) × (now marks ≡ replicate 257 false) ⌝ }
-    ensures { λ _. ⌜ ((n : ℕ) (es : List Edge) → n ≤ 256 → Holds (now (w .entry)) l es → Legals n es → (p : ℕ) → p < 257 → getD (now (marks .exit)) p false ≡ anyAt (asks asked) (placeBy asked) es p) ⌝ }
+pub fn mark_places(work: &[u8], lattice: Lattice, asked: Asked, marks: &mut [bool; PLACES])
+    requires { ⌜ (lattice .len ≡ 0 → ⊥) × ((n : ℕ) × (n ≤ 256) × ((es : List Edge) × Holds (now work) lattice es × Legals n es)) × (now marks ≡ replicate 257 false) ⌝ }
+    ensures { λ _. ⌜ ((n : ℕ) (es : List Edge) → n ≤ 256 → Holds (now (work .entry)) lattice es → Legals n es → (p : ℕ) → p < 257 → getD (now (marks .exit)) p false ≡ anyAt (asks asked) (placeBy asked) es p) ⌝ }
 {
-    let count = l.count;
+    let count = lattice.count;
     let mut i = 0;
     while i < count {
-        let at = lattice::offset_at(w, l, i);
-        mark(w, at, asked, marks);
+        let at = lattice::offset_at(work, lattice, i);
+        mark(work, at, asked, marks);
         i += 1;
     }
 }

@@ -38,13 +38,13 @@ fn put_pass(buf: &mut [u8], pass: Pass) -> usize
 }
 
 // The type of a stored edge goes to the front of a buffer: how many bytes.
-pub fn type_of(buf: &mut [u8], table: &[u8], x: PassEdge) -> usize
-    requires { ⌜ ((i : StoredEdge) × EdgeIs x i × Rooted (now table) i) × (maxString ≤ length (now buf)) ⌝ }
-    ensures { λ r. ⌜ ((i : StoredEdge) → EdgeIs x i → Front (now (buf .entry)) (now (buf .exit)) r (typeOf (now (table .entry)) i)) ⌝ }
+pub fn type_of(buf: &mut [u8], table: &[u8], edge: PassEdge) -> usize
+    requires { ⌜ ((i : StoredEdge) × EdgeIs edge i × Rooted (now table) i) × (maxString ≤ length (now buf)) ⌝ }
+    ensures { λ r. ⌜ ((i : StoredEdge) → EdgeIs edge i → Front (now (buf .entry)) (now (buf .exit)) r (typeOf (now (table .entry)) i)) ⌝ }
 {
-    let kind = x.kind;
+    let kind = edge.kind;
     match kind {
-        Kind::Character => crate::put_text(buf, crate::type_at(table, x.record_at.0)),
+        Kind::Character => crate::put_text(buf, crate::type_at(table, edge.record_at.0)),
         Kind::Joined(pass) => put_pass(buf, pass),
     }
 }

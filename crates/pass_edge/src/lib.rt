@@ -54,12 +54,12 @@ pub fn line_part<'a>(line: &'a [u8], offs: &[usize; PLACES], start: Place, end: 
 }
 
 // A text goes to the front of a buffer: how many bytes.
-pub fn put_text(buf: &mut [u8], t: &[u8]) -> usize
-    requires { ⌜ length (now t) ≤ length (now buf) ⌝ }
-    ensures { λ r. ⌜ Front (now (buf .entry)) (now (buf .exit)) r (now (t .entry)) ⌝ }
+pub fn put_text(buf: &mut [u8], txt: &[u8]) -> usize
+    requires { ⌜ length (now txt) ≤ length (now buf) ⌝ }
+    ensures { λ r. ⌜ Front (now (buf .entry)) (now (buf .exit)) r (now (txt .entry)) ⌝ }
 {
-    fields::copy::copy_in(buf, 0, t);
-    t.len()
+    fields::copy::copy_in(buf, 0, txt);
+    txt.len()
 }
 
 // The fraction of a stored edge, where it has one.

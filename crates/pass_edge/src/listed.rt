@@ -31,25 +31,25 @@ use text::check::PLACES;
 const LISTED: u16 = bits::NUMERIC + bits::ACTIVE;
 
 // The map of a stored edge: which of its fields are there.
-fn map_of(x: PassEdge, fraction: bool) -> u16
-    ensures { λ r. ⌜ r ≡ storedMap x fraction ⌝ }
+fn map_of(edge: PassEdge, fraction: bool) -> u16
+    ensures { λ r. ⌜ r ≡ storedMap edge fraction ⌝ }
 {
-    let kind = x.kind;
+    let kind = edge.kind;
     LISTED
-        + bit_if(x.num.has_value, bits::VALUE)
+        + bit_if(edge.num.has_value, bits::VALUE)
         + bit_if(fraction, bits::FRACTION)
-        + bit_if(x.num.has_base, bits::BASE)
-        + bit_if(x.num.has_mult, bits::MULT)
-        + bit_if(x.num.has_script, bits::SCRIPT)
-        + bit_if(x.num.large_power, bits::LARGE_POWER)
+        + bit_if(edge.num.has_base, bits::BASE)
+        + bit_if(edge.num.has_mult, bits::MULT)
+        + bit_if(edge.num.has_script, bits::SCRIPT)
+        + bit_if(edge.num.large_power, bits::LARGE_POWER)
         + bit_if(is_row(kind), bits::VALUE_S)
 }
 
 // A part that is there, or none.
-fn part_or(b: bool, at: Offset, len: usize) -> Part
-    ensures { λ r. ⌜ r ≡ partOr b (at .0) len ⌝ }
+fn part_or(there: bool, at: Offset, len: usize) -> Part
+    ensures { λ r. ⌜ r ≡ partOr there (at .0) len ⌝ }
 {
-    if b {
+    if there {
         Part { at: at, len: len }
     } else {
         Part {
@@ -59,29 +59,29 @@ fn part_or(b: bool, at: Offset, len: usize) -> Part
     }
 }
 
-// The fields of a stored edge whose fraction is f and whose txt has so many bytes.
-fn fields_of(offs: &[usize; PLACES], x: PassEdge, f: Fraction, len: usize) -> NumFields
-    requires { ⌜ Listable (now offs) x ⌝ }
-    ensures { λ r. ⌜ r ≡ storedFields (now (offs .entry)) x f len ⌝ }
+// The fields of a stored edge with this fraction, whose txt has so many bytes.
+fn fields_of(offs: &[usize; PLACES], edge: PassEdge, fraction: Fraction, len: usize) -> NumFields
+    requires { ⌜ Listable (now offs) edge ⌝ }
+    ensures { λ r. ⌜ r ≡ storedFields (now (offs .entry)) edge fraction len ⌝ }
 {
-    let start = x.start.0;
-    let end = x.end.0;
+    let start = edge.start.0;
+    let end = edge.end.0;
     let from = offs[start];
     let to = offs[end];
     let orig = Part {
         at: Offset(from),
         len: to - from,
     };
-    let script = part_or(x.num.has_script, x.num.script, x.num.script_len);
-    let kind = x.kind;
+    let script = part_or(edge.num.has_script, edge.num.script, edge.num.script_len);
+    let kind = edge.kind;
     let value_s = part_or(is_row(kind), Offset(0), len);
     edge::data::num_fields(NumData {
-        map: map_of(x, f.there),
-        value: x.num.value,
-        numerator: f.numerator,
-        denominator: f.denominator,
-        base: x.num.base,
-        base_multiplier: x.num.base_multiplier,
+        map: map_of(edge, fraction.there),
+        value: edge.num.value,
+        numerator: fraction.numerator,
+        denominator: fraction.denominator,
+        base: edge.num.base,
+        base_multiplier: edge.num.base_multiplier,
         orig: orig,
         script: script,
         value_s: value_s,
@@ -90,25 +90,36 @@ fn fields_of(offs: &[usize; PLACES], x: PassEdge, f: Fraction, len: usize) -> Nu
 
 // A stored edge with this fraction and these texts is added to the lattice.
 pub fn add_texts(
-    w: &mut [u8],
-    l: Lattice,
+    work: &mut [u8],
+    lattice: Lattice,
     line: &[u8],
     offs: &[usize; PLACES],
     table: &[u8],
-    x: PassEdge,
-    f: Fraction,
+    edge: PassEdge,
+    fraction: Fraction,
     ty: &[u8],
     txt: &[u8],
 ) -> Lattice
-    requires { ⌜ ((es : List Edge) × Holds (now w) l es) × Offsets (now line) (now offs)
-        × ((i : StoredEdge) × TextsAre (now line) (now table) x (now ty) (now txt) i)
+    requires { ⌜ ((es : List Edge) × Holds (now work) lattice es) × Offsets (now line) (now offs)
+        × ((i : StoredEdge) × TextsAre (now line) (now table) edge (now ty) (now txt) i)
         × (length (chars (now line)) ≤ maxChars)
-        × FractionIs f (storedFraction (now table) (kindNumber (x .kind)) (x .«record_at» .0)) ⌝ }
-    ensures { λ r. ⌜ SameBehind (now (w .entry)) (now (w .exit)) × ((es : List Edge) (i : StoredEdge)
-        → Holds (now (w .entry)) l es
-        → TextsAre (now (line .entry)) (now (table .entry)) x (now (ty .entry)) (now (txt .entry)) i
-        → Holds (now (w .exit)) r (add es (listedEdge (edgeOf (chars (now (line .entry))) (now (table .entry)) i)))) ⌝ }
+        × FractionIs fraction (storedFraction (now table) (kindNumber (edge .kind)) (edge .«record_at» .0)) ⌝ }
+    ensures { λ r. ⌜ SameBehind (now (work .entry)) (now (work .exit)) × ((es : List Edge) (i : StoredEdge)
+        → Holds (now (work .entry)) lattice es
+        → TextsAre (now (line .entry)) (now (table .entry)) edge (now (ty .entry)) (now (txt .entry)) i
+        → Holds (now (work .exit)) r (add es (listedEdge (edgeOf (chars (now (line .entry))) (now (table .entry)) i)))) ⌝ }
 {
-    let d = fields_of(offs, x, f, txt.len());
-    lattice_add::numeric::add_numeric(w, l, x.start, x.end, ty, txt, d, line, table, txt)
+    let d = fields_of(offs, edge, fraction, txt.len());
+    lattice_add::numeric::add_numeric(
+        work,
+        lattice,
+        edge.start,
+        edge.end,
+        ty,
+        txt,
+        d,
+        line,
+        table,
+        txt,
+    )
 }

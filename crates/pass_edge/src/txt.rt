@@ -43,20 +43,28 @@ pub fn txt_of(
     line: &[u8],
     offs: &[usize; PLACES],
     table: &[u8],
-    x: PassEdge,
+    edge: PassEdge,
 ) -> usize
-    requires { ⌜ Offsets (now line) (now offs) × ((i : StoredEdge) × StoredIs (now line) (now table) x i)
+    requires { ⌜ Offsets (now line) (now offs) × ((i : StoredEdge) × StoredIs (now line) (now table) edge i)
         × (length (chars (now line)) ≤ maxChars) × (maxChars ≤ length (now buf)) ⌝ }
-    ensures { λ r. ⌜ ((i : StoredEdge) → EdgeIs x i
+    ensures { λ r. ⌜ ((i : StoredEdge) → EdgeIs edge i
         → Front (now (buf .entry)) (now (buf .exit)) r (txtOf (chars (now (line .entry))) (now (table .entry)) i)) ⌝ }
 {
-    let kind = x.kind;
+    let kind = edge.kind;
     if is_character(kind) {
-        return char_txt(buf, line, offs, table, x.record_at.0, x.start, x.end);
+        return char_txt(
+            buf,
+            line,
+            offs,
+            table,
+            edge.record_at.0,
+            edge.start,
+            edge.end,
+        );
     }
-    let value = whole::exact_u64(x.num.value);
+    let value = whole::exact_u64(edge.num.value);
     if is_row(kind) {
-        let len = x.end.0 - x.start.0;
+        let len = edge.end.0 - edge.start.0;
         whole::decimal::put_padded(buf, 0, len, value);
         return len;
     }

@@ -12,17 +12,17 @@ use pass_list::layout;
 use pass_list::run::Pass;
 
 // Whether the pass may join the edges at two offsets: where it does, these few fields say so.
-pub fn may_join(s: &[u8], a: usize, b: usize, pass: Pass) -> bool
-    requires { ⌜ (a + SIZE ≤ length (now s)) × (b + SIZE ≤ length (now s)) ⌝ }
-    ensures { λ r. ⌜ (joins (passOf pass) (begin (storedAt (now (s .entry)) a)) (storedAt (now (s .entry)) b) ≡ true → r ≡ true) ⌝ }
+pub fn may_join(list: &[u8], a: usize, b: usize, pass: Pass) -> bool
+    requires { ⌜ (a + SIZE ≤ length (now list)) × (b + SIZE ≤ length (now list)) ⌝ }
+    ensures { λ r. ⌜ (joins (passOf pass) (begin (storedAt (now (list .entry)) a)) (storedAt (now (list .entry)) b) ≡ true → r ≡ true) ⌝ }
 {
-    if fields::u16_at(s, a + layout::END_AT) != fields::u16_at(s, b) {
+    if fields::u16_at(list, a + layout::END_AT) != fields::u16_at(list, b) {
         return false;
     }
-    let l = fields::u16_at(s, a + layout::MAP_AT);
-    let r = fields::u16_at(s, b + layout::MAP_AT);
-    let base = fields::u64_at(s, a + layout::BASE_AT);
-    let next = fields::u64_at(s, b + layout::BASE_AT);
+    let l = fields::u16_at(list, a + layout::MAP_AT);
+    let r = fields::u16_at(list, b + layout::MAP_AT);
+    let base = fields::u64_at(list, a + layout::BASE_AT);
+    let next = fields::u64_at(list, b + layout::BASE_AT);
     match pass {
         Pass::D1 => (l / layout::DIGIT % 2 == 1) & (r / layout::DIGIT % 2 == 1),
         Pass::G1 => (base == 1) & (1 < next) & !(r / layout::LARGE_POWER % 2 == 1),

@@ -13,13 +13,13 @@ use pass_list::run::Pass;
 use pass_rules::chain::Chain;
 
 // Whether the pass may join the edge at an offset to a chain.
-pub fn may_take(c: Chain, s: &[u8], at: usize, pass: Pass) -> bool
-    requires { ⌜ at + SIZE ≤ length (now s) ⌝ }
-    ensures { λ r. ⌜ ((x : StoredChain) → c ≡ passChain x → joins (passOf pass) x (storedAt (now (s .entry)) at) ≡ true → r ≡ true) ⌝ }
+pub fn may_take(c: Chain, list: &[u8], at: usize, pass: Pass) -> bool
+    requires { ⌜ at + SIZE ≤ length (now list) ⌝ }
+    ensures { λ r. ⌜ ((x : StoredChain) → c ≡ passChain x → joins (passOf pass) x (storedAt (now (list .entry)) at) ≡ true → r ≡ true) ⌝ }
 {
-    let start = fields::u16_at(s, at) as usize;
-    let r = fields::u16_at(s, at + layout::MAP_AT);
-    let next = fields::u64_at(s, at + layout::BASE_AT);
+    let start = fields::u16_at(list, at) as usize;
+    let r = fields::u16_at(list, at + layout::MAP_AT);
+    let next = fields::u64_at(list, at + layout::BASE_AT);
     let touches = c.edge.end.0 == start;
     match pass {
         Pass::D1 => touches & (r / layout::DIGIT % 2 == 1),

@@ -21,11 +21,11 @@ use marks::Asked;
 use text::check::PLACES;
 
 // Whether an edge is numeric, starts at a place that has a mark, and begins with a digit: few of them have to be asked for the last.
-fn is_apart(s: &[u8], at: usize, marks: &[bool; PLACES]) -> bool
-    requires { ⌜ Spanned maxChars (now s) at ⌝ }
-    ensures { λ r. ⌜ r ≡ apartBy (now (marks .entry)) (edgeAt (now (s .entry)) at) ⌝ }
+fn is_apart(work: &[u8], at: usize, marks: &[bool; PLACES]) -> bool
+    requires { ⌜ Spanned maxChars (now work) at ⌝ }
+    ensures { λ r. ⌜ r ≡ apartBy (now (marks .entry)) (edgeAt (now (work .entry)) at) ⌝ }
 {
-    let e = edge::head::edge_at(s, at);
+    let e = edge::head::edge_at(work, at);
     let txt = e.txt;
     let start = e.start;
     let from = txt.at.0;
@@ -34,84 +34,84 @@ fn is_apart(s: &[u8], at: usize, marks: &[bool; PLACES]) -> bool
     if !(edge::bit(e.map, bits::NUMERIC) & marks[place]) {
         return false;
     }
-    digits::ends::begins_with_digit(&s[from..to])
+    digits::ends::begins_with_digit(&work[from..to])
 }
 
 // The copy of an edge that stands in the listing is added, with its separator: a space if it has a fraction, else "·".
-fn add_separated(w: &mut [u8], l: Lattice, at: usize, next: usize) -> Lattice
-    requires { ⌜ ((es : List Edge) × Holds (now w) l es) × ((e : Edge) × Source (now w) (l .len) at next 2 e) ⌝ }
-    ensures { λ r. ⌜ SameBehind (now (w .entry)) (now (w .exit)) × ((es : List Edge) (e : Edge)
-        → Holds (now (w .entry)) l es → Source (now (w .entry)) (l .len) at next 2 e
-        → Holds (now (w .exit)) r (add es (copyOf e))) ⌝ }
+fn add_separated(work: &mut [u8], lattice: Lattice, at: usize, next: usize) -> Lattice
+    requires { ⌜ ((es : List Edge) × Holds (now work) lattice es) × ((e : Edge) × Source (now work) (lattice .len) at next 2 e) ⌝ }
+    ensures { λ r. ⌜ SameBehind (now (work .entry)) (now (work .exit)) × ((es : List Edge) (e : Edge)
+        → Holds (now (work .entry)) lattice es → Source (now (work .entry)) (lattice .len) at next 2 e
+        → Holds (now (work .exit)) r (add es (copyOf e))) ⌝ }
 {
-    let map = fields::u16_at(w, at);
+    let map = fields::u16_at(work, at);
     if edge::bit(map, bits::FRACTION) {
-        return lattice_add::copy::add_copy(w, l, at, next, b" ");
+        return lattice_add::copy::add_copy(work, lattice, at, next, b" ");
     }
-    lattice_add::copy::add_copy(w, l, at, next, b"\xC2\xB7")
+    lattice_add::copy::add_copy(work, lattice, at, next, b"\xC2\xB7")
 }
 
 // Where the i-th edge ends: where the next one begins, or the listing ends.
-fn end_of(w: &[u8], l: Lattice, i: usize) -> usize
-    requires { ⌜ ((es : List Edge) × Holds (now w) l es) × (l .len ≡ 0 → ⊥) × (i < l .count) ⌝ }
-    ensures { λ r. ⌜ ((es : List Edge) → Holds (now (w .entry)) l es → r ≡ offset es (i + 1)) ⌝ }
+fn end_of(work: &[u8], lattice: Lattice, i: usize) -> usize
+    requires { ⌜ ((es : List Edge) × Holds (now work) lattice es) × (lattice .len ≡ 0 → ⊥) × (i < lattice .count) ⌝ }
+    ensures { λ r. ⌜ ((es : List Edge) → Holds (now (work .entry)) lattice es → r ≡ offset es (i + 1)) ⌝ }
 {
-    if i + 1 < l.count {
-        return lattice::offset_at(w, l, i + 1);
+    if i + 1 < lattice.count {
+        return lattice::offset_at(work, lattice, i + 1);
     }
-    l.len
+    lattice.len
 }
 
 // The i-th edge is set apart, if the marks say so. The copy is made before its original turns inactive: it is active as that was.
-fn set_apart(w: &mut [u8], l: Lattice, i: usize, marks: &[bool; PLACES]) -> Lattice
-    requires { ⌜ ((n : ℕ) × (n ≤ maxChars) × ((es : List Edge) × Holds (now w) l es × (i < length es) × CallEdge n (getD es i noEdge))) ⌝ }
-    ensures { λ r. ⌜ SameBehind (now (w .entry)) (now (w .exit)) × ((n : ℕ) (es : List Edge) → n ≤ maxChars
-        → Holds (now (w .entry)) l es → i < length es → CallEdge n (getD es i noEdge)
-        → Holds (now (w .exit)) r (setApart (now (marks .entry)) es i)) ⌝ }
+fn set_apart(work: &mut [u8], lattice: Lattice, i: usize, marks: &[bool; PLACES]) -> Lattice
+    requires { ⌜ ((n : ℕ) × (n ≤ maxChars) × ((es : List Edge) × Holds (now work) lattice es × (i < length es) × CallEdge n (getD es i noEdge))) ⌝ }
+    ensures { λ r. ⌜ SameBehind (now (work .entry)) (now (work .exit)) × ((n : ℕ) (es : List Edge) → n ≤ maxChars
+        → Holds (now (work .entry)) lattice es → i < length es → CallEdge n (getD es i noEdge)
+        → Holds (now (work .exit)) r (setApart (now (marks .entry)) es i)) ⌝ }
 {
-    if l.len == 0 {
-        return l;
+    if lattice.len == 0 {
+        return lattice;
     }
-    let at = lattice::offset_at(w, l, i);
-    if !is_apart(w, at, marks) {
-        return l;
+    let at = lattice::offset_at(work, lattice, i);
+    if !is_apart(work, at, marks) {
+        return lattice;
     }
-    let next = end_of(w, l, i);
-    let added = add_separated(w, l, at, next);
+    let next = end_of(work, lattice, i);
+    let added = add_separated(work, lattice, at, next);
     if added.len == 0 {
         return added;
     }
-    lattice::turn_off(w, added, i);
+    lattice::turn_off(work, added, i);
     added
 }
 
 // All edges that are there are set apart in turn, if the marks say so. The copies are not looked at.
-fn set_all_apart(w: &mut [u8], l: Lattice, marks: &[bool; PLACES]) -> Lattice
-    requires { ⌜ ((n : ℕ) × (n ≤ maxChars) × ((es : List Edge) × Holds (now w) l es × (length es ≡ l .count) × CallEdges n es)) ⌝ }
-    ensures { λ r. ⌜ SameBehind (now (w .entry)) (now (w .exit)) × ((n : ℕ) (es : List Edge) → n ≤ maxChars
-        → Holds (now (w .entry)) l es → length es ≡ l .count → CallEdges n es
-        → Holds (now (w .exit)) r (allApart (now (marks .entry)) es 0 (length es))) ⌝ }
+fn set_all_apart(work: &mut [u8], lattice: Lattice, marks: &[bool; PLACES]) -> Lattice
+    requires { ⌜ ((n : ℕ) × (n ≤ maxChars) × ((es : List Edge) × Holds (now work) lattice es × (length es ≡ lattice .count) × CallEdges n es)) ⌝ }
+    ensures { λ r. ⌜ SameBehind (now (work .entry)) (now (work .exit)) × ((n : ℕ) (es : List Edge) → n ≤ maxChars
+        → Holds (now (work .entry)) lattice es → length es ≡ lattice .count → CallEdges n es
+        → Holds (now (work .exit)) r (allApart (now (marks .entry)) es 0 (length es))) ⌝ }
 {
-    let count = l.count;
-    let mut grown = l;
+    let count = lattice.count;
+    let mut grown = lattice;
     let mut i = 0;
     while i < count {
-        grown = set_apart(w, grown, i, marks);
+        grown = set_apart(work, grown, i, marks);
         i += 1;
     }
     grown
 }
 
 // F1: numbers that follow a digit are set apart.
-pub fn separate(w: &mut [u8], l: Lattice) -> Lattice
-    requires { ⌜ ((n : ℕ) × (n ≤ maxChars) × ((es : List Edge) × Holds (now w) l es × CallEdges n es)) ⌝ }
-    ensures { λ r. ⌜ SameBehind (now (w .entry)) (now (w .exit)) × ((n : ℕ) (es : List Edge) → n ≤ maxChars
-        → Holds (now (w .entry)) l es → CallEdges n es → Holds (now (w .exit)) r (separate es)) ⌝ }
+pub fn separate(work: &mut [u8], lattice: Lattice) -> Lattice
+    requires { ⌜ ((n : ℕ) × (n ≤ maxChars) × ((es : List Edge) × Holds (now work) lattice es × CallEdges n es)) ⌝ }
+    ensures { λ r. ⌜ SameBehind (now (work .entry)) (now (work .exit)) × ((n : ℕ) (es : List Edge) → n ≤ maxChars
+        → Holds (now (work .entry)) lattice es → CallEdges n es → Holds (now (work .exit)) r (separate es)) ⌝ }
 {
-    if l.len == 0 {
-        return l;
+    if lattice.len == 0 {
+        return lattice;
     }
     let mut marks = [false; PLACES];
-    marks::mark_places(w, l, Asked::DigitEnds, &mut marks);
-    set_all_apart(w, l, &marks)
+    marks::mark_places(work, lattice, Asked::DigitEnds, &mut marks);
+    set_all_apart(work, lattice, &marks)
 }

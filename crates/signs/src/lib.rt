@@ -25,53 +25,62 @@ ghost use Rattle.signs.specs.SignsOf.{signsOf};
 
 // The edges for the signs before a stored edge: only where it has a value, minus before plus. None stands before the line's first place.
 fn add_edge_signs(
-    w: &mut [u8],
-    l: Lattice,
+    work: &mut [u8],
+    lattice: Lattice,
     line: &[u8],
     offs: &[usize; PLACES],
     table: &[u8],
-    h: Shape,
-    x: PassEdge,
+    shape: Shape,
+    edge: PassEdge,
 ) -> Lattice
-    requires { ⌜ ((es : List Edge) × Holds (now w) l es) × Offsets (now line) (now offs)
-        × ((i : StoredEdge) × StoredIs (now line) (now table) x i) × ((n : ℕ) × Ready (now line) (now table) h n) ⌝ }
-    ensures { λ r. ⌜ SameBehind (now (w .entry)) (now (w .exit)) × ((es : List Edge) (i : StoredEdge)
-        → Holds (now (w .entry)) l es → EdgeIs x i
-        → Holds (now (w .exit)) r (addAll es (signsOf (tableOf (now (table .entry)) h) (chars (now (line .entry))) (edgeOf (chars (now (line .entry))) (now (table .entry)) i)))) ⌝ }
+    requires { ⌜ ((es : List Edge) × Holds (now work) lattice es) × Offsets (now line) (now offs)
+        × ((i : StoredEdge) × StoredIs (now line) (now table) edge i) × ((n : ℕ) × Ready (now line) (now table) shape n) ⌝ }
+    ensures { λ r. ⌜ SameBehind (now (work .entry)) (now (work .exit)) × ((es : List Edge) (i : StoredEdge)
+        → Holds (now (work .entry)) lattice es → EdgeIs edge i
+        → Holds (now (work .exit)) r (addAll es (signsOf (tableOf (now (table .entry)) shape) (chars (now (line .entry))) (edgeOf (chars (now (line .entry))) (now (table .entry)) i)))) ⌝ }
 {
-    if x.start.0 == 0 {
-        return l;
+    if edge.start.0 == 0 {
+        return lattice;
     }
-    if x.num.has_value {
-        let minus = crate::edges::add_signs_of(w, l, line, offs, table, h.minus, x, b'-');
-        return crate::edges::add_signs_of(w, minus, line, offs, table, h.plus, x, b'+');
+    if edge.num.has_value {
+        let minus = crate::edges::add_signs_of(
+            work,
+            lattice,
+            line,
+            offs,
+            table,
+            shape.minus,
+            edge,
+            b'-',
+        );
+        return crate::edges::add_signs_of(work, minus, line, offs, table, shape.plus, edge, b'+');
     }
-    l
+    lattice
 }
 
-// G6: the edges for the signs before the n stored edges of the pass list after G4.
+// G6: the edges for the signs before the stored edges of the pass list after G4.
 pub fn add_signs(
-    w: &mut [u8],
-    l: Lattice,
+    work: &mut [u8],
+    lattice: Lattice,
     line: &[u8],
     offs: &[usize; PLACES],
     table: &[u8],
-    h: Shape,
-    n: usize,
+    shape: Shape,
+    stored: usize,
 ) -> Lattice
-    requires { ⌜ ((es : List Edge) × Holds (now w) l es) × Offsets (now line) (now offs)
-        × ((m : ℕ) × Ready (now line) (now table) h m)
-        × AllGrounded (chars (now line)) (now table) (storedListAt (drop END (now w)) 0 n)
-        × (END + n * SIZE ≤ length (now w)) ⌝ }
-    ensures { λ r. ⌜ SameBehind (now (w .entry)) (now (w .exit)) × ((es : List Edge) → Holds (now (w .entry)) l es
-        → Holds (now (w .exit)) r (addAll es (signs (tableOf (now (table .entry)) h) (chars (now (line .entry))) (map (edgeOf (chars (now (line .entry))) (now (table .entry))) (storedListAt (drop END (now (w .entry))) 0 n))))) ⌝ }
+    requires { ⌜ ((es : List Edge) × Holds (now work) lattice es) × Offsets (now line) (now offs)
+        × ((m : ℕ) × Ready (now line) (now table) shape m)
+        × AllGrounded (chars (now line)) (now table) (storedListAt (drop END (now work)) 0 stored)
+        × (END + stored * SIZE ≤ length (now work)) ⌝ }
+    ensures { λ r. ⌜ SameBehind (now (work .entry)) (now (work .exit)) × ((es : List Edge) → Holds (now (work .entry)) lattice es
+        → Holds (now (work .exit)) r (addAll es (signs (tableOf (now (table .entry)) shape) (chars (now (line .entry))) (map (edgeOf (chars (now (line .entry))) (now (table .entry))) (storedListAt (drop END (now (work .entry))) 0 stored))))) ⌝ }
 {
     let list = lattice::END;
-    let mut grown = l;
+    let mut grown = lattice;
     let mut i = 0;
-    while i < n {
-        let x = pass_list::read::read_edge(&w[list..], i * SIZE);
-        grown = add_edge_signs(w, grown, line, offs, table, h, x);
+    while i < stored {
+        let x = pass_list::read::read_edge(&work[list..], i * SIZE);
+        grown = add_edge_signs(work, grown, line, offs, table, shape, x);
         i += 1;
     }
     grown

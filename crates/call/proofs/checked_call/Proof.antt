@@ -29,24 +29,24 @@ abbrev start : tie.After-run-first-stages → tie.Start
 start p = p .before .before .before .before .before .before .before
 
 abbrev T : tie.Start → Table
-T s = tableOf (s .args .table .now) (s .args .h)
+T s = tableOf (s .args .table .now) (s .args .shape)
 
 abbrev of-call : tie.After-run-last-stages → tie.After-m
 of-call a = a .before .before .before
 
 -- what the passes answered
-answered : (p : tie.After-run-first-stages) (r : PassesAnswer) → p .run-first-stages .result ≡ r → CallPassed (start p .args .line .now) (start p .args .table .now) (start p .args .h) (start p .args .edges .now) (p .run-first-stages .last .0) r
-answered p r e = subst (CallPassed (start p .args .line .now) (start p .args .table .now) (start p .args .h) (start p .args .edges .now) (p .run-first-stages .last .0)) e (p .run-first-stages .ensures)
+answered : (p : tie.After-run-first-stages) (r : PassesAnswer) → p .run-first-stages .result ≡ r → CallPassed (start p .args .line .now) (start p .args .table .now) (start p .args .shape) (start p .args .edges .now) (p .run-first-stages .last .0) r
+answered p r e = subst (CallPassed (start p .args .line .now) (start p .args .table .now) (start p .args .shape) (start p .args .edges .now) (p .run-first-stages .last .0)) e (p .run-first-stages .ensures)
 
 done : (m : tie.After-m) → let p = m .before .before .before .before in
-    CallDone (start p .args .line .now) (start p .args .table .now) (start p .args .h) (start p .args .edges .now) (p .run-first-stages .last .0) (m .m .given .0 .0) (m .m .given .0 .1 .0)
+    CallDone (start p .args .line .now) (start p .args .table .now) (start p .args .shape) (start p .args .edges .now) (p .run-first-stages .last .0) (m .m .given .0 .0) (m .m .given .0 .1 .0)
 unfolding CallPassed
 done m = answered (m .before .before .before .before) _ (m .m .given .1)
 
 few : (m : tie.After-m) → length (chars (start (m .before .before .before .before) .args .line .now)) ≤ 256
 few m = let r = start (m .before .before .before .before) .pre .2 .ready in omega (arith, r .few, r .count)
 
-in-line : (m : tie.After-m) (es : List Edge) → CallEdges (length (chars (start (m .before .before .before .before) .args .line .now))) es → CallEdges (start (m .before .before .before .before) .args .n) es
+in-line : (m : tie.After-m) (es : List Edge) → CallEdges (length (chars (start (m .before .before .before .before) .args .line .now))) es → CallEdges (start (m .before .before .before .before) .args .places) es
 in-line m es q = subst (λ (n : ℕ). CallEdges n es) (start (m .before .before .before .before) .pre .2 .ready .count) q
 
 -- the finished lattice
@@ -62,7 +62,7 @@ final a =
     (a .run-last-stages .ensures es (d .holds) (in-line m es (d .call)))
 
 run-first-stages-requires : tie.Need-run-first-stages-requires
-run-first-stages-requires c κs = let s = c .before .before .before .before .before .before in (s .pre .0, s .pre .1, (s .args .n, s .pre .2 .ready, s .pre .2 .edges), s .pre .3)
+run-first-stages-requires c κs = let s = c .before .before .before .before .before .before in (s .pre .0, s .pre .1, (s .args .places, s .pre .2 .ready, s .pre .2 .edges), s .pre .3)
 
 enum-known-p : tie.Need-enum-known-p
 enum-known-p c = search needs

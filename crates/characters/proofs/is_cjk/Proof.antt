@@ -30,7 +30,7 @@ same-bytes-requires c κs = search needs
 
 returns : tie.Need-returns
 unfolding part
-returns c = let a = c .before .before .before .before .before .args in let e : a .p .at .0 + a .p .len - a .p .at .0 ≡ a .p .len = omega arith in c .same-bytes .ensures ∙ ap (λ (n : ℕ). same (take n (drop (a .p .at .0) (a .table .now))) cjk) e
+returns c = let a = c .before .before .before .before .before .args in let e : a .script .at .0 + a .script .len - a .script .at .0 ≡ a .script .len = omega arith in c .same-bytes .ensures ∙ ap (λ (n : ℕ). same (take n (drop (a .script .at .0) (a .table .now))) cjk) e
 
 pub is-cjk-spec : {M : Type 1} → statement M
 is-cjk-spec =

@@ -22,11 +22,11 @@ outcome-at-requires c κs =
     let few = r .few in
     let p = s .pre .3 in
     let e = ap sizeOf (c .marker-at .ensures) in
-    (s .pre .2, omega (arith, marker-fits w (s .args .p .0) (omega arith) (tableOf (s .args .table .now) (s .args .h))))
+    (s .pre .2, omega (arith, marker-fits w (s .args .place .0) (omega arith) (tableOf (s .args .table .now) (s .args .shape))))
 
 returns : tie.Need-returns
 unfolding outcomeAt
-returns c = λ es a. let m = c .outcome-at .ensures es a in (m .0 ∙ ap (byMarker es (c .before .before .before .before .before .args .p .0)) (c .before .marker-at .ensures), m .1)
+returns c = λ es a. let m = c .outcome-at .ensures es a in (m .0 ∙ ap (byMarker es (c .before .before .before .before .before .args .place .0)) (c .before .marker-at .ensures), m .1)
 
 pub choice-at-spec : {M : Type 1} → statement M
 choice-at-spec = tie.close (tie.spec marker-at-requires outcome-at-requires returns)

@@ -6,8 +6,8 @@ use borrow.Author.Needs.{needs}
 use Rattle.fraction_choices.proofs.choose.Statement.{statement}
 use Rattle.fraction_choices.proofs.choose.Tie as tie
 
-around : (c : tie.After-neighbors2) {es : List Edge} → HoldsLine (c .before .before .before .before .before .before .before .args .w .now) (c .before .before .before .before .before .before .before .args .l) es
-    → HoldsNeighbors (c .before .before .before .before .before .before .before .args .w .now) (c .before .before .before .before .before .before .before .args .l) (c .before .before .neighbors .last .1 .1 .1 .0) (c .neighbors2 .last .1 .1 .1 .0) es
+around : (c : tie.After-neighbors2) {es : List Edge} → HoldsLine (c .before .before .before .before .before .before .before .args .work .now) (c .before .before .before .before .before .before .before .args .lattice) es
+    → HoldsNeighbors (c .before .before .before .before .before .before .before .args .work .now) (c .before .before .before .before .before .before .before .args .lattice) (c .before .before .neighbors .last .1 .1 .1 .0) (c .neighbors2 .last .1 .1 .1 .0) es
 around c k = record { keeps = k; left = c .before .before .neighbors .ensures _ k; right = c .neighbors2 .ensures _ k }
 
 neighbors-requires : tie.Need-neighbors-requires

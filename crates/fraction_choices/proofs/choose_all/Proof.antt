@@ -21,7 +21,7 @@ loop-holds : tie.Need-loop-holds Inv-loop μ-loop
 loop-holds c = let p = c .before .before .before .pre in chosen-start _ _ _ _ _ _ _ (p .3) (p .4) (p .5)
 
 choice-at-requires : tie.Need-choice-at-requires Inv-loop μ-loop
-choice-at-requires c κs = let s = c .before .before .before .before .before in let p = s .pre in let k = p .0 .count in let t = c .loop-test .taken in ((s .args .n, p .0), p .1, p .2, omega arith)
+choice-at-requires c κs = let s = c .before .before .before .before .before in let p = s .pre in let k = p .0 .count in let t = c .loop-test .taken in ((s .args .places, p .0), p .1, p .2, omega arith)
 
 code-of-requires : tie.Need-code-of-requires Inv-loop μ-loop
 code-of-requires c κs = search needs

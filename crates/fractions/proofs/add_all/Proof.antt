@@ -43,7 +43,7 @@ add-choice-requires c κs =
     let i = k .before .before .before .before in
     let s = i .before .before .before in
     let t = i .loop-test .taken in
-    ((s .args .n, rw (k .choice-of .ensures) (grown-next (i .before .loop .inv) t (s .pre .0 .1))), omega (arith, s .pre .1))
+    ((s .args .places, rw (k .choice-of .ensures) (grown-next (i .before .loop .inv) t (s .pre .0 .1))), omega (arith, s .pre .1))
 
 add-p : tie.Need-add-p Inv-loop μ-loop
 add-p c =

@@ -7,7 +7,7 @@ use Rattle.lattice.proofs.HoldsLaws.{kept-of}
 use Rattle.lattice.proofs.offset_at.Statement.{statement}
 use Rattle.lattice.proofs.offset_at.Tie as tie
 
-kept : (s : tie.Start) → Kept (s .args .w .now) (s .args .l .count) (s .args .l .len) (s .pre .0 .0)
+kept : (s : tie.Start) → Kept (s .args .work .now) (s .args .lattice .count) (s .args .lattice .len) (s .pre .0 .0)
 kept s = kept-of (s .pre .0 .1) (s .pre .1)
 
 mul-u16-at : tie.Need-mul-u16-at

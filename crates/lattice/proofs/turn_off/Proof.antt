@@ -42,8 +42,8 @@ returns c =
     let u = m .before in
     let o = u .before .before in
     let s = start o in
-    let w = s .args .w .now in
-    let l = s .args .l in
+    let w = s .args .work .now in
+    let l = s .args .lattice in
     let i = s .args .i in (
       turned-frame {w = w} {l = l} {es = s .pre .0 .0} (s .pre .0 .1) (s .pre .1) i (s .pre .2) {at = o .offset-at .result} {m = u .u16-at .result} {m′ = m .inactive-map .result}
           (o .offset-at .ensures (s .pre .0 .0) (s .pre .0 .1)) (u .u16-at .ensures) (m .inactive-map .ensures) {t = p .put-u16 .last .0} (p .put-u16 .ensures),

@@ -15,9 +15,9 @@ use Rattle.lattice_add.proofs.add_edge.Tie as tie
 abbrev start : tie.After-plan-add → tie.Start
 start c = c .before .before .before
 
-says : (c : tie.After-plan-add) (es : List Edge) (e : Edge) → Holds (start c .args .w .now) (start c .args .l) es → Stands (start c .args .w .now) (start c .args .l .len) (start c .args .n) (start c .args .to) e
-    → (r : Adding) → c .plan-add .result ≡ r → AddingIs (start c .args .l) es e r
-says c es e q d r p = subst (AddingIs (start c .args .l) es e) p (c .plan-add .ensures es e q d)
+says : (c : tie.After-plan-add) (es : List Edge) (e : Edge) → Holds (start c .args .work .now) (start c .args .lattice) es → Stands (start c .args .work .now) (start c .args .lattice .len) (start c .args .size) (start c .args .to) e
+    → (r : Adding) → c .plan-add .result ≡ r → AddingIs (start c .args .lattice) es e r
+says c es e q d r p = subst (AddingIs (start c .args .lattice) es e) p (c .plan-add .ensures es e q d)
 
 -- where the edge goes into a bucket
 abbrev asked : tie.After-link-arg → tie.After-plan-add
@@ -65,7 +65,7 @@ returns-3 c = let g = c .before .before .before in
     let k = asked g in
     let p = start k .pre in
     let r = link-room (p .0 .1) (p .1 .0) _ (says k _ _ (p .0 .1) (p .1 .1) _ (g .before .before .bucket .given .1)) in (
-      behind-same (start k .args .w .now) (c .before .before .link .last .0) (link-frame (start k .args .w .now) (start k .args .l .count) (start k .args .l .len) _ (r .1) (r .3) (c .before .before .link .ensures)),
+      behind-same (start k .args .work .now) (c .before .before .link .last .0) (link-frame (start k .args .work .now) (start k .args .lattice .count) (start k .args .lattice .len) _ (r .1) (r .3) (c .before .before .link .ensures)),
       λ es e q d. add-into q e _ _ _ (says k es e q d _ (g .before .before .bucket .given .1)) d (c .before .before .link .ensures),
     )
 

@@ -23,7 +23,7 @@ shared-slice-read-result-2 : tie.Need-shared-slice-read-result-2
 shared-slice-read-result-2 c = search needs
 
 returns-2 : tie.Need-returns-2
-returns-2 c e = let a = c .before .before .before .args in last-other (a .line .now) (a .end) (a .m .now) (omega arith) e
+returns-2 c e = let a = c .before .before .before .args in last-other (a .line .now) (a .end) (a .marker .now) (omega arith) e
 
 pub last-differs-spec : {M : Type 1} → statement M
 last-differs-spec =

@@ -10,7 +10,7 @@ sub-if1 : tie.Need-sub-if1
 sub-if1 c = search needs
 
 returns : tie.Need-returns
-returns c = let a = c .before .before .before .args in stands-short (a .line .now) (a .at) (a .m .now) (c .if1 .taken)
+returns c = let a = c .before .before .before .args in stands-short (a .line .now) (a .at) (a .marker .now) (c .if1 .taken)
 
 add-end : tie.Need-add-end
 add-end c = search needs
@@ -34,7 +34,7 @@ same-bytes-requires : tie.Need-same-bytes-requires
 same-bytes-requires c κs = search needs
 
 returns-3 : tie.Need-returns-3
-returns-3 c = let a = c .before .before .before .before .before .before .before .args in stands-part (a .line .now) (a .at) (a .m .now) (c .same-bytes .ensures)
+returns-3 c = let a = c .before .before .before .before .before .before .before .args in stands-part (a .line .now) (a .at) (a .marker .now) (c .same-bytes .ensures)
 
 pub stands-spec : {M : Type 1} → statement M
 stands-spec =

@@ -9,7 +9,7 @@ use Rattle.marks.proofs.mark_end.Statement.{statement}
 use Rattle.marks.proofs.mark_end.Tie as tie
 
 -- the text of the edge whose head was read is within the listing
-txt-inside : (c : tie.After-edge-at) → c .edge-at .result .txt .at .0 + c .edge-at .result .txt .len ≤ length (c .before .before .args .s .now)
+txt-inside : (c : tie.After-edge-at) → c .edge-at .result .txt .at .0 + c .edge-at .result .txt .len ≤ length (c .before .before .args .work .now)
 txt-inside c = txt-within _ _ _ _ (c .edge-at .ensures) (head-within _ _ _ (c .before .before .pre .whole))
 
 edge-at-requires : tie.Need-edge-at-requires

@@ -8,7 +8,7 @@ use Rattle.marks.proofs.ReadLaws.{place-read, place-set, place-kept}
 use Rattle.marks.proofs.mark_place.Statement.{statement}
 use Rattle.marks.proofs.mark_place.Tie as tie
 
-inside : (s : tie.Start) → s .args .at + 10 ≤ length (s .args .s .now)
+inside : (s : tie.Start) → s .args .at + 10 ≤ length (s .args .work .now)
 inside s = head-bytes _ _ _ (s .pre .whole)
 
 u16-at-requires : tie.Need-u16-at-requires

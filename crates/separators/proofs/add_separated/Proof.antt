@@ -35,7 +35,7 @@ returns c =
     let t = a .before .before .before in
     let b = t .before in
     let u = b .before in (
-      behind-same (start u .args .w .now) (a .add-copy .last .0) (a .add-copy .ensures .0),
+      behind-same (start u .args .work .now) (a .add-copy .last .0) (a .add-copy .ensures .0),
       λ es e h q. subst (λ (z : Edge). Holds (a .add-copy .last .0) (a .add-copy .result) (add es z)) (copy-space q (u .u16-at .ensures) (b .bit .ensures) (t .if1 .taken)) (a .add-copy .ensures .1 es e h (source-less (omega arith) q)),
     )
 
@@ -54,7 +54,7 @@ returns-2 c =
     let t = a .before .before .before in
     let b = t .before in
     let u = b .before in (
-      behind-same (start u .args .w .now) (a .add-copy2 .last .0) (a .add-copy2 .ensures .0),
+      behind-same (start u .args .work .now) (a .add-copy2 .last .0) (a .add-copy2 .ensures .0),
       λ es e h q. subst (λ (z : Edge). Holds (a .add-copy2 .last .0) (a .add-copy2 .result) (add es z)) (copy-dot q (u .u16-at .ensures) (b .bit .ensures) (t .if1 .left)) (a .add-copy2 .ensures .1 es e h q),
     )
 

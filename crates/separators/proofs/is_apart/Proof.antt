@@ -10,7 +10,7 @@ use Rattle.separators.proofs.is_apart.Statement.{statement}
 use Rattle.separators.proofs.is_apart.Tie as tie
 
 -- the text of the edge whose head was read is within the listing
-txt-inside : (c : tie.After-edge-at) → c .edge-at .result .txt .at .0 + c .edge-at .result .txt .len ≤ length (c .before .before .args .s .now)
+txt-inside : (c : tie.After-edge-at) → c .edge-at .result .txt .at .0 + c .edge-at .result .txt .len ≤ length (c .before .before .args .work .now)
 txt-inside c = txt-within _ _ _ _ (c .edge-at .ensures) (head-within _ _ _ (c .before .before .pre .whole))
 
 abbrev head : tie.After-bit → tie.After-edge-at

@@ -35,7 +35,7 @@ returns-2 c =
     let m = a .before .before .before in
     let e = m .before .before .before in
     let marks = m .mark-places .last .1 .1 .1 .0 in (
-      behind-same (e .before .before .before .args .w .now) (a .set-all-apart .last .0) (a .set-all-apart .ensures .0),
+      behind-same (e .before .before .before .args .work .now) (a .set-all-apart .last .0) (a .set-all-apart .ensures .0),
       λ n es few q d. subst (Holds (a .set-all-apart .last .0) (a .set-all-apart .result))
           (all-separate marks few es (λ p h. m .mark-places .ensures n es few q (call-legals d) p h ∙ ends-agree es p (call-legals d)) (call-legals d))
           (a .set-all-apart .ensures .1 n es few q (kept-of q (e .if1 .left) .count) d),

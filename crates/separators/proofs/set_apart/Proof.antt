@@ -34,7 +34,7 @@ abbrev looked : tie.After-add-separated → tie.After-is-apart
 looked c = told c .before
 
 -- what the addition leaves
-added : (a : tie.After-add-separated) (n : ℕ) (es : List Edge) → Holds (start (looked a) .args .w .now) (start (looked a) .args .l) es → start (looked a) .args .i < length es → CallEdge n (getD es (start (looked a) .args .i) noEdge)
+added : (a : tie.After-add-separated) (n : ℕ) (es : List Edge) → Holds (start (looked a) .args .work .now) (start (looked a) .args .lattice) es → start (looked a) .args .i < length es → CallEdge n (getD es (start (looked a) .args .i) noEdge)
     → Holds (a .add-separated .last .0) (a .add-separated .result) (add es (copyOf (getD es (start (looked a) .args .i) noEdge)))
 added a n es q x call =
     let k = looked a in
@@ -42,7 +42,7 @@ added a n es q x call =
     a .add-separated .ensures .1 es _ q (apart-source q _ x (left k .if1 .left) call (o .offset-at .ensures es q) (start k .args .marks .now) (k .is-apart .ensures) (not-false _ (told a .if2 .left)) (ended a .end-of .ensures es q))
 
 -- the edge turned off is the edge set apart
-turned : (a : tie.After-add-separated) (w : List ℕ) (l : Lattice) (n : ℕ) (es : List Edge) → Holds (start (looked a) .args .w .now) (start (looked a) .args .l) es → start (looked a) .args .i < length es → CallEdge n (getD es (start (looked a) .args .i) noEdge)
+turned : (a : tie.After-add-separated) (w : List ℕ) (l : Lattice) (n : ℕ) (es : List Edge) → Holds (start (looked a) .args .work .now) (start (looked a) .args .lattice) es → start (looked a) .args .i < length es → CallEdge n (getD es (start (looked a) .args .i) noEdge)
     → Holds w l (turnOffAt (add es (copyOf (getD es (start (looked a) .args .i) noEdge))) (start (looked a) .args .i)) → Holds w l (setApart (start (looked a) .args .marks .now) es (start (looked a) .args .i))
 turned a w l n es q x call h =
     let k = looked a in
@@ -85,7 +85,7 @@ same-length-2 c = search needs
 returns-3 : tie.Need-returns-3
 returns-3 c =
     let a = c .before .before .before .before in
-    (behind-same (start (looked a) .args .w .now) (a .add-separated .last .0) (a .add-separated .ensures .0), λ n es few q x call. turned a (a .add-separated .last .0) (a .add-separated .result) n es q x call (full-turned _ (c .if3 .taken) (added a n es q x call)))
+    (behind-same (start (looked a) .args .work .now) (a .add-separated .last .0) (a .add-separated .ensures .0), λ n es few q x call. turned a (a .add-separated .last .0) (a .add-separated .result) n es q x call (full-turned _ (c .if3 .taken) (added a n es q x call)))
 
 turn-off-requires : tie.Need-turn-off-requires
 turn-off-requires c κs =
@@ -102,7 +102,7 @@ returns-4 : tie.Need-returns-4
 returns-4 c =
     let f = c .before .before in
     let a = f .before .before .before .before .before .before in (
-      behind-twice (start (looked a) .args .w .now) (a .add-separated .last .0) (f .turn-off .last .0) (f .turn-off .ensures .0) (a .add-separated .ensures .0),
+      behind-twice (start (looked a) .args .work .now) (a .add-separated .last .0) (f .turn-off .last .0) (f .turn-off .ensures .0) (a .add-separated .ensures .0),
       λ n es few q x call. turned a (f .turn-off .last .0) (a .add-separated .result) n es q x call (f .turn-off .ensures .1 _ (added a n es q x call)),
     )
 

@@ -20,29 +20,29 @@ use Rattle.signs.proofs.add_edge_signs.Statement.{statement}
 use Rattle.signs.proofs.add_edge_signs.Tie as tie
 
 -- the lists of signs are well-formed, and the line has few characters
-marks : (a : tie.Start) → Marks (tableOf (a .args .table .now) (a .args .h))
+marks : (a : tie.Start) → Marks (tableOf (a .args .table .now) (a .args .shape))
 marks a = table-marks (a .args .table .now) (a .pre .3 .1 .checked)
 
 few : (a : tie.Start) → length (chars (a .args .line .now)) ≤ 256
 few a = let r = a .pre .3 .1 in omega arith
 
-minus-formed : (a : tie.Start) → Formed (listAt (a .args .table .now) (a .args .h .minus))
+minus-formed : (a : tie.Start) → Formed (listAt (a .args .table .now) (a .args .shape .minus))
 unfolding tableOf
 minus-formed a = all-formed _ (marks a .minus)
 
-plus-formed : (a : tie.Start) → Formed (listAt (a .args .table .now) (a .args .h .plus))
+plus-formed : (a : tie.Start) → Formed (listAt (a .args .table .now) (a .args .shape .plus))
 unfolding tableOf
 plus-formed a = all-formed _ (marks a .plus)
 
 -- the edges for the minus signs before the stored edge i
 abbrev minus : tie.Start → StoredEdge → List Edge
-minus a i = let w = chars (a .args .line .now) in let t = a .args .table .now in signed w 45 (edgeOf w t i) (listAt t (a .args .h .minus))
+minus a i = let w = chars (a .args .line .now) in let t = a .args .table .now in signed w 45 (edgeOf w t i) (listAt t (a .args .shape .minus))
 
 returns : tie.Need-returns
 returns c =
     let s = c .before .before .before .before .before in
     let a = s .args in
-    (refl, λ es i q e. first-holds (chars (a .line .now)) (a .table .now) (a .h) e (c .if1 .taken) (marks s) es q)
+    (refl, λ es i q e. first-holds (chars (a .line .now)) (a .table .now) (a .shape) e (c .if1 .taken) (marks s) es q)
 
 add-signs-of-requires : tie.Need-add-signs-of-requires
 add-signs-of-requires c κs =
@@ -67,10 +67,10 @@ returns-2 c =
     let then = k .before .before in
     let s = then .before .before .before .before .before .before in
     let a = s .args in
-    (two .frame ∙ one .frame, λ es i q e. both-holds (chars (a .line .now)) (a .table .now) (a .h) e (then .if2 .taken) es (two .holds (addAll es (minus s i)) i (one .holds es i q e) e))
+    (two .frame ∙ one .frame, λ es i q e. both-holds (chars (a .line .now)) (a .table .now) (a .shape) e (then .if2 .taken) es (two .holds (addAll es (minus s i)) i (one .holds es i q e) e))
 
 returns-3 : tie.Need-returns-3
-returns-3 c = let a = c .before .before .before .before .before .before .args in (refl, λ es i q e. none-holds (chars (a .line .now)) (a .table .now) (a .h) e (c .if2 .left) es q)
+returns-3 c = let a = c .before .before .before .before .before .before .args in (refl, λ es i q e. none-holds (chars (a .line .now)) (a .table .now) (a .shape) e (c .if2 .left) es q)
 
 pub add-edge-signs-spec : {M : Type 1} → statement M
 add-edge-signs-spec =

@@ -32,19 +32,19 @@ abbrev μ-loop : tie.MeasureT-loop
 μ-loop w₀ line offs table h n list grown₀ i₀ w grown i = n - i
 
 -- the pass list stands where it stood
-list-is : (c : tie.In-loop Inv-loop μ-loop) → let w = c .before .loop .w in take (length w - END) (drop END w) ≡ drop END (c .before .before .before .before .before .args .w .now)
-list-is c = part-to-end (c .before .loop .w) END ∙ c .before .loop .inv .0 .frame
+list-is : (c : tie.In-loop Inv-loop μ-loop) → let w = c .before .loop .work in take (length w - END) (drop END w) ≡ drop END (c .before .before .before .before .before .args .work .now)
+list-is c = part-to-end (c .before .loop .work) END ∙ c .before .loop .inv .0 .frame
 
 -- the stored edge of this turn is sound, and so are the others
-here : (c : tie.In-loop Inv-loop μ-loop) → let a = c .before .before .before .before .before .args in let s = drop END (a .w .now) in let i = c .before .loop .i in
-    Grounded (chars (a .line .now)) (a .table .now) (storedAt s (i * SIZE)) × AllGrounded (chars (a .line .now)) (a .table .now) (storedListAt s (i + 1) (a .n - (i + 1)))
+here : (c : tie.In-loop Inv-loop μ-loop) → let a = c .before .before .before .before .before .args in let s = drop END (a .work .now) in let i = c .before .loop .i in
+    Grounded (chars (a .line .now)) (a .table .now) (storedAt s (i * SIZE)) × AllGrounded (chars (a .line .now)) (a .table .now) (storedListAt s (i + 1) (a .stored - (i + 1)))
 here c = sounds-next _ _ _ _ _ (c .loop-test .taken) (c .before .loop .inv .1)
 
-room : (c : tie.In-loop Inv-loop μ-loop) → END + c .before .before .before .before .before .args .n * SIZE ≤ length (c .before .loop .w)
+room : (c : tie.In-loop Inv-loop μ-loop) → END + c .before .before .before .before .before .args .stored * SIZE ≤ length (c .before .loop .work)
 room c = omega (arith, c .before .loop .inv .0 .long, c .before .before .before .before .before .pre .4)
 
 -- what was read is this turn's stored edge
-read-is : (c : tie.After-read-edge Inv-loop μ-loop) → EdgeIs (c .read-edge .result) (storedAt (drop END (c .before .before .before .before .before .before .before .before .args .w .now)) (c .before .before .before .before .loop .i * SIZE))
+read-is : (c : tie.After-read-edge Inv-loop μ-loop) → EdgeIs (c .read-edge .result) (storedAt (drop END (c .before .before .before .before .before .before .before .before .args .work .now)) (c .before .before .before .before .loop .i * SIZE))
 read-is c = subst (λ (s : List ℕ). EdgeIs (c .read-edge .result) (storedAt s (c .before .before .before .before .loop .i * SIZE))) (list-is (c .before .before .before)) (c .read-edge .ensures)
 
 loop-holds : tie.Need-loop-holds Inv-loop μ-loop
@@ -66,7 +66,7 @@ read-edge-requires : tie.Need-read-edge-requires Inv-loop μ-loop
 read-edge-requires c κs =
     let l = c .before .before in
     let i = l .before .loop .i in
-    (omega (arith, room l, l .loop-test .taken, behind-length END (l .before .loop .w)), subst (λ (s : List ℕ). Small (storedAt s (i * SIZE))) (sym (list-is l)) (here l .0 .small))
+    (omega (arith, room l, l .loop-test .taken, behind-length END (l .before .loop .work)), subst (λ (s : List ℕ). Small (storedAt s (i * SIZE))) (sym (list-is l)) (here l .0 .small))
 
 add-edge-signs-requires : tie.Need-add-edge-signs-requires Inv-loop μ-loop
 add-edge-signs-requires c κs =
@@ -90,8 +90,8 @@ loop-again c =
     let a = l .before .before .before .before .before .args in
     let i = l .before .loop .i in
     let w = chars (a .line .now) in
-    let edges = signsOf (tableOf (a .table .now) (a .h)) w (edgeOf w (a .table .now) (storedAt (drop END (a .w .now)) (i * SIZE))) in
-    (toward-next (l .before .loop .inv .0) edges (rest-next (tableOf (a .table .now) (a .h)) (chars (a .line .now)) (a .table .now) (drop END (a .w .now)) (a .n) i (l .loop-test .taken)) (k .add-edge-signs .kept .0) (k .add-edge-signs .ensures .0) (λ es q. k .add-edge-signs .ensures .1 es (storedAt (drop END (a .w .now)) (i * SIZE)) q (read-is g)), here l .1, omega (arith, l .loop-test .taken))
+    let edges = signsOf (tableOf (a .table .now) (a .shape)) w (edgeOf w (a .table .now) (storedAt (drop END (a .work .now)) (i * SIZE))) in
+    (toward-next (l .before .loop .inv .0) edges (rest-next (tableOf (a .table .now) (a .shape)) (chars (a .line .now)) (a .table .now) (drop END (a .work .now)) (a .stored) i (l .loop-test .taken)) (k .add-edge-signs .kept .0) (k .add-edge-signs .ensures .0) (λ es q. k .add-edge-signs .ensures .1 es (storedAt (drop END (a .work .now)) (i * SIZE)) q (read-is g)), here l .1, omega (arith, l .loop-test .taken))
 
 same-length : tie.Need-same-length Inv-loop μ-loop
 same-length c = c .before .loop .inv .0 .long
@@ -100,7 +100,7 @@ returns : tie.Need-returns Inv-loop μ-loop
 returns c =
     let a = c .before .before .before .before .before .args in
     let t = c .before .loop .inv .0 in
-    (t .frame, toward-end t (rest-end (tableOf (a .table .now) (a .h)) (chars (a .line .now)) (a .table .now) (drop END (a .w .now)) (a .n) (c .before .loop .i) (c .loop-test .left)))
+    (t .frame, toward-end t (rest-end (tableOf (a .table .now) (a .shape)) (chars (a .line .now)) (a .table .now) (drop END (a .work .now)) (a .stored) (c .before .loop .i) (c .loop-test .left)))
 
 pub add-signs-spec : {M : Type 1} → statement M
 add-signs-spec =

@@ -32,24 +32,24 @@ made a = a .before .before .before .before
 
 -- the table, the line's characters and the list after G4
 abbrev T : tie.After-add-signs → Table
-T a = tableOf (start (made a) .args .table .now) (start (made a) .args .h)
+T a = tableOf (start (made a) .args .table .now) (start (made a) .args .shape)
 
 abbrev W : tie.After-add-signs → List ℕ
 W a = chars (start (made a) .args .line .now)
 
 abbrev Fifth : tie.After-add-signs → List NumEdge
-Fifth a = map (edgeOf (W a) (start (made a) .args .table .now)) (behind (start (made a) .args .w .now) (start (made a) .args .k))
+Fifth a = map (edgeOf (W a) (start (made a) .args .table .now)) (behind (start (made a) .args .work .now) (start (made a) .args .stored))
 
 -- the list stays where it is
-moved : (f : tie.After-fractions) → behind (f .fractions .last .0) (start f .args .k) ≡ behind (start f .args .w .now) (start f .args .k)
-moved f = ap (λ (b : List ℕ). storedListAt b 0 (start f .args .k)) (f .fractions .ensures .0)
+moved : (f : tie.After-fractions) → behind (f .fractions .last .0) (start f .args .stored) ≡ behind (start f .args .work .now) (start f .args .stored)
+moved f = ap (λ (b : List ℕ). storedListAt b 0 (start f .args .stored)) (f .fractions .ensures .0)
 
 -- the lattice with signs
-signed : (a : tie.After-add-signs) (es : List Edge) → Holds (start (made a) .args .w .now) (start (made a) .args .l) es → CallEdges (start (made a) .args .n) es
+signed : (a : tie.After-add-signs) (es : List Edge) → Holds (start (made a) .args .work .now) (start (made a) .args .lattice) es → CallEdges (start (made a) .args .places) es
     → Holds (a .add-signs .last .0) (a .add-signs .result) (withSigns (T a) (W a) (Fifth a) es)
-signed a es q d = signs-moved (T a) (W a) (start (made a) .args .table .now) (made a .fractions .last .0) (start (made a) .args .w .now) (start (made a) .args .k) (made a .fractions .ensures .0) (fractions (T a) (W a) es) (a .add-signs .ensures .1 _ (made a .fractions .ensures .1 es q d))
+signed a es q d = signs-moved (T a) (W a) (start (made a) .args .table .now) (made a .fractions .last .0) (start (made a) .args .work .now) (start (made a) .args .stored) (made a .fractions .ensures .0) (fractions (T a) (W a) es) (a .add-signs .ensures .1 _ (made a .fractions .ensures .1 es q d))
 
-signed-call : (a : tie.After-add-signs) (es : List Edge) → CallEdges (start (made a) .args .n) es → CallEdges (start (made a) .args .n) (withSigns (T a) (W a) (Fifth a) es)
+signed-call : (a : tie.After-add-signs) (es : List Edge) → CallEdges (start (made a) .args .places) es → CallEdges (start (made a) .args .places) (withSigns (T a) (W a) (Fifth a) es)
 signed-call a es d = let p = start (made a) .pre in add-signs-call (T a) (W a) (Fifth a) (fractions-call (T a) (W a) es (p .0 .few) d) (p .4)
 
 fractions-requires : tie.Need-fractions-requires
@@ -63,7 +63,7 @@ add-signs-requires c κs = let f = c .before .before .before in
 separate-requires : tie.Need-separate-requires
 separate-requires c κs = let a = c .before .before .before in
     let p = start (made a) .pre in
-    (start (made a) .args .n, p .0 .few, (_, signed a (p .1 .0) (p .1 .1) (p .1 .2), signed-call a (p .1 .0) (p .1 .2)))
+    (start (made a) .args .places, p .0 .few, (_, signed a (p .1 .0) (p .1 .1) (p .1 .2), signed-call a (p .1 .0) (p .1 .2)))
 
 fallback-requires : tie.Need-fallback-requires
 fallback-requires c κs = let b = c .before .before .before in

@@ -9,10 +9,10 @@ lowest-requires : tie.Need-lowest-requires
 lowest-requires c κs = c .before .before .pre (c .if1 .taken)
 
 returns : tie.Need-returns
-returns c = ap some (c .lowest .ensures) ∙ fraction-there (c .before .before .before .args .p) (c .before .if1 .taken)
+returns c = ap some (c .lowest .ensures) ∙ fraction-there (c .before .before .before .args .prop) (c .before .if1 .taken)
 
 returns-2 : tie.Need-returns-2
-returns-2 c = fraction-absent (c .before .before .args .p) (c .if1 .left)
+returns-2 c = fraction-absent (c .before .before .args .prop) (c .if1 .left)
 
 pub fraction-of-spec : {M : Type 1} → statement M
 fraction-of-spec = tie.close (tie.spec lowest-requires returns returns-2)

@@ -24,7 +24,7 @@ put-and-add-requires c κs =
     let s = start at-find in
     let a = s .args in
     let f = found-told _ _ _ (at-find .find-char .ensures) (k .p .given .1) in
-    (s .pre .0, omega (arith, s .pre .3, s .pre .4, s .pre .0 .few), omega (arith, s .pre .4, s .pre .0 .few), f .inside, found-sound (a .table .now) (a .all) (s .pre .1) _ (chars-scalars (a .line .now)) (a .place .0) (a .c) (s .pre .4) (s .pre .5) _ _ f)
+    (s .pre .0, omega (arith, s .pre .3, s .pre .4, s .pre .0 .few), omega (arith, s .pre .4, s .pre .0 .few), f .inside, found-sound (a .table .now) (a .all) (s .pre .1) _ (chars-scalars (a .line .now)) (a .place .0) (a .code) (s .pre .4) (s .pre .5) _ _ f)
 
 add-t21 : tie.Need-add-t21
 add-t21 c = let s = start (c .before .before .before .before .before .before .before) in omega (arith, s .pre .3, s .pre .4, s .pre .0 .few)
@@ -44,14 +44,14 @@ returns c = λ b l₀ adding.
     let a = s .args in
     let f = found-told _ _ _ (at-find .find-char .ensures) (k .p .given .1) in
     let put = added .put-and-add in
-    adding-more (a .line .now) (a .table .now) (a .all) (s .pre .1) (a .place .0) (a .c) (s .pre .4) (s .pre .5) b l₀ (a .w .now) (a .done) adding _ _ f (put .last .0) (put .result) (put .ensures .0) (put .ensures .1)
+    adding-more (a .line .now) (a .table .now) (a .all) (s .pre .1) (a .place .0) (a .code) (s .pre .4) (s .pre .5) b l₀ (a .work .now) (a .done) adding _ _ f (put .last .0) (put .result) (put .ensures .0) (put .ensures .1)
 
 returns-2 : tie.Need-returns-2
 returns-2 c = λ b l₀ adding.
     let at-find = c .before .before in
     let s = start at-find in
     let a = s .args in
-    adding-skip (a .line .now) (a .table .now) (a .all) (s .pre .1) (a .place .0) (a .c) (s .pre .4) (s .pre .5) b l₀ (a .w .now) (a .done) adding (nothing-told _ _ _ (at-find .find-char .ensures) (c .enum-told .given .1))
+    adding-skip (a .line .now) (a .table .now) (a .all) (s .pre .1) (a .place .0) (a .code) (s .pre .4) (s .pre .5) b l₀ (a .work .now) (a .done) adding (nothing-told _ _ _ (at-find .find-char .ensures) (c .enum-told .given .1))
 
 pub add-char-spec : {M : Type 1} → statement M
 add-char-spec =

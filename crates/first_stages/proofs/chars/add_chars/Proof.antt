@@ -33,7 +33,7 @@ told : (c : tie.After-char-at Inv-loop μ-loop) → seq (drop (at-loop c .loop .
 told c = sym (c .char-at .ensures)
 
 loop-holds : tie.Need-loop-holds Inv-loop μ-loop
-loop-holds c = let a = c .before .before .before .args in (adding-none (a .line .now) (a .table .now) (recordsIn (a .table .now) (a .all)) (a .w .now) (a .l), reached-start _, refl)
+loop-holds c = let a = c .before .before .before .args in (adding-none (a .line .now) (a .table .now) (recordsIn (a .table .now) (a .all)) (a .work .now) (a .lattice), reached-start _, refl)
 
 char-at-requires : tie.Need-char-at-requires Inv-loop μ-loop
 char-at-requires c κs = let l = c .before in reached-stands _ (start l .pre .1) _ _ (l .loop .inv .1) (c .loop-test .taken)

@@ -23,7 +23,7 @@ add-chars-requires c κs =
     let s = start u in
     let p = s .pre in
     let ready = p .3 .1 in
-    let records = said-records (s .args .table .now) (s .args .h) (ready .checked) (u .u16-at .ensures) in
+    let records = said-records (s .args .table .now) (s .args .shape) (ready .checked) (u .u16-at .ensures) in
     (record { holds = p .0; offsets = p .1; few = omega (arith, ready .count, ready .few); long = p .2 }, ready .formed, records, rw (← (u .u16-at .ensures)) at (p .4) (records-whole _ _ records))
 
 same-length : tie.Need-same-length
@@ -35,7 +35,7 @@ returns c =
     let u = at-add .before .before in
     let s = start u in
     let a = s .args in
-    first-done (a .line .now) (a .table .now) (a .h) (s .pre .3 .1) (u .u16-at .ensures) (a .w .now) (a .l) (at-add .add-chars .last .0) (at-add .add-chars .result) (at-add .add-chars .ensures)
+    first-done (a .line .now) (a .table .now) (a .shape) (s .pre .3 .1) (u .u16-at .ensures) (a .work .now) (a .lattice) (at-add .add-chars .last .0) (at-add .add-chars .result) (at-add .add-chars .ensures)
 
 pub initialize-num-edges-spec : {M : Type 1} → statement M
 initialize-num-edges-spec = tie.close (tie.spec u16-at-requires cast-count add-chars-requires same-length returns)

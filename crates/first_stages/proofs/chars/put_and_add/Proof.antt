@@ -21,7 +21,7 @@ abbrev start : tie.After-char-edge → tie.Start
 start e = e .before .before .before .before
 
 abbrev stored-edge : tie.After-char-edge → StoredEdge
-stored-edge e = let a = start e .args in charStored (a .table .now) (a .p) (a .record-at .0) (a .place .0) (a .c)
+stored-edge e = let a = start e .args in charStored (a .table .now) (a .prop) (a .record-at .0) (a .place .0) (a .code)
 
 is : (e : tie.After-char-edge) → StoredIs (start e .args .line .now) (start e .args .table .now) (e .char-edge .result) (stored-edge e)
 is e = record { is = e .char-edge .ensures; sound = start e .pre .4 }
@@ -29,7 +29,7 @@ is e = record { is = e .char-edge .ensures; sound = start e .pre .4 }
 abbrev edge : tie.After-write-edge → tie.After-char-edge
 edge c = c .before .before
 
-stored : (c : tie.After-write-edge) → let a = start (edge c) .args in c .write-edge .last .0 ≡ sets (a .w .now) (END + a .n * SIZE) (recordBytes (stored-edge (edge c)))
+stored : (c : tie.After-write-edge) → let a = start (edge c) .args in c .write-edge .last .0 ≡ sets (a .work .now) (END + a .count * SIZE) (recordBytes (stored-edge (edge c)))
 stored c = c .write-edge .ensures (stored-edge (edge c)) (edge c .char-edge .ensures)
 
 char-edge-requires : tie.Need-char-edge-requires
@@ -52,12 +52,12 @@ add-char-requires c κs =
     let a = s .args in
     let room = s .pre .0 in (
       record {
-        holds = (_, stored-holds (a .w .now) (at-put .write-edge .last .0) (a .n) (stored-edge e) (stored at-put) (room .holds .1));
+        holds = (_, stored-holds (a .work .now) (at-put .write-edge .last .0) (a .count) (stored-edge e) (stored at-put) (room .holds .1));
         offsets = room .offsets;
         stored-edge = (stored-edge e, is e);
         few = room .few;
       },
-      ap (λ (x : PassEdge). kindNumber (x .kind)) (e .char-edge .ensures .is) ∙ char-kind (a .table .now) (a .p) (a .record-at .0) (a .place .0) (a .c),
+      ap (λ (x : PassEdge). kindNumber (x .kind)) (e .char-edge .ensures .is) ∙ char-kind (a .table .now) (a .prop) (a .record-at .0) (a .place .0) (a .code),
     )
 
 same-length : tie.Need-same-length
@@ -69,8 +69,8 @@ returns c =
     let at-put = at-add .before .before .before .before in
     let e = edge at-put in
     let s = start e in
-    let w = s .args .w .now in
-    let n = s .args .n in
+    let w = s .args .work .now in
+    let n = s .args .count in
     let v = at-put .write-edge .last .0 in
     let added = at-add .add-char .ensures in (
       stored-behind w v n (stored-edge e) (stored at-put) (at-add .add-char .last .0) (e .char-edge .ensures .fits) (omega (arith, s .pre .1, s .pre .0 .long)) (added .frame),

@@ -20,17 +20,17 @@ abbrev start : tie.After-kind-number → tie.Start
 start c = c .before .before .before .before .before .before
 
 abbrev stored-edge : tie.After-kind-number → StoredEdge
-stored-edge c = storedAt (drop END (start c .args .w .now)) (start c .args .i * SIZE)
+stored-edge c = storedAt (drop END (start c .args .work .now)) (start c .args .i * SIZE)
 
 kind : (c : tie.After-kind-number) → c .kind-number .result ≡ kindNumber (stored-edge c .kind)
-kind c = c .kind-number .ensures ∙ ap kindNumber (c .before .kind-at .ensures ∙ kind-behind (start c .args .w .now) (start c .args .i * SIZE))
+kind c = c .kind-number .ensures ∙ ap kindNumber (c .before .kind-at .ensures ∙ kind-behind (start c .args .work .now) (start c .args .i * SIZE))
 
 -- the stored edge, as it is decoded
 abbrev at-kind : tie.After-read-edge → tie.After-kind-number
 at-kind c = c .before .before .before
 
 is : (c : tie.After-read-edge) → let s = start (at-kind c) in StoredIs (s .args .line .now) (s .args .table .now) (c .read-edge .result) (stored-edge (at-kind c))
-is c = let s = start (at-kind c) in let a = s .args in stored-edge-behind (a .line .now) (a .table .now) (a .w .now) (a .i * SIZE) (c .read-edge .result) (s .pre .3) (c .read-edge .ensures)
+is c = let s = start (at-kind c) in let a = s .args in stored-edge-behind (a .line .now) (a .table .now) (a .work .now) (a .i * SIZE) (c .read-edge .result) (s .pre .3) (c .read-edge .ensures)
 
 mul-at : tie.Need-mul-at
 mul-at c = omega (arith, c .before .before .before .pre .4)
@@ -56,7 +56,7 @@ returns c =
 read-edge-requires : tie.Need-read-edge-requires
 read-edge-requires c κs =
     let s = start (c .before .before) in
-    (s .pre .4, subst Small (sym (stored-edge-behind-is (s .args .w .now) (s .args .i * SIZE))) (s .pre .3 .small))
+    (s .pre .4, subst Small (sym (stored-edge-behind-is (s .args .work .now) (s .args .i * SIZE))) (s .pre .3 .small))
 
 add-joined-requires : tie.Need-add-joined-requires
 add-joined-requires c κs =

@@ -24,17 +24,17 @@ at-type c = at-txt c .before .before .before
 abbrev start : tie.After-add-texts-arg → tie.Start
 start c = at-type c .before .before .before .before .before
 
-texts : (c : tie.After-add-texts-arg) → let a = start c .args in (i : StoredEdge) → StoredIs (a .line .now) (a .table .now) (a .x) i
-    → TextsAre (a .line .now) (a .table .now) (a .x) (take (at-type c .type-of .result) (at-type c .type-of .last .0)) (take (at-txt c .txt-of .result) (at-txt c .txt-of .last .0)) i
+texts : (c : tie.After-add-texts-arg) → let a = start c .args in (i : StoredEdge) → StoredIs (a .line .now) (a .table .now) (a .edge) i
+    → TextsAre (a .line .now) (a .table .now) (a .edge) (take (at-type c .type-of .result) (at-type c .type-of .last .0)) (take (at-txt c .txt-of .result) (at-txt c .txt-of .last .0)) i
 texts c =
     let s = start c in
-    joined-texts (s .args .line .now) (s .args .table .now) (s .args .x) (at-type c .type-of .ensures) refl (at-txt c .txt-of .ensures) refl (s .pre .0 .few)
+    joined-texts (s .args .line .now) (s .args .table .now) (s .args .edge) (at-type c .type-of .ensures) refl (at-txt c .txt-of .ensures) refl (s .pre .0 .few)
 
 fits : (c : tie.After-add-texts-arg) → (at-type c .type-of .result ≤ length (at-type c .type-of .last .0)) × (at-txt c .txt-of .result ≤ length (at-txt c .txt-of .last .0))
 fits c =
     let s = start c in
     let (i, is) = s .pre .0 .stored-edge in
-    let f = joined-fits (s .args .line .now) (s .args .table .now) (s .args .x) (at-type c .type-of .ensures) refl (at-txt c .txt-of .ensures) refl (s .pre .0 .few) i is in
+    let f = joined-fits (s .args .line .now) (s .args .table .now) (s .args .edge) (at-type c .type-of .ensures) refl (at-txt c .txt-of .ensures) refl (s .pre .0 .few) i is in
     (omega (arith, f .0, at-type c .type-of .kept .0), omega (arith, f .1, at-txt c .txt-of .kept .0))
 
 slice-aggregate-type-of : tie.Need-slice-aggregate-type-of
@@ -66,7 +66,7 @@ add-texts-requires c κs =
     let at-arg = c .before .before in
     let s = start at-arg in
     let p = s .pre .0 in
-    (p .holds, p .offsets, texts-there (texts at-arg) p, p .few, fraction-joined (s .args .table .now) (kindNumber (s .args .x .kind)) (s .args .x .«record_at» .0) (s .pre .1))
+    (p .holds, p .offsets, texts-there (texts at-arg) p, p .few, fraction-joined (s .args .table .now) (kindNumber (s .args .edge .kind)) (s .args .edge .«record_at» .0) (s .pre .1))
 
 same-length : tie.Need-same-length
 same-length c = c .before .before .add-texts .kept .0

@@ -15,7 +15,7 @@ abbrev μ-loop : tie.MeasureT-loop
 μ-loop w₀ line offs table n kind count₀ len₀ i₀ w count len i = n - i
 
 loop-holds : tie.Need-loop-holds Inv-loop μ-loop
-loop-holds c = let a = c .before .before .before .args in adding-none (chars (a .line .now)) (a .table .now) (a .kind) (a .n) (a .w .now) (a .l)
+loop-holds c = let a = c .before .before .before .args in adding-none (chars (a .line .now)) (a .table .now) (a .kind) (a .stored) (a .work .now) (a .lattice)
 
 add-if-requires : tie.Need-add-if-requires Inv-loop μ-loop
 add-if-requires c κs =
@@ -24,7 +24,7 @@ add-if-requires c κs =
     let a = start .args in
     let i = at-loop .loop .inv in
     let (es, h) = start .pre .0 in
-    ((_, i .holds es h), start .pre .1, start .pre .2, stored-edge-sound (chars (a .line .now)) (a .table .now) (a .kind) (a .n) (a .w .now) (a .l) _ _ (at-loop .loop .i) i (start .pre .3) (c .before .loop-test .taken), omega (arith, i .long, start .pre .4, c .before .loop-test .taken), start .pre .5)
+    ((_, i .holds es h), start .pre .1, start .pre .2, stored-edge-sound (chars (a .line .now)) (a .table .now) (a .kind) (a .stored) (a .work .now) (a .lattice) _ _ (at-loop .loop .i) i (start .pre .3) (c .before .loop-test .taken), omega (arith, i .long, start .pre .4, c .before .loop-test .taken), start .pre .5)
 
 add-i : tie.Need-add-i Inv-loop μ-loop
 add-i c = search needs
@@ -40,7 +40,7 @@ loop-again c =
     let start = at-loop .before .before .before .before in
     let a = start .args in
     let (es, h) = start .pre .0 in
-    adding-more (chars (a .line .now)) (a .table .now) (a .kind) (a .n) (a .w .now) (a .l) _ _ (at-loop .loop .i) (at-loop .loop .inv) (at-add .add-if .last .0) (at-add .add-if .result) es h (in-loop .loop-test .taken) (at-add .add-if .ensures .0) (at-add .add-if .ensures .1)
+    adding-more (chars (a .line .now)) (a .table .now) (a .kind) (a .stored) (a .work .now) (a .lattice) _ _ (at-loop .loop .i) (at-loop .loop .inv) (at-add .add-if .last .0) (at-add .add-if .result) es h (in-loop .loop-test .taken) (at-add .add-if .ensures .0) (at-add .add-if .ensures .1)
 
 same-length : tie.Need-same-length Inv-loop μ-loop
 same-length c = c .before .loop .inv .long
@@ -49,7 +49,7 @@ returns : tie.Need-returns Inv-loop μ-loop
 returns c =
     let at-loop = c .before in
     let a = at-loop .before .before .before .before .args in
-    (at-loop .loop .inv .frame, adding-all (chars (a .line .now)) (a .table .now) (a .kind) (a .n) (a .w .now) (a .l) _ _ (at-loop .loop .i) (at-loop .loop .inv) (c .loop-test .left))
+    (at-loop .loop .inv .frame, adding-all (chars (a .line .now)) (a .table .now) (a .kind) (a .stored) (a .work .now) (a .lattice) _ _ (at-loop .loop .i) (at-loop .loop .inv) (c .loop-test .left))
 
 pub add-of-kind-spec : {M : Type 1} → statement M
 add-of-kind-spec =

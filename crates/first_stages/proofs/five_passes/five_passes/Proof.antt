@@ -22,9 +22,9 @@ at-loop o = o .before .before .before
 
 -- what the pass answered
 answered : (o : tie.After-one-pass Inv-loop μ-loop) (r : PassesAnswer) → o .one-pass .result ≡ r → let a = at-loop o in let s = a .before .before .before .before .args in
-    OnePass (chars (s .line .now)) (s .table .now) (a .loop .i) (a .loop .w) (a .loop .grown) (a .loop .count) (o .one-pass .last .0) r
+    OnePass (chars (s .line .now)) (s .table .now) (a .loop .i) (a .loop .work) (a .loop .grown) (a .loop .count) (o .one-pass .last .0) r
 answered o r e = let a = at-loop o in let s = a .before .before .before .before .args in
-    subst (OnePass (chars (s .line .now)) (s .table .now) (a .loop .i) (a .loop .w) (a .loop .grown) (a .loop .count) (o .one-pass .last .0)) e (o .one-pass .ensures)
+    subst (OnePass (chars (s .line .now)) (s .table .now) (a .loop .i) (a .loop .work) (a .loop .grown) (a .loop .count) (o .one-pass .last .0)) e (o .one-pass .ensures)
 
 loop-holds : tie.Need-loop-holds Inv-loop μ-loop
 loop-holds c = (going-start (c .before .before .before .pre .4), omega arith)

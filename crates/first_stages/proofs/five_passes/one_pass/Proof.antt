@@ -28,7 +28,7 @@ returns c = let k = c .before .before in
     let b = k .before .before .before .before in
     let s = start b in
     let r = b .pass-behind in
-    one-kept (chars-scalars _) (s .pre .5) (s .pre .4) (r .last .0) (r .ensures .1) (k .k .given .1) (s .args .l) (r .ensures .0) (r .kept .0) (c .if1 .taken)
+    one-kept (chars-scalars _) (s .pre .5) (s .pre .4) (r .last .0) (r .ensures .1) (k .k .given .1) (s .args .lattice) (r .ensures .0) (r .kept .0) (c .if1 .taken)
 
 add-add-of-kind : tie.Need-add-add-of-kind
 add-add-of-kind c = search needs
@@ -41,7 +41,7 @@ add-of-kind-requires c κs = let k = c .before .before .before in
     let b = k .before .before .before .before in
     let s = start b in
     let r = b .pass-behind in (
-      (_, holds-front (s .args .w .now) (r .last .0) (r .ensures .0) (r .kept .0) (s .pre .0 .1)),
+      (_, holds-front (s .args .work .now) (r .last .0) (r .ensures .0) (r .kept .0) (s .pre .0 .1)),
       s .pre .1,
       s .pre .2,
       pass-sounds (chars-scalars _) (s .pre .5) (s .pre .4) (r .last .0) (r .ensures .1) (k .k .given .1),
@@ -66,7 +66,7 @@ returns-3 c = let a = c .before .before in
     let b = k .before .before .before .before in
     let s = start b in
     let r = b .pass-behind in
-    one-added (chars-scalars _) (s .pre .5) (s .pre .4) (r .last .0) (r .ensures .1) (k .k .given .1) (s .args .l) (a .add-of-kind .last .0) (a .add-of-kind .result) (r .ensures .0) (r .kept .0) (a .add-of-kind .ensures .0) (a .add-of-kind .ensures .1)
+    one-added (chars-scalars _) (s .pre .5) (s .pre .4) (r .last .0) (r .ensures .1) (k .k .given .1) (s .args .lattice) (a .add-of-kind .last .0) (a .add-of-kind .result) (r .ensures .0) (r .kept .0) (a .add-of-kind .ensures .0) (a .add-of-kind .ensures .1)
 
 pub one-pass-spec : {M : Type 1} → statement M
 one-pass-spec =

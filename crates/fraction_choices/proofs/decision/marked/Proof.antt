@@ -47,8 +47,8 @@ returns c = λ es a.
     let s = o .before .before .before .before in
     let other = o .otherwise .ensures es (a .keeps) in
     let r = c .between .ensures es (a .keeps) in (
-      marked-made (s .args .percent) es _ _ (s .args .place .0) (s .args .n) (s .pre .1) (a .left) (a .right) refl refl other r,
-      marked-valid (s .args .percent) es _ _ (s .args .place .0) (s .args .n) (s .pre .1) (a .left) (a .right) refl refl other r,
+      marked-made (s .args .percent) es _ _ (s .args .place .0) (s .args .size) (s .pre .1) (a .left) (a .right) refl refl other r,
+      marked-valid (s .args .percent) es _ _ (s .args .place .0) (s .args .size) (s .pre .1) (a .left) (a .right) refl refl other r,
     )
 
 pub marked-spec : {M : Type 1} → statement M

@@ -27,7 +27,7 @@ fields-at-requires : tie.Need-fields-at-requires
 fields-at-requires c κs = let e = c .before .before in let b = e .before in view-fields _ _ _ _ (b .before .edge-at .ensures) (b .before .before .before .pre .0) (sym (b .bit .ensures) ∙ not-false _ (e .if1 .left))
 
 -- the fields have the bits of a whole number
-read : (c : tie.After-fields-at) → let s = c .before .before .before .before .before .before .before in Read (s .args .w .now) (s .args .at) (c .fields-at .result .value)
+read : (c : tie.After-fields-at) → let s = c .before .before .before .before .before .before .before in Read (s .args .work .now) (s .args .at) (c .fields-at .result .value)
 read c =
     let b2 = c .before .before in
     let b = b2 .before .before in

@@ -22,7 +22,7 @@ returns c =
     let f = c .before .before in
     let g = f .before .before .before .before in
     let a = g .before .before .before .args in (
-      behind-twice (a .w .now) (g .turn-off .last .0) (f .turn-off2 .last .0) (f .turn-off2 .ensures .0) (g .turn-off .ensures .0),
+      behind-twice (a .work .now) (g .turn-off .last .0) (f .turn-off2 .last .0) (f .turn-off2 .ensures .0) (g .turn-off .ensures .0),
       λ es h. f .turn-off2 .ensures .1 (turnOffAt es (a .left)) (g .turn-off .ensures .1 es h),
     )
 

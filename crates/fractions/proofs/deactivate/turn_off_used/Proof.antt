@@ -50,7 +50,7 @@ returns-2 c =
     let g = c .before .before in
     let t = g .before .before in
     let a = t .before .before .before .args in
-    (behind-same (a .w .now) (g .turn-off-both .last .0) (g .turn-off-both .ensures .0), λ es h. off-percent {w = g .turn-off-both .last .0} {l = a .l} es (a .c) (t .enum-told2 .given .1) (g .turn-off-both .ensures .1 es h))
+    (behind-same (a .work .now) (g .turn-off-both .last .0) (g .turn-off-both .ensures .0), λ es h. off-percent {w = g .turn-off-both .last .0} {l = a .lattice} es (a .choice) (t .enum-told2 .given .1) (g .turn-off-both .ensures .1 es h))
 
 same-length-2 : tie.Need-same-length-2
 same-length-2 c = search needs
@@ -60,7 +60,7 @@ returns-3 c =
     let g = c .before .before in
     let t = g .before .before in
     let a = t .before .before .before .args in
-    (behind-same (a .w .now) (g .turn-off-both2 .last .0) (g .turn-off-both2 .ensures .0), λ es h. off-fraction {w = g .turn-off-both2 .last .0} {l = a .l} es (a .c) (t .enum-told3 .given .1) (g .turn-off-both2 .ensures .1 es h))
+    (behind-same (a .work .now) (g .turn-off-both2 .last .0) (g .turn-off-both2 .ensures .0), λ es h. off-fraction {w = g .turn-off-both2 .last .0} {l = a .lattice} es (a .choice) (t .enum-told3 .given .1) (g .turn-off-both2 .ensures .1 es h))
 
 same-length-3 : tie.Need-same-length-3
 same-length-3 c = search needs
@@ -70,7 +70,7 @@ returns-4 c =
     let g = c .before .before in
     let t = g .before .before in
     let a = t .before .before .before .args in
-    (behind-same (a .w .now) (g .turn-off .last .0) (g .turn-off .ensures .0), λ es h. off-right {w = g .turn-off .last .0} {l = a .l} es (a .c) (t .enum-told4 .given .1) (g .turn-off .ensures .1 es h))
+    (behind-same (a .work .now) (g .turn-off .last .0) (g .turn-off .ensures .0), λ es h. off-right {w = g .turn-off .last .0} {l = a .lattice} es (a .choice) (t .enum-told4 .given .1) (g .turn-off .ensures .1 es h))
 
 pub turn-off-used-spec : {M : Type 1} → statement M
 turn-off-used-spec =

@@ -9,7 +9,7 @@ use Rattle.fractions.proofs.new_edge.add_choice.Statement.{statement}
 use Rattle.fractions.proofs.new_edge.add_choice.Tie as tie
 
 returns : tie.Need-returns
-returns c = let s = c .before .before .before in (refl, λ n es o. full-stays (o .has .holds) (c .if1 .taken) (outcomeOf es (s .args .p .0) (s .args .c)))
+returns c = let s = c .before .before .before in (refl, λ n es o. full-stays (o .has .holds) (c .if1 .taken) (outcomeOf es (s .args .place .0) (s .args .choice)))
 
 enum-told : tie.Need-enum-told
 enum-told c = search needs
@@ -59,7 +59,7 @@ returns-3 c =
     let t = g .before .before in
     let a = t .before .before .before .before .before .args in
     let f = t .enum-told2 .given .1 in
-    (behind-same (a .w .now) (g .add-percent .last .0) (g .add-percent .ensures .0), λ n es o. makes-percent {w = g .add-percent .last .0} {l = g .add-percent .result} es (a .p .0) (a .c) f (g .add-percent .ensures .1 n es (o .has) (uses-percent (o .valid) f)))
+    (behind-same (a .work .now) (g .add-percent .last .0) (g .add-percent .ensures .0), λ n es o. makes-percent {w = g .add-percent .last .0} {l = g .add-percent .result} es (a .place .0) (a .choice) f (g .add-percent .ensures .1 n es (o .has) (uses-percent (o .valid) f)))
 
 same-length-2 : tie.Need-same-length-2
 same-length-2 c = search needs
@@ -70,7 +70,7 @@ returns-4 c =
     let t = g .before .before in
     let a = t .before .before .before .before .before .args in
     let f = t .enum-told3 .given .1 in
-    (behind-same (a .w .now) (g .add-fraction .last .0) (g .add-fraction .ensures .0), λ n es o. makes-fraction {w = g .add-fraction .last .0} {l = g .add-fraction .result} es (a .p .0) (a .c) f (g .add-fraction .ensures .1 n es (o .has) (uses-fraction (o .valid) f .two)))
+    (behind-same (a .work .now) (g .add-fraction .last .0) (g .add-fraction .ensures .0), λ n es o. makes-fraction {w = g .add-fraction .last .0} {l = g .add-fraction .result} es (a .place .0) (a .choice) f (g .add-fraction .ensures .1 n es (o .has) (uses-fraction (o .valid) f .two)))
 
 same-length-3 : tie.Need-same-length-3
 same-length-3 c = search needs
@@ -81,7 +81,7 @@ returns-5 c =
     let t = g .before .before in
     let a = t .before .before .before .before .before .args in
     let f = t .enum-told4 .given .1 in
-    (behind-same (a .w .now) (g .add-txt-percent .last .0) (g .add-txt-percent .ensures .0), λ n es o. makes-txt {w = g .add-txt-percent .last .0} {l = g .add-txt-percent .result} es (a .p .0) (a .c) f (g .add-txt-percent .ensures .1 n es (o .has) (uses-txt (o .valid) f)))
+    (behind-same (a .work .now) (g .add-txt-percent .last .0) (g .add-txt-percent .ensures .0), λ n es o. makes-txt {w = g .add-txt-percent .last .0} {l = g .add-txt-percent .result} es (a .place .0) (a .choice) f (g .add-txt-percent .ensures .1 n es (o .has) (uses-txt (o .valid) f)))
 
 pub add-choice-spec : {M : Type 1} → statement M
 add-choice-spec =

@@ -33,13 +33,13 @@ left c = c .before .before .before .before
 abbrev right : tie.After-put-fraction → tie.After-value-of2
 right c = c .before .before
 
-script : (c : tie.After-put-fraction) {n : ℕ} {es : List Edge} → HoldsCall n (start c .args .w .now) (start c .args .l) es → Two es (start c .args .left) (start c .args .right)
-    → ScriptRead (start c .args .w .now) (getD es (start c .args .right) noEdge) (second c .head-of2 .result)
+script : (c : tie.After-put-fraction) {n : ℕ} {es : List Edge} → HoldsCall n (start c .args .work .now) (start c .args .lattice) es → Two es (start c .args .left) (start c .args .right)
+    → ScriptRead (start c .args .work .now) (getD es (start c .args .right) noEdge) (second c .head-of2 .result)
 script c h t = let p = start c .pre in script-read (call-at h (p .1) _ (right-in h (p .1) t)) (t .right-value) (second c .head-of2 .ensures _ _ h)
 
 -- k: after the script was copied
 made : (k : tie.After-lowest) {n : ℕ} {es : List Edge} → let c = k .before .before .before .before in
-    HoldsCall n (start c .args .w .now) (start c .args .l) es → Two es (start c .args .left) (start c .args .right)
+    HoldsCall n (start c .args .work .now) (start c .args .lattice) es → Two es (start c .args .left) (start c .args .right)
     → fractionWith (first c .head-of .result .start .0) (second c .head-of2 .result .end .0) (take (c .put-fraction .result) (c .put-fraction .last .0)) (k .lowest .result .numerator, k .lowest .result .denominator)
     (scriptFrom (k .before .copy-script .last .0) (k .before .copy-script .result))
     ≡ fractionOf es (start c .args .left) (start c .args .right)
@@ -99,7 +99,7 @@ returns : tie.Need-returns
 returns c =
     let g = c .before .before in
     let k = g .before .before .before .before in
-    (behind-same (start (k .before .before .before .before) .args .w .now) (g .add-composed .last .0) (g .add-composed .ensures .0), λ n es h t. subst (λ (e : Edge). Holds (g .add-composed .last .0) (g .add-composed .result) (add es e)) (made k h t) (g .add-composed .ensures .1 es (h .holds)))
+    (behind-same (start (k .before .before .before .before) .args .work .now) (g .add-composed .last .0) (g .add-composed .ensures .0), λ n es h t. subst (λ (e : Edge). Holds (g .add-composed .last .0) (g .add-composed .result) (add es e)) (made k h t) (g .add-composed .ensures .1 es (h .holds)))
 
 pub add-fraction-spec : {M : Type 1} → statement M
 add-fraction-spec =

@@ -30,7 +30,7 @@ first c = c .before .before .before .before .before .before
 abbrev second : tie.After-put-percent → tie.After-head-of2
 second c = c .before .before .before .before
 
-made : (c : tie.After-put-percent) {n : ℕ} {es : List Edge} → HoldsCall n (start c .args .w .now) (start c .args .l) es → Two es (start c .args .left) (start c .args .right)
+made : (c : tie.After-put-percent) {n : ℕ} {es : List Edge} → HoldsCall n (start c .args .work .now) (start c .args .lattice) es → Two es (start c .args .left) (start c .args .right)
     → regular (first c .head-of .result .start .0) (second c .head-of2 .result .end .0) percentageType (take (c .put-percent .result) (c .put-percent .last .0)) ≡ percentOf es (start c .args .left) (start c .args .right)
 made c h t =
     regular-is percentageType (first c .head-of .ensures _ _ h .start) (second c .head-of2 .ensures _ _ h .end)
@@ -79,7 +79,7 @@ returns : tie.Need-returns
 returns c =
     let g = c .before .before in
     let k = g .before .before .before .before in
-    (behind-same (start k .args .w .now) (g .add-regular .last .0) (g .add-regular .ensures .0), λ n es h t. subst (λ (e : Edge). Holds (g .add-regular .last .0) (g .add-regular .result) (add es e)) (made k h t) (g .add-regular .ensures .1 es (h .holds)))
+    (behind-same (start k .args .work .now) (g .add-regular .last .0) (g .add-regular .ensures .0), λ n es h t. subst (λ (e : Edge). Holds (g .add-regular .last .0) (g .add-regular .result) (add es e)) (made k h t) (g .add-regular .ensures .1 es (h .holds)))
 
 pub add-percent-spec : {M : Type 1} → statement M
 add-percent-spec =

@@ -18,9 +18,9 @@ made : (c : tie.After-fraction-fields)
     → numeric (c .before .before .before .args .start .0) (c .before .before .before .args .end .0) fractionType (c .before .before .before .args .txt .now)
     (c .before .before .before .args .txt .now) (c .before .before .before .args .script .now) [] (c .fraction-fields .result)
     ≡ fractionWith (c .before .before .before .args .start .0) (c .before .before .before .args .end .0) (c .before .before .before .args .txt .now)
-    (c .before .before .before .args .q .numerator, c .before .before .before .args .q .denominator)
-    (scriptFrom (c .before .before .before .args .script .now) (c .before .before .before .args .s))
-made c = let s = c .before .before .before in rw (c .fraction-fields .ensures) (fields-edge (s .args .txt .now) (s .args .script .now) (s .args .q .numerator) (s .args .q .denominator) (s .args .s) (s .args .start .0) (s .args .end .0))
+    (c .before .before .before .args .ratio .numerator, c .before .before .before .args .ratio .denominator)
+    (scriptFrom (c .before .before .before .args .script .now) (c .before .before .before .args .copied))
+made c = let s = c .before .before .before in rw (c .fraction-fields .ensures) (fields-edge (s .args .txt .now) (s .args .script .now) (s .args .ratio .numerator) (s .args .ratio .denominator) (s .args .copied) (s .args .start .0) (s .args .end .0))
 
 fraction-fields-requires : tie.Need-fraction-fields-requires
 fraction-fields-requires c κs = search needs
@@ -41,8 +41,8 @@ add-numeric-requires c κs =
       p .0,
       p .1,
       p .2,
-      rw d (fields-writable (s .args .txt .now) (s .args .script .now) _ _ (s .args .s) (p .3) (p .4) (omega arith)),
-      rw d (omega (arith, fields-short (s .args .txt .now) (s .args .script .now) (s .args .q .numerator) (s .args .q .denominator) (s .args .s) (p .4))),
+      rw d (fields-writable (s .args .txt .now) (s .args .script .now) _ _ (s .args .copied) (p .3) (p .4) (omega arith)),
+      rw d (omega (arith, fields-short (s .args .txt .now) (s .args .script .now) (s .args .ratio .numerator) (s .args .ratio .denominator) (s .args .copied) (p .4))),
     )
 
 same-length : tie.Need-same-length
@@ -52,7 +52,7 @@ returns : tie.Need-returns
 returns c =
     let g = c .before .before in
     let f = g .before .before .before .before .before in
-    (behind-same (f .before .before .before .args .w .now) (g .add-numeric .last .0) (g .add-numeric .ensures .0), λ es h. subst (λ (e : Edge). Holds (g .add-numeric .last .0) (g .add-numeric .result) (add es e)) (made f) (g .add-numeric .ensures .1 es h))
+    (behind-same (f .before .before .before .args .work .now) (g .add-numeric .last .0) (g .add-numeric .ensures .0), λ es h. subst (λ (e : Edge). Holds (g .add-numeric .last .0) (g .add-numeric .result) (add es e)) (made f) (g .add-numeric .ensures .1 es h))
 
 pub add-composed-spec : {M : Type 1} → statement M
 add-composed-spec =

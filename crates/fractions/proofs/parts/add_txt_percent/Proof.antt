@@ -24,8 +24,8 @@ start c = c .before .before .before .before .before .before
 abbrev head : tie.After-put-txt-percent → tie.After-head-of
 head c = c .before .before .before
 
-made : (c : tie.After-put-txt-percent) {n : ℕ} {es : List Edge} → HoldsCall n (start c .args .w .now) (start c .args .l) es
-    → regular (start c .args .p .0) (head c .head-of .result .end .0) percentageType (take (c .put-txt-percent .result) (c .put-txt-percent .last .0)) ≡ txtPercentOf es (start c .args .p .0) (start c .args .right)
+made : (c : tie.After-put-txt-percent) {n : ℕ} {es : List Edge} → HoldsCall n (start c .args .work .now) (start c .args .lattice) es
+    → regular (start c .args .place .0) (head c .head-of .result .end .0) percentageType (take (c .put-txt-percent .result) (c .put-txt-percent .last .0)) ≡ txtPercentOf es (start c .args .place .0) (start c .args .right)
 made c h =
     let r = head c .head-of .ensures _ _ h in
     regular-is percentageType refl (r .end) (c .put-txt-percent .ensures .is ∙ ap (λ (t : Text). t ++ (37 ∷ [])) (r .txt))
@@ -69,7 +69,7 @@ returns : tie.Need-returns
 returns c =
     let g = c .before .before in
     let k = g .before .before .before .before in
-    (behind-same (start k .args .w .now) (g .add-regular .last .0) (g .add-regular .ensures .0), λ n es h t. subst (λ (e : Edge). Holds (g .add-regular .last .0) (g .add-regular .result) (add es e)) (made k h) (g .add-regular .ensures .1 es (h .holds)))
+    (behind-same (start k .args .work .now) (g .add-regular .last .0) (g .add-regular .ensures .0), λ n es h t. subst (λ (e : Edge). Holds (g .add-regular .last .0) (g .add-regular .result) (add es e)) (made k h) (g .add-regular .ensures .1 es (h .holds)))
 
 pub add-txt-percent-spec : {M : Type 1} → statement M
 add-txt-percent-spec =

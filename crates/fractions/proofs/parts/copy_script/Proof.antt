@@ -23,35 +23,35 @@ bit-requires c κs = search needs
 
 returns : tie.Need-returns
 unfolding scriptFrom
-returns c = let b = c .before in let s = b .before .before .before in (sym (script-absent (s .args .map) (s .args .w .now) (s .args .at) (sym (b .bit .ensures) ∙ not-true _ (c .if1 .taken))), omega arith)
+returns c = let b = c .before in let s = b .before .before .before in (sym (script-absent (s .args .map) (s .args .work .now) (s .args .at) (sym (b .bit .ensures) ∙ not-true _ (c .if1 .taken))), omega arith)
 
 on : (c : tie.Else1) → stands 5 (c .before .before .before .before .args .map) ≡ true
 on c = sym (c .before .bit .ensures) ∙ not-false _ (c .if1 .left)
 
 -- the script's place is that of the fields
-inside : (c : tie.Else1) → c .before .before .fields-at .result .script .at .0 + c .before .before .fields-at .result .script .len ≤ length (c .before .before .before .before .args .w .now)
+inside : (c : tie.Else1) → c .before .before .fields-at .result .script .at .0 + c .before .before .fields-at .result .script .len ≤ length (c .before .before .before .before .args .work .now)
 inside c =
     let f = c .before .before in
     let s = f .before .before in
-    rw (f .fields-at .ensures) (script-inside (s .args .map) (s .args .w .now) (s .args .at) (length (s .args .w .now)) (s .pre .0) (on c))
+    rw (f .fields-at .ensures) (script-inside (s .args .map) (s .args .work .now) (s .args .at) (length (s .args .work .now)) (s .pre .0) (on c))
 
-script : (c : tie.Else1) → numericAt (c .before .before .before .before .args .map) (c .before .before .before .before .args .w .now) (c .before .before .before .before .args .at) .script
-    ≡ some (partOf (c .before .before .before .before .args .w .now) (c .before .before .fields-at .result .script))
-script c = let f = c .before .before in let s = f .before .before in rw (f .fields-at .ensures) (script-there (s .args .map) (s .args .w .now) (s .args .at) (on c))
+script : (c : tie.Else1) → numericAt (c .before .before .before .before .args .map) (c .before .before .before .before .args .work .now) (c .before .before .before .before .args .at) .script
+    ≡ some (partOf (c .before .before .before .before .args .work .now) (c .before .before .fields-at .result .script))
+script c = let f = c .before .before in let s = f .before .before in rw (f .fields-at .ensures) (script-there (s .args .map) (s .args .work .now) (s .args .at) (on c))
 
-text-length : (c : tie.Else1) → length (partOf (c .before .before .before .before .args .w .now) (c .before .before .fields-at .result .script)) ≡ c .before .before .fields-at .result .script .len
+text-length : (c : tie.Else1) → length (partOf (c .before .before .before .before .args .work .now) (c .before .before .fields-at .result .script)) ≡ c .before .before .fields-at .result .script .len
 text-length c = length-part _ _ _ (inside c)
 
 size : (c : tie.Else1) → c .before .before .fields-at .result .script .len ≤ 60
 size c = omega (arith, c .before .before .before .before .pre .1 _ (script c), text-length c)
 
 copied : (c : tie.After-copy-in) → part (c .copy-in .last .0) 0 (c .before .before .before .before .before .fields-at .result .script .len)
-    ≡ partOf (c .before .before .before .before .before .before .before .args .w .now) (c .before .before .before .before .before .fields-at .result .script)
+    ≡ partOf (c .before .before .before .before .before .before .before .args .work .now) (c .before .before .before .before .before .fields-at .result .script)
 unfolding part
 copied c =
     let e = c .before .before .before in
     let p = e .before .before .fields-at .result .script in
-    let w = e .before .before .before .before .args .w .now in
+    let w = e .before .before .before .before .args .work .now in
     let z : p .at .0 + p .len - p .at .0 ≡ p .len = omega arith in
     let k = size e in
     ap (λ (t : List ℕ). part t 0 (p .len)) (c .copy-in .ensures ∙ rw z) ∙ part-sets (e .before .before .before .before .args .buf .now) 0 (part w (p .at .0) (p .len)) (p .len) (text-length e) (omega arith)

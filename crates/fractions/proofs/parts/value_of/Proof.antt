@@ -19,14 +19,14 @@ use Rattle.fractions.proofs.parts.value_of.Tie as tie
 head-of-requires : tie.Need-head-of-requires
 head-of-requires c κs = let p = c .before .pre in ((p .0 .0, (p .0 .1 .0, p .0 .1 .1)), p .1, p .2)
 
-read : (c : tie.After-head-of) {n : ℕ} {es : List Edge} → HoldsCall n (c .before .before .args .w .now) (c .before .before .args .l) es → HasValue (getD es (c .before .before .args .i) noEdge)
-    → ValueRead (c .before .before .args .w .now) (getD es (c .before .before .args .i) noEdge) (c .head-of .result)
+read : (c : tie.After-head-of) {n : ℕ} {es : List Edge} → HoldsCall n (c .before .before .args .work .now) (c .before .before .args .lattice) es → HasValue (getD es (c .before .before .args .i) noEdge)
+    → ValueRead (c .before .before .args .work .now) (getD es (c .before .before .args .i) noEdge) (c .head-of .result)
 read c h v = let p = c .before .before .pre in value-read (call-at h (p .1) _ (p .2)) v (c .head-of .ensures _ _ h)
 
-mine : (c : tie.After-head-of) → ValueRead (c .before .before .args .w .now) (getD (c .before .before .pre .0 .1 .0) (c .before .before .args .i) noEdge) (c .head-of .result)
+mine : (c : tie.After-head-of) → ValueRead (c .before .before .args .work .now) (getD (c .before .before .pre .0 .1 .0) (c .before .before .args .i) noEdge) (c .head-of .result)
 mine c = let p = c .before .before .pre in read c (p .0 .1 .1) (p .0 .1 .2)
 
-whole : (c : tie.After-fields-at) {e : Edge} (r : ValueRead (c .before .before .before .args .w .now) e (c .before .head-of .result)) → ofBits binary64 (c .fields-at .result .value) ≡ ofNat (r .whole)
+whole : (c : tie.After-fields-at) {e : Edge} (r : ValueRead (c .before .before .before .args .work .now) e (c .before .head-of .result)) → ofBits binary64 (c .fields-at .result .value) ≡ ofNat (r .whole)
 whole c r = ap (λ (d : NumFields). ofBits binary64 (d .value)) (c .fields-at .ensures) ∙ ap (ofBits binary64) (r .bits) ∙ f64-bits-back (r .whole)
 
 fields-at-requires : tie.Need-fields-at-requires

@@ -11,11 +11,11 @@ use Rattle.fractions.proofs.texts.put_txt_percent.Statement.{statement}
 use Rattle.fractions.proofs.texts.put_txt_percent.Tie as tie
 
 -- the copy as a part
-copied : (c : tie.After-copy-in) → c .copy-in .last .0 ≡ sets (c .before .before .before .before .args .buf .now) 0 (partOf (c .before .before .before .before .args .w .now) (c .before .before .before .before .args .t))
+copied : (c : tie.After-copy-in) → c .copy-in .last .0 ≡ sets (c .before .before .before .before .args .buf .now) 0 (partOf (c .before .before .before .before .args .work .now) (c .before .before .before .before .args .txt))
 unfolding part
 copied c =
     let s = c .before .before .before .before in
-    let e : s .args .t .at .0 + s .args .t .len - s .args .t .at .0 ≡ s .args .t .len = omega arith in
+    let e : s .args .txt .at .0 + s .args .txt .len - s .args .txt .at .0 ≡ s .args .txt .len = omega arith in
     c .copy-in .ensures ∙ rw e
 
 add-to : tie.Need-add-to
@@ -42,8 +42,8 @@ add-result c = search needs
 returns : tie.Need-returns
 returns c =
     let s = c .before .before .before .before in
-    let n = length-part (s .args .w .now) (s .args .t .at .0) (s .args .t .len) (s .pre .0) in
-    text-byte (s .args .buf .now) (part (s .args .w .now) (s .args .t .at .0) (s .args .t .len)) 37 (copied c) (sym n) refl (omega arith) (omega arith)
+    let n = length-part (s .args .work .now) (s .args .txt .at .0) (s .args .txt .len) (s .pre .0) in
+    text-byte (s .args .buf .now) (part (s .args .work .now) (s .args .txt .at .0) (s .args .txt .len)) 37 (copied c) (sym n) refl (omega arith) (omega arith)
 
 pub put-txt-percent-spec : {M : Type 1} → statement M
 put-txt-percent-spec =

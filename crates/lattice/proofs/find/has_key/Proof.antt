@@ -20,7 +20,7 @@ abbrev μ-loop : tie.MeasureT-loop
 μ-loop w s at n bucket edge₀ edge = edge
 
 abbrev Asked : tie.Start Inv-loop μ-loop → Type 0
-Asked s = Search (s .args .w .now) (s .args .s .now) (s .args .at) (s .args .n) (s .args .bucket)
+Asked s = Search (s .args .work .now) (s .args .source .now) (s .args .at) (s .args .size) (s .args .bucket)
 
 bucket-small : (s : tie.Start Inv-loop μ-loop) → s .args .bucket < 256
 bucket-small s = bucket-lt (s .pre .e) (s .pre .in-bucket)

@@ -18,16 +18,16 @@ abbrev start : tie.After-bucket-of → tie.Start
 start c = c .before .before .before .before .before
 
 abbrev H : tie.Start → List Edge → Type 0
-H s es = Holds (s .args .w .now) (s .args .l) es
+H s es = Holds (s .args .work .now) (s .args .lattice) es
 
 abbrev E : tie.Start → Edge → Type 0
-E s e = Stands (s .args .s .now) (s .args .at) (s .args .n) (s .args .to) e
+E s e = Stands (s .args .source .now) (s .args .at) (s .args .size) (s .args .to) e
 
 hashed : (c : tie.After-bucket-of) (e : Edge) → E (start c) e → c .bucket-of .result ≡ bucket e
 hashed c e d = c .bucket-of .ensures ∙ ap hash (stands-keyed _ _ _ _ e d .there)
 
-abbrev asked : (c : tie.After-bucket-of) (es : List Edge) (e : Edge) → H (start c) es → E (start c) e → Search (start c .args .w .now) (start c .args .s .now) (start c .args .at + 2) (start c .args .n) (c .bucket-of .result)
-asked c es e q d = record { count = start c .args .l .count; len = start c .args .l .len; es = es; e = e; kept = kept-of q (c .before .if1 .left); keyed = stands-keyed _ _ _ _ e d; in-bucket = hashed c e d }
+abbrev asked : (c : tie.After-bucket-of) (es : List Edge) (e : Edge) → H (start c) es → E (start c) e → Search (start c .args .work .now) (start c .args .source .now) (start c .args .at + 2) (start c .args .size) (c .bucket-of .result)
+asked c es e q d = record { count = start c .args .lattice .count; len = start c .args .lattice .len; es = es; e = e; kept = kept-of q (c .before .if1 .left); keyed = stands-keyed _ _ _ _ e d; in-bucket = hashed c e d }
 
 found : (c : tie.After-has-key) (es : List Edge) (e : Edge) → H (start (c .before)) es → E (start (c .before)) e → c .has-key .result ≡ has es e
 found c es e q d = c .has-key .ensures (asked (c .before) es e q d)

@@ -14,7 +14,7 @@ use Rattle.lattice_add.proofs.copy.add_copy.Tie as tie
 abbrev start : tie.After-edge-at → tie.Start
 start c = c .before .before .before .before
 
-room : (s : tie.Start) → s .args .l .len + 2048 ≤ length (s .args .w .now)
+room : (s : tie.Start) → s .args .lattice .len + 2048 ≤ length (s .args .work .now)
 room s = let r = s .pre .0 .1 .room in let h = s .pre .0 .1 .short in omega arith
 
 abbrev head : tie.After-compose → tie.After-edge-at
@@ -54,7 +54,7 @@ returns c =
     let k = head d in
     let s = start k in
     let put = d .compose .ensures .1 in (
-      behind-twice (s .args .w .now) (d .compose .last .0) (a .add-edge .last .0) (a .add-edge .ensures .0) (copy-frame (s .args .sep .now) (s .pre .1 .1) (k .edge-at .ensures) put (s .pre .0 .1 .short)),
+      behind-twice (s .args .work .now) (d .compose .last .0) (a .add-edge .last .0) (a .add-edge .ensures .0) (copy-frame (s .args .sep .now) (s .pre .1 .1) (k .edge-at .ensures) put (s .pre .0 .1 .short)),
       λ es e h q. a .add-edge .ensures .1 es (prefixed (s .args .sep .now) e) (copy-holds (s .args .sep .now) q (k .edge-at .ensures) put refl h) (copy-stands (s .args .sep .now) q (k .edge-at .ensures) put (room s)),
     )
 

@@ -20,17 +20,17 @@ abbrev start : tie.After-shared-slice-known → tie.Start
 start c = c .before .before
 
 abbrev E : tie.Start → Edge
-E s = edgeAt (s .args .s .now) (s .args .at)
+E s = edgeAt (s .args .given .now) (s .args .at)
 
-stands : (c : tie.After-shared-slice-known) → Stands (start c .args .s .now) (start c .args .at) (start c .args .to - start c .args .at - 2) (start c .args .to) (E (start c))
+stands : (c : tie.After-shared-slice-known) → Stands (start c .args .given .now) (start c .args .at) (start c .args .to - start c .args .at - 2) (start c .args .to) (E (start c))
 stands c = given-stands _ (λ j. c .shared-slice-known .given j .fits) _ _ (start c .pre .1) (start c .pre .2) (start c .pre .3)
 
 size : (c : tie.After-shared-slice-known) → start c .args .at + 2 ≤ start c .args .to
 size c = given-size _ (λ j. c .shared-slice-known .given j .fits) _ _ (start c .pre .1) (start c .pre .2) (start c .pre .3)
 
-says : (c : tie.After-plan-add) (es : List Edge) → Holds (start (c .before .before) .args .w .now) (start (c .before .before) .args .l) es
-    → (r : Adding) → c .plan-add .result ≡ r → AddingIs (start (c .before .before) .args .l) es (E (start (c .before .before))) r
-says c es q r p = let b = c .before .before in subst (AddingIs (start b .args .l) es (E (start b))) p (c .plan-add .ensures es (E (start b)) q (stands b))
+says : (c : tie.After-plan-add) (es : List Edge) → Holds (start (c .before .before) .args .work .now) (start (c .before .before) .args .lattice) es
+    → (r : Adding) → c .plan-add .result ≡ r → AddingIs (start (c .before .before) .args .lattice) es (E (start (c .before .before))) r
+says c es q r p = let b = c .before .before in subst (AddingIs (start b .args .lattice) es (E (start b))) p (c .plan-add .ensures es (E (start b)) q (stands b))
 
 -- where the edge goes into a bucket
 abbrev asked : tie.After-copy-in-arg → tie.After-plan-add
@@ -73,7 +73,7 @@ copy-in-requires c κs = let g = c .before in
     let b = k .before .before in
     let s = start b in
     let h = size b in
-    let l = length-part (s .args .s .now) (s .args .at) (s .args .to - s .args .at) (omega (arith, s .pre .3)) in
+    let l = length-part (s .args .given .now) (s .args .at) (s .args .to - s .args .at) (omega (arith, s .pre .3)) in
     let r = copy-room (s .pre .0 .1) _ _ (says k _ (s .pre .0 .1) _ (g .before .before .bucket .given .1)) (stands b) in
     omega arith
 
@@ -122,7 +122,7 @@ returns-3 c = let g = copying (c .before .before .before) in
     let w = c .before .before .before .before .before .before in
     let r = link-room (s .pre .0 .1) _ _ (says k _ (s .pre .0 .1) _ (g .before .before .bucket .given .1)) in
     let y = copy-room (s .pre .0 .1) _ _ (says k _ (s .pre .0 .1) _ (g .before .before .bucket .given .1)) (stands b) in (
-      behind-same (s .args .w .now) (c .before .before .link .last .0) (copy-frame (s .pre .0 .1) _ _ _ _ _ (stands b) (w .copy-in .ensures) (c .before .before .link .ensures) (omega arith) (r .1) (r .3)),
+      behind-same (s .args .work .now) (c .before .before .link .last .0) (copy-frame (s .pre .0 .1) _ _ _ _ _ (stands b) (w .copy-in .ensures) (c .before .before .link .ensures) (omega arith) (r .1) (r .3)),
       λ es q. copy-into q _ _ _ _ _ (stands b) (w .copy-in .ensures) (c .before .before .link .ensures) (says k es q _ (g .before .before .bucket .given .1)),
     )
 

@@ -12,12 +12,12 @@ abbrev start : tie.After-write-numeric → tie.Start
 start c = c .before .before .before .before .before .before .before .before
 
 abbrev E : tie.After-write-numeric → Edge
-E c = numeric (start c .args .start .0) (start c .args .end .0) (start c .args .ty .now) (start c .args .txt .now) (start c .args .o .now) (start c .args .c .now) (start c .args .v .now) (start c .args .d)
+E c = numeric (start c .args .start .0) (start c .args .end .0) (start c .args .ty .now) (start c .args .txt .now) (start c .args .orig .now) (start c .args .script .now) (start c .args .value .now) (start c .args .num)
 
-made : (c : tie.After-write-numeric) → Composed (start c .args .w .now) (c .write-numeric .last .0) (start c .args .l) (E c) (c .write-numeric .result)
+made : (c : tie.After-write-numeric) → Composed (start c .args .work .now) (c .write-numeric .last .0) (start c .args .lattice) (E c) (c .write-numeric .result)
 made c =
     numeric-composed (start c .pre .0 .1) (start c .args .start .0) (start c .args .end .0) (start c .args .ty .now) (start c .args .txt .now) (start c .pre .1) (start c .pre .2)
-    (start c .args .o .now) (start c .args .c .now) (start c .args .v .now) (start c .args .d) (start c .pre .3) (start c .pre .4) (c .write-numeric .ensures .0) (c .write-numeric .ensures .1)
+    (start c .args .orig .now) (start c .args .script .now) (start c .args .value .now) (start c .args .num) (start c .pre .3) (start c .pre .4) (c .write-numeric .ensures .0) (c .write-numeric .ensures .1)
 
 abbrev writing : tie.After-add-edge-arg → tie.After-write-numeric
 writing c = c .before .before .before .before .before .before

@@ -14,7 +14,7 @@ start c = c .before .before .before .before .before
 abbrev E : tie.After-write-regular → Edge
 E c = regular (start c .args .start .0) (start c .args .end .0) (start c .args .ty .now) (start c .args .txt .now)
 
-made : (c : tie.After-write-regular) → Composed (start c .args .w .now) (c .write-regular .last .0) (start c .args .l) (E c) (c .write-regular .result)
+made : (c : tie.After-write-regular) → Composed (start c .args .work .now) (c .write-regular .last .0) (start c .args .lattice) (E c) (c .write-regular .result)
 made c =
     regular-composed (start c .pre .0 .1) (start c .args .start .0) (start c .args .end .0) (start c .args .ty .now) (start c .args .txt .now) (start c .pre .1) (start c .pre .2)
     (start c .pre .3) (c .write-regular .ensures .0) (c .write-regular .ensures .1)

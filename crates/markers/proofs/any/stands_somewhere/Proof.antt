@@ -26,7 +26,7 @@ is-offset : (c : tie.In-loop Inv-loop μ-loop) → let a = c .before .before .be
 is-offset c = c .before .before .before .before .pre .0 .at (c .before .loop .p) (inside c)
 
 it-stands : (c : tie.After-stands Inv-loop μ-loop) → let i = c .before .before in let a = i .before .before .before .before in
-    c .stands .result ≡ standsAt (chars (a .args .line .now)) (i .before .loop .p) (a .args .m .now)
+    c .stands .result ≡ standsAt (chars (a .args .line .now)) (i .before .loop .p) (a .args .marker .now)
 it-stands c = let i = c .before .before in stands-told _ _ _ (inside i) (i .before .before .before .before .pre .3) (is-offset i) (c .stands .ensures)
 
 loop-holds : tie.Need-loop-holds Inv-loop μ-loop

@@ -12,8 +12,8 @@ use Rattle.markers.proofs.any.text_somewhere.Statement.{statement}
 use Rattle.markers.proofs.any.text_somewhere.Tie as tie
 
 -- the text as it is cut out of the table
-text-is : (a : tie.Start) → take (a .args .m .at .0 + a .args .m .len - a .args .m .at .0) (drop (a .args .m .at .0) (a .args .table .now)) ≡ partOf (a .args .table .now) (a .args .m)
-text-is a = cut-is (a .args .table .now) (a .args .m .at .0) (a .args .m .len)
+text-is : (a : tie.Start) → take (a .args .marker .at .0 + a .args .marker .len - a .args .marker .at .0) (drop (a .args .marker .at .0) (a .args .table .now)) ≡ partOf (a .args .table .now) (a .args .marker)
+text-is a = cut-is (a .args .table .now) (a .args .marker .at .0) (a .args .marker .len)
 
 add-end : tie.Need-add-end
 add-end c = search needs
@@ -33,7 +33,7 @@ stands-somewhere-requires c κs = let a = c .before .before .before .before in (
 returns : tie.Need-returns
 returns c =
     let a = c .before .before .before .before .before in
-    c .stands-somewhere .ensures ∙ ap (standsFrom (chars (a .args .line .now)) 0 (a .args .n)) (text-is a)
+    c .stands-somewhere .ensures ∙ ap (standsFrom (chars (a .args .line .now)) 0 (a .args .places)) (text-is a)
 
 pub text-somewhere-spec : {M : Type 1} → statement M
 text-somewhere-spec =

@@ -11,11 +11,11 @@ use Rattle.markers.proofs.find.marker_at.Statement.{statement}
 use Rattle.markers.proofs.find.marker_at.Tie as tie
 
 -- the table of offsets has the place's
-is-offset : (a : tie.Start) → getD (a .args .offs .now) (a .args .p .0) 0 ≡ offsetOf (a .args .line .now) (a .args .p .0)
-is-offset a = let h = a .pre .2 in a .pre .1 .at (a .args .p .0) (omega arith)
+is-offset : (a : tie.Start) → getD (a .args .offs .now) (a .args .here .0) 0 ≡ offsetOf (a .args .line .now) (a .args .here .0)
+is-offset a = let h = a .pre .2 in a .pre .1 .at (a .args .here .0) (omega arith)
 
-at-inside : (a : tie.Start) → getD (a .args .offs .now) (a .args .p .0) 0 ≤ length (a .args .line .now)
-at-inside a = omega (arith, is-offset a, offset-le (a .args .line .now) (a .args .p .0))
+at-inside : (a : tie.Start) → getD (a .args .offs .now) (a .args .here .0) 0 ≤ length (a .args .line .now)
+at-inside a = omega (arith, is-offset a, offset-le (a .args .line .now) (a .args .here .0))
 
 mul-at : tie.Need-mul-at
 mul-at c = search needs
@@ -33,7 +33,7 @@ longer-of-requires : tie.Need-longer-of-requires
 longer-of-requires c κs = search needs
 
 returns : tie.Need-returns
-returns c = let a = c .before .before .before .before .before .before in c .longer-of .ensures ∙ marker-is (a .args .line .now) (a .args .table .now) (a .args .h) (a .pre .0 .1) (a .args .p .0) (omega arith) (is-offset a) (c .before .before .longest-in .ensures) (c .before .longest-in2 .ensures)
+returns c = let a = c .before .before .before .before .before .before in c .longer-of .ensures ∙ marker-is (a .args .line .now) (a .args .table .now) (a .args .shape) (a .pre .0 .1) (a .args .here .0) (omega arith) (is-offset a) (c .before .before .longest-in .ensures) (c .before .longest-in2 .ensures)
 
 pub marker-at-spec : {M : Type 1} → statement M
 marker-at-spec =

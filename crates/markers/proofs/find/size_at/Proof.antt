@@ -23,10 +23,10 @@ walk-requires : tie.Need-walk-requires
 walk-requires c κs = search needs
 
 returns : tie.Need-returns
-returns c = let a = c .before .before .before .before .before .before .before .args in size-stands _ _ _ (cut-is (a .table .now) (a .m .at .0) (a .m .len)) (c .before .before .stands .ensures) (c .before .if1 .taken) (c .walk .ensures)
+returns c = let a = c .before .before .before .before .before .before .before .args in size-stands _ _ _ (cut-is (a .table .now) (a .marker .at .0) (a .marker .len)) (c .before .before .stands .ensures) (c .before .if1 .taken) (c .walk .ensures)
 
 returns-2 : tie.Need-returns-2
-returns-2 c = let a = c .before .before .before .before .before .before .args in size-none _ _ _ (cut-is (a .table .now) (a .m .at .0) (a .m .len)) (c .before .stands .ensures) (c .if1 .left)
+returns-2 c = let a = c .before .before .before .before .before .before .args in size-none _ _ _ (cut-is (a .table .now) (a .marker .at .0) (a .marker .len)) (c .before .stands .ensures) (c .if1 .left)
 
 pub size-at-spec : {M : Type 1} → statement M
 size-at-spec =

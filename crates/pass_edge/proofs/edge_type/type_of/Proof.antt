@@ -27,11 +27,11 @@ joined-not {k} {p} e z = go p (ap kindNumber (sym e) ∙ z)
     go G4 z = omega (arith, z)
 
 -- the record of a character was checked
-legal : (c : tie.After-enum-told) → let a = c .before .before .before .before .args in LegalAt (a .table .now) (a .x .«record_at» .0)
+legal : (c : tie.After-enum-told) → let a = c .before .before .before .before .args in LegalAt (a .table .now) (a .edge .«record_at» .0)
 legal c =
     let s = c .before .before .before .before in
     let (i, is, rooted) = s .pre .0 in
-    rooted-char (s .args .table .now) (s .args .x) i is rooted (ap kindNumber (c .enum-told .given .1))
+    rooted-char (s .args .table .now) (s .args .edge) i is rooted (ap kindNumber (c .enum-told .given .1))
 
 enum-told : tie.Need-enum-told
 enum-told c = search needs
@@ -43,7 +43,7 @@ put-text-requires : tie.Need-put-text-requires
 put-text-requires c κs =
     let k = c .before .before in
     let s = k .before .before .before .before in
-    omega (arith, ap length (c .type-at .ensures), type-fits (s .args .table .now) (s .args .x .«record_at» .0) (legal k), s .pre .1)
+    omega (arith, ap length (c .type-at .ensures), type-fits (s .args .table .now) (s .args .edge .«record_at» .0) (legal k), s .pre .1)
 
 enum-known-kind : tie.Need-enum-known-kind
 enum-known-kind c = search needs
@@ -59,7 +59,7 @@ returns c i is =
     let r = c .before .before .before in
     let k = r .before .before in
     let a = k .before .before .before .before .args in
-    front-is (r .type-at .ensures ∙ type-char [] (a .table .now) (a .x) i is (ap kindNumber (k .enum-told .given .1))) (c .before .before .put-text .ensures)
+    front-is (r .type-at .ensures ∙ type-char [] (a .table .now) (a .edge) i is (ap kindNumber (k .enum-told .given .1))) (c .before .before .put-text .ensures)
 
 same-length-2 : tie.Need-same-length-2
 same-length-2 c = c .before .before .put-pass .kept .0
@@ -69,7 +69,7 @@ returns-2 c i is =
     let k = c .before .before .before .before .before in
     let a = k .before .before .before .before .args in
     let e = k .kind .given .1 in
-    front-is (ap (λ (k : Kind). kindName (kindNumber k)) (sym e) ∙ type-kind [] (a .table .now) (a .x) i is (joined-not e)) (c .before .before .put-pass .ensures)
+    front-is (ap (λ (k : Kind). kindName (kindNumber k)) (sym e) ∙ type-kind [] (a .table .now) (a .edge) i is (joined-not e)) (c .before .before .put-pass .ensures)
 
 pub type-of-spec : {M : Type 1} → statement M
 type-of-spec =

@@ -11,7 +11,7 @@ fields-of-requires : tie.Need-fields-of-requires
 fields-of-requires c κs =
     let start = c .before .before .before .before .before in
     let (i, are) = start .pre .2 in
-    listable (start .args .line .now) (start .args .offs .now) (start .args .table .now) (start .args .x) i (are .stored-edge) (start .pre .1) (start .pre .3)
+    listable (start .args .line .now) (start .args .offs .now) (start .args .table .now) (start .args .edge) i (are .stored-edge) (start .pre .1) (start .pre .3)
 
 add-numeric-requires : tie.Need-add-numeric-requires
 add-numeric-requires c κs =
@@ -19,9 +19,9 @@ add-numeric-requires c κs =
     let start = at-fields .before .before .before .before .before .before in
     let a = start .args in
     let (i, are) = start .pre .2 in
-    let places = places-of (a .line .now) (a .table .now) (a .x) i (are .stored-edge) in
-    let write = writable (a .line .now) (a .offs .now) (a .table .now) (a .x) i (a .f) (a .ty .now) (a .txt .now) are (start .pre .1) (start .pre .3) (start .pre .4) (at-fields .fields-of .result) (at-fields .fields-of .ensures) in
-    let all = room (a .line .now) (a .offs .now) (a .table .now) (a .x) i (a .f) (a .ty .now) (a .txt .now) are (start .pre .1) (start .pre .3) (start .pre .4) (at-fields .fields-of .result) (at-fields .fields-of .ensures) in
+    let places = places-of (a .line .now) (a .table .now) (a .edge) i (are .stored-edge) in
+    let write = writable (a .line .now) (a .offs .now) (a .table .now) (a .edge) i (a .fraction) (a .ty .now) (a .txt .now) are (start .pre .1) (start .pre .3) (start .pre .4) (at-fields .fields-of .result) (at-fields .fields-of .ensures) in
+    let all = room (a .line .now) (a .offs .now) (a .table .now) (a .edge) i (a .fraction) (a .ty .now) (a .txt .now) are (start .pre .1) (start .pre .3) (start .pre .4) (at-fields .fields-of .result) (at-fields .fields-of .ensures) in
     (start .pre .0, omega (arith, places .0, places .1, start .pre .3), omega (arith, places .1, start .pre .3), write, all .all)
 
 same-length : tie.Need-same-length
@@ -34,7 +34,7 @@ returns c =
     let start = at-fields .before .before .before .before .before .before in
     let a = start .args in
     let added = at-add .add-numeric .ensures in
-    (added .0, λ es i holds are. rw (sym (edge-is (a .line .now) (a .offs .now) (a .table .now) (a .x) i (a .f) (a .ty .now) (a .txt .now) are (start .pre .1) (start .pre .3) (start .pre .4) (at-fields .fields-of .result) (at-fields .fields-of .ensures))) (added .1 es holds))
+    (added .0, λ es i holds are. rw (sym (edge-is (a .line .now) (a .offs .now) (a .table .now) (a .edge) i (a .fraction) (a .ty .now) (a .txt .now) are (start .pre .1) (start .pre .3) (start .pre .4) (at-fields .fields-of .result) (at-fields .fields-of .ensures))) (added .1 es holds))
 
 pub add-texts-spec : {M : Type 1} → statement M
 add-texts-spec =

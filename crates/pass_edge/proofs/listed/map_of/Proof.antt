@@ -61,7 +61,7 @@ returns c =
     let w3 = w4 .before in
     let w2 = w3 .before in
     let w1 = w2 .before in
-    map-summed (w1 .before .args .x) (w1 .before .args .fraction) (w1 .bit-if .ensures .0) (w2 .bit-if2 .ensures .0) (w3 .bit-if3 .ensures .0) (w4 .bit-if4 .ensures .0) (w5 .bit-if5 .ensures .0) (w6 .bit-if6 .ensures .0) (c .bit-if7 .ensures .0 ∙ ap (λ (b : Bool). 256 * flag b) (c .before .is-row .ensures))
+    map-summed (w1 .before .args .edge) (w1 .before .args .fraction) (w1 .bit-if .ensures .0) (w2 .bit-if2 .ensures .0) (w3 .bit-if3 .ensures .0) (w4 .bit-if4 .ensures .0) (w5 .bit-if5 .ensures .0) (w6 .bit-if6 .ensures .0) (c .bit-if7 .ensures .0 ∙ ap (λ (b : Bool). 256 * flag b) (c .before .is-row .ensures))
 
 pub map-of-spec : {M : Type 1} → statement M
 map-of-spec =

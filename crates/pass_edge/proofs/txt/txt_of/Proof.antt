@@ -38,9 +38,9 @@ char-txt-requires c κs =
     let is-char = character (c .before .before .is-character .ensures) (c .before .if1 .taken) in
     let a = start .args in
     let (i, is) = start .pre .1 in
-    let places = places-of (a .line .now) (a .table .now) (a .x) i is in
-    let fits = char-fits (a .line .now) (a .table .now) (a .x) i is (start .pre .2) is-char in
-    let legal = rooted-char (a .table .now) (a .x) i (is .is) (is .sound .rooted) is-char in
+    let places = places-of (a .line .now) (a .table .now) (a .edge) i is in
+    let fits = char-fits (a .line .now) (a .table .now) (a .edge) i is (start .pre .2) is-char in
+    let legal = rooted-char (a .table .now) (a .edge) i (is .is) (is .sound .rooted) is-char in
     (start .pre .0, places .0, places .1, start .pre .2, omega (arith, fits, start .pre .3), legal)
 
 same-length : tie.Need-same-length
@@ -50,25 +50,25 @@ returns : tie.Need-returns
 returns c i is =
     let at-then = c .before .before .before .before in
     let a = at-then .before .before .before .before .before .args in
-    front-is (txt-char (chars (a .line .now)) (a .table .now) (a .x) i is (character (at-then .before .is-character .ensures) (at-then .if1 .taken))) (c .before .before .char-txt .ensures)
+    front-is (txt-char (chars (a .line .now)) (a .table .now) (a .edge) i is (character (at-then .before .is-character .ensures) (at-then .if1 .taken))) (c .before .before .char-txt .ensures)
 
 exact-u64-requires : tie.Need-exact-u64-requires
 exact-u64-requires c κs =
     let start = c .before .before .before .before .before in
     let (i, is) = start .pre .1 in
-    (i .value, is .is .fits .small .value, value-is (start .args .x) i (is .is))
+    (i .value, is .is .fits .small .value, value-is (start .args .edge) i (is .is))
 
 sub-len : tie.Need-sub-len
 sub-len c =
     let start = c .before .before .before .before .before .before .before .before .before in
     let (i, is) = start .pre .1 in
-    places-of (start .args .line .now) (start .args .table .now) (start .args .x) i is .0
+    places-of (start .args .line .now) (start .args .table .now) (start .args .edge) i is .0
 
 put-padded-requires : tie.Need-put-padded-requires
 put-padded-requires c κs =
     let start = c .before .before .before .before .before .before .before .before .before .before in
     let (i, is) = start .pre .1 in
-    omega (arith, places-of (start .args .line .now) (start .args .table .now) (start .args .x) i is .1, start .pre .2, start .pre .3)
+    omega (arith, places-of (start .args .line .now) (start .args .table .now) (start .args .edge) i is .1, start .pre .2, start .pre .3)
 
 same-length-2 : tie.Need-same-length-2
 same-length-2 c = c .before .before .put-padded .kept .0
@@ -79,8 +79,8 @@ returns-2 c i is =
     let at-value = at-row .before .before in
     let at-else = at-value .before in
     let a = at-else .before .before .before .before .before .args in
-    let value = at-value .exact-u64 .ensures (i .value) (is .fits .small .value) (value-is (a .x) i is) in
-    front-is (txt-digits (chars (a .line .now)) (a .table .now) (a .x) i is (joined (at-else .before .is-character .ensures) (at-else .if1 .left)) (row (at-row .before .is-row .ensures) (at-row .if2 .taken)) value)
+    let value = at-value .exact-u64 .ensures (i .value) (is .fits .small .value) (value-is (a .edge) i is) in
+    front-is (txt-digits (chars (a .line .now)) (a .table .now) (a .edge) i is (joined (at-else .before .is-character .ensures) (at-else .if1 .left)) (row (at-row .before .is-row .ensures) (at-row .if2 .taken)) value)
     (record { wrote = c .before .before .put-padded .ensures; long = sym (length-padded _ _) })
 
 put-decimal-requires : tie.Need-put-decimal-requires
@@ -88,7 +88,7 @@ put-decimal-requires c κs =
     let at-value = c .before .before .before in
     let start = at-value .before .before .before .before .before .before in
     let (i, is) = start .pre .1 in
-    let value = at-value .exact-u64 .ensures (i .value) (is .is .fits .small .value) (value-is (start .args .x) i (is .is)) in
+    let value = at-value .exact-u64 .ensures (i .value) (is .is .fits .small .value) (value-is (start .args .edge) i (is .is)) in
     let small = is .is .fits .small .value in
     omega (arith, length-decimal-top (at-value .exact-u64 .result) (omega arith), start .pre .3)
 
@@ -101,8 +101,8 @@ returns-3 c i is =
     let at-value = at-else-row .before .before in
     let at-else = at-value .before in
     let a = at-else .before .before .before .before .before .args in
-    let value = at-value .exact-u64 .ensures (i .value) (is .fits .small .value) (value-is (a .x) i is) in
-    front-is (txt-value (chars (a .line .now)) (a .table .now) (a .x) i is (joined (at-else .before .is-character .ensures) (at-else .if1 .left)) (no-row (at-else-row .before .is-row .ensures) (at-else-row .if2 .left)) value)
+    let value = at-value .exact-u64 .ensures (i .value) (is .fits .small .value) (value-is (a .edge) i is) in
+    front-is (txt-value (chars (a .line .now)) (a .table .now) (a .edge) i is (joined (at-else .before .is-character .ensures) (at-else .if1 .left)) (no-row (at-else-row .before .is-row .ensures) (at-else-row .if2 .left)) value)
     (record { wrote = c .before .before .put-decimal .ensures .1; long = c .before .before .put-decimal .ensures .0 ∙ zero-add _ })
 
 pub txt-of-spec : {M : Type 1} → statement M

@@ -19,7 +19,7 @@ u64-at-requires c κs = search needs
 exact-f64-requires : tie.Need-exact-f64-requires
 exact-f64-requires c κs =
     let p = c .before .before .before in
-    rw (c .u64-at .ensures) (small-at (p .args .s .now) (p .args .at) (p .pre .1) .value)
+    rw (c .u64-at .ensures) (small-at (p .args .list .now) (p .args .at) (p .pre .1) .value)
 
 add-u64-at-2 : tie.Need-add-u64-at-2
 add-u64-at-2 c = search needs
@@ -30,7 +30,7 @@ u64-at-requires-2 c κs = search needs
 exact-f64-requires-2 : tie.Need-exact-f64-requires-2
 exact-f64-requires-2 c κs =
     let p = c .before .before .before .before .before in
-    rw (c .u64-at2 .ensures) (small-at (p .args .s .now) (p .args .at) (p .pre .1) .mult)
+    rw (c .u64-at2 .ensures) (small-at (p .args .list .now) (p .args .at) (p .pre .1) .mult)
 
 add-u64-at-3 : tie.Need-add-u64-at-3
 add-u64-at-3 c = search needs
@@ -56,7 +56,7 @@ returns c =
     let value = multiplier .before .before in
     let map = value .before .before in
     let start = map .before .before in
-    num-read (start .args .s .now) (start .args .at) (map .u16-at .ensures) (value .before .u64-at .ensures) (value .exact-f64 .ensures) (multiplier .before .u64-at2 .ensures) (multiplier .exact-f642 .ensures) (c .before .before .u64-at3 .ensures) (c .before .u64-at4 .ensures) (c .u64-at5 .ensures)
+    num-read (start .args .list .now) (start .args .at) (map .u16-at .ensures) (value .before .u64-at .ensures) (value .exact-f64 .ensures) (multiplier .before .u64-at2 .ensures) (multiplier .exact-f642 .ensures) (c .before .before .u64-at3 .ensures) (c .before .u64-at4 .ensures) (c .u64-at5 .ensures)
 
 pub num-at-spec : {M : Type 1} → statement M
 num-at-spec =

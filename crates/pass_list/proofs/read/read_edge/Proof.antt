@@ -39,7 +39,7 @@ returns c =
     let bytes = end .before .before in
     let start = bytes .before in
     record {
-      is = edge-read (start .args .s .now) (start .args .at) (end .before .u16-at .ensures) (end .u16-at2 .ensures) (kind .kind-at .ensures) (record-at .u64-at .ensures) (c .num-at .ensures);
+      is = edge-read (start .args .list .now) (start .args .at) (end .before .u16-at .ensures) (end .u16-at2 .ensures) (kind .kind-at .ensures) (record-at .u64-at .ensures) (c .num-at .ensures);
       fits = storedAt-fits _ _ (λ j. bytes .shared-slice-known .given j .fits) (start .pre .1);
     }
 

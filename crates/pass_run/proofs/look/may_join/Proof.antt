@@ -58,19 +58,19 @@ enum-told-5 : tie.Need-enum-told-5
 enum-told-5 c = c .match .keys5
 
 returns-2 : tie.Need-returns-2
-returns-2 c j = let a = c .before .before .before .before .before .before .before .before .before .before .args in rw (c .before .before .before .before .before .u16-at3 .ensures, c .before .before .before .before .u16-at4 .ensures) (join-may (a .s .now) (a .a) (a .b) D1 (rw (c .enum-told .given .1) at j))
+returns-2 c j = let a = c .before .before .before .before .before .before .before .before .before .before .args in rw (c .before .before .before .before .before .u16-at3 .ensures, c .before .before .before .before .u16-at4 .ensures) (join-may (a .list .now) (a .a) (a .b) D1 (rw (c .enum-told .given .1) at j))
 
 returns-3 : tie.Need-returns-3
-returns-3 c j = let a = c .before .before .before .before .before .before .before .before .before .before .args in rw (c .before .before .before .before .u16-at4 .ensures, c .before .before .before .u64-at .ensures, c .before .before .u64-at2 .ensures) (join-may (a .s .now) (a .a) (a .b) G1 (rw (c .enum-told2 .given .1) at j))
+returns-3 c j = let a = c .before .before .before .before .before .before .before .before .before .before .args in rw (c .before .before .before .before .u16-at4 .ensures, c .before .before .before .u64-at .ensures, c .before .before .u64-at2 .ensures) (join-may (a .list .now) (a .a) (a .b) G1 (rw (c .enum-told2 .given .1) at j))
 
 returns-4 : tie.Need-returns-4
-returns-4 c j = let a = c .before .before .before .before .before .before .before .before .before .before .args in rw (c .before .before .before .before .before .u16-at3 .ensures, c .before .before .before .before .u16-at4 .ensures, c .before .before .before .u64-at .ensures, c .before .before .u64-at2 .ensures) (join-may (a .s .now) (a .a) (a .b) G2 (rw (c .enum-told3 .given .1) at j))
+returns-4 c j = let a = c .before .before .before .before .before .before .before .before .before .before .args in rw (c .before .before .before .before .before .u16-at3 .ensures, c .before .before .before .before .u16-at4 .ensures, c .before .before .before .u64-at .ensures, c .before .before .u64-at2 .ensures) (join-may (a .list .now) (a .a) (a .b) G2 (rw (c .enum-told3 .given .1) at j))
 
 returns-5 : tie.Need-returns-5
-returns-5 c j = let a = c .before .before .before .before .before .before .before .before .before .before .args in rw (c .before .before .before .before .before .u16-at3 .ensures, c .before .before .before .before .u16-at4 .ensures) (join-may (a .s .now) (a .a) (a .b) G3 (rw (c .enum-told4 .given .1) at j))
+returns-5 c j = let a = c .before .before .before .before .before .before .before .before .before .before .args in rw (c .before .before .before .before .before .u16-at3 .ensures, c .before .before .before .before .u16-at4 .ensures) (join-may (a .list .now) (a .a) (a .b) G3 (rw (c .enum-told4 .given .1) at j))
 
 returns-6 : tie.Need-returns-6
-returns-6 c j = let a = c .before .before .before .before .before .before .before .before .before .before .args in rw (c .before .before .before .u64-at .ensures, c .before .before .u64-at2 .ensures) (join-may (a .s .now) (a .a) (a .b) G4 (rw (c .enum-told5 .given .1) at j))
+returns-6 c j = let a = c .before .before .before .before .before .before .before .before .before .before .args in rw (c .before .before .before .u64-at .ensures, c .before .before .u64-at2 .ensures) (join-may (a .list .now) (a .a) (a .b) G4 (rw (c .enum-told5 .given .1) at j))
 
 pub may-join-spec : {M : Type 1} → statement M
 may-join-spec =

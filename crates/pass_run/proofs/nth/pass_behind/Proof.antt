@@ -21,7 +21,7 @@ pass-of-requires : tie.Need-pass-of-requires
 pass-of-requires c κs = c .before .before .pre .2
 
 run-pass-requires : tie.Need-run-pass-requires
-run-pass-requires c κs = let s = c .before .before .before in asked-behind (s .args .from) (s .args .w .now) (s .args .n) (s .pre .0) (s .pre .1)
+run-pass-requires c κs = let s = c .before .before .before in asked-behind (s .args .from) (s .args .work .now) (s .args .n) (s .pre .0) (s .pre .1)
 
 same-length : tie.Need-same-length
 same-length c = search needs
@@ -30,9 +30,9 @@ returns : tie.Need-returns
 returns c = let a = c .before .before in
     let s = a .before .before .before .before in
     let from = s .args .from in
-    let h : from ≤ length (s .args .w .now) = omega (arith, s .pre .0) in
-    let z = passed-behind from (s .args .w .now) _ (a .run-pass .last .0) _ _ h (a .run-pass .ensures) in
-    (take-put from (length (s .args .w .now) - from) (s .args .w .now) (a .run-pass .last .0) h, rw (a .before .pass-of .ensures) at z)
+    let h : from ≤ length (s .args .work .now) = omega (arith, s .pre .0) in
+    let z = passed-behind from (s .args .work .now) _ (a .run-pass .last .0) _ _ h (a .run-pass .ensures) in
+    (take-put from (length (s .args .work .now) - from) (s .args .work .now) (a .run-pass .last .0) h, rw (a .before .pass-of .ensures) at z)
 
 pub pass-behind-spec : {M : Type 1} → statement M
 pass-behind-spec =

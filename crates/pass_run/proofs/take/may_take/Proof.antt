@@ -40,19 +40,19 @@ enum-told-5 : tie.Need-enum-told-5
 enum-told-5 c = c .match .keys5
 
 returns : tie.Need-returns
-returns c x e j = let a = c .before .before .before .before .before .before .before .args in rw (e, c .before .before .before .before .before .u16-at .ensures, c .before .before .before .before .u16-at2 .ensures) (take-may (a .s .now) (a .at) D1 x (rw (c .enum-told .given .1) at j))
+returns c x e j = let a = c .before .before .before .before .before .before .before .args in rw (e, c .before .before .before .before .before .u16-at .ensures, c .before .before .before .before .u16-at2 .ensures) (take-may (a .list .now) (a .at) D1 x (rw (c .enum-told .given .1) at j))
 
 returns-2 : tie.Need-returns-2
-returns-2 c x e j = let a = c .before .before .before .before .before .before .before .before .args in rw (e, c .before .before .before .before .before .before .u16-at .ensures) (take-may (a .s .now) (a .at) G1 x (rw (c .before .enum-told2 .given .1) at j))
+returns-2 c x e j = let a = c .before .before .before .before .before .before .before .before .args in rw (e, c .before .before .before .before .before .before .u16-at .ensures) (take-may (a .list .now) (a .at) G1 x (rw (c .before .enum-told2 .given .1) at j))
 
 returns-3 : tie.Need-returns-3
-returns-3 c x e j = let a = c .before .before .before .before .before .before .before .before .args in rw (e, c .before .before .before .before .before .before .u16-at .ensures, c .before .before .before .before .before .u16-at2 .ensures, c .before .before .before .before .u64-at .ensures) (take-may (a .s .now) (a .at) G2 x (rw (c .before .enum-told3 .given .1) at j))
+returns-3 c x e j = let a = c .before .before .before .before .before .before .before .before .args in rw (e, c .before .before .before .before .before .before .u16-at .ensures, c .before .before .before .before .before .u16-at2 .ensures, c .before .before .before .before .u64-at .ensures) (take-may (a .list .now) (a .at) G2 x (rw (c .before .enum-told3 .given .1) at j))
 
 returns-4 : tie.Need-returns-4
-returns-4 c x e j = let a = c .before .before .before .before .before .before .before .before .args in rw (e, c .before .before .before .before .before .before .u16-at .ensures) (take-may (a .s .now) (a .at) G3 x (rw (c .before .enum-told4 .given .1) at j))
+returns-4 c x e j = let a = c .before .before .before .before .before .before .before .before .args in rw (e, c .before .before .before .before .before .before .u16-at .ensures) (take-may (a .list .now) (a .at) G3 x (rw (c .before .enum-told4 .given .1) at j))
 
 returns-5 : tie.Need-returns-5
-returns-5 c x e j = let a = c .before .before .before .before .before .before .before .before .before .args in rw (e, c .before .before .before .before .before .before .before .u16-at .ensures, c .before .before .before .before .before .u64-at .ensures) (take-may (a .s .now) (a .at) G4 x (rw (c .before .before .enum-told5 .given .1) at j))
+returns-5 c x e j = let a = c .before .before .before .before .before .before .before .before .before .args in rw (e, c .before .before .before .before .before .before .before .u16-at .ensures, c .before .before .before .before .before .u64-at .ensures) (take-may (a .list .now) (a .at) G4 x (rw (c .before .before .enum-told5 .given .1) at j))
 
 pub may-take-spec : {M : Type 1} → statement M
 may-take-spec =

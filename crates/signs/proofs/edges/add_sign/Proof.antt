@@ -21,17 +21,17 @@ use Rattle.signs.proofs.edges.add_sign.Tie as tie
 abbrev start : tie.After-sign-before-arg → tie.Start
 start c = c .before .before .before .before .before
 
-inside : (a : tie.Start) → a .args .x .start .0 ≤ length (chars (a .args .line .now))
+inside : (a : tie.Start) → a .args .edge .start .0 ≤ length (chars (a .args .line .now))
 inside a =
     let (i, is) = a .pre .0 .stored-edge in
-    let places = places-of (a .args .line .now) (a .args .table .now) (a .args .x) i is in
+    let places = places-of (a .args .line .now) (a .args .table .now) (a .args .edge) i is in
     omega (arith, places .0, places .1)
 
 -- the sign as it is cut out of the table
-sign-is : (a : tie.Start) → take (a .args .m .at .0 + a .args .m .len - a .args .m .at .0) (drop (a .args .m .at .0) (a .args .table .now)) ≡ partOf (a .args .table .now) (a .args .m)
-sign-is a = cut-is (a .args .table .now) (a .args .m .at .0) (a .args .m .len)
+sign-is : (a : tie.Start) → take (a .args .marker .at .0 + a .args .marker .len - a .args .marker .at .0) (drop (a .args .marker .at .0) (a .args .table .now)) ≡ partOf (a .args .table .now) (a .args .marker)
+sign-is a = cut-is (a .args .table .now) (a .args .marker .at .0) (a .args .marker .len)
 
-found : (c : tie.After-size) → let a = start (c .before .before .before) in signOf (chars (a .args .line .now)) (a .args .x .start .0) (partOf (a .args .table .now) (a .args .m)) ≡ Sign.Before (c .size .given .0 .0)
+found : (c : tie.After-size) → let a = start (c .before .before .before) in signOf (chars (a .args .line .now)) (a .args .edge .start .0) (partOf (a .args .table .now) (a .args .marker)) ≡ Sign.Before (c .size .given .0 .0)
 found c = sign-told _ _ (sign-is (start (c .before .before .before))) (c .before .before .sign-before .ensures) (c .size .given .1)
 
 add-to : tie.Need-add-to
@@ -73,7 +73,7 @@ returns c =
       frame = added .0;
       holds =
           λ es i q e.
-          sign-added (chars (a .line .now)) (a .sign) (edgeOf (chars (a .line .now)) (a .table .now) i) (start-is (chars (a .line .now)) (a .table .now) e) (partOf (a .table .now) (a .m)) (found at-size) es (added .1 es i q e);
+          sign-added (chars (a .line .now)) (a .sign) (edgeOf (chars (a .line .now)) (a .table .now) i) (start-is (chars (a .line .now)) (a .table .now) e) (partOf (a .table .now) (a .marker)) (found at-size) es (added .1 es i q e);
     }
 
 returns-2 : tie.Need-returns-2
@@ -85,7 +85,7 @@ returns-2 c =
       frame = refl;
       holds =
           λ es i q e.
-          sign-absent (chars (a .line .now)) (a .sign) (edgeOf (chars (a .line .now)) (a .table .now) i) (start-is (chars (a .line .now)) (a .table .now) e) (partOf (a .table .now) (a .m)) (sign-told _ _ (sign-is s) (k .sign-before .ensures) (c .enum-told .given .1)) es q;
+          sign-absent (chars (a .line .now)) (a .sign) (edgeOf (chars (a .line .now)) (a .table .now) i) (start-is (chars (a .line .now)) (a .table .now) e) (partOf (a .table .now) (a .marker)) (sign-told _ _ (sign-is s) (k .sign-before .ensures) (c .enum-told .given .1)) es q;
     }
 
 pub add-sign-spec : {M : Type 1} → statement M

@@ -21,10 +21,10 @@ typed c = c .before .before .before .before .before
 abbrev texted : tie.After-sign-txt → tie.Start
 texted c = typed (c .before .before .before)
 
-type-is : (c : tie.After-sign-type) (i : StoredEdge) → EdgeIs (typed c .args .x) i → Begins (c .sign-type .last .0) (c .sign-type .result) (typeOf (typed c .args .table .now) i ++ (32 ∷ typed c .args .sign ∷ []))
+type-is : (c : tie.After-sign-type) (i : StoredEdge) → EdgeIs (typed c .args .edge) i → Begins (c .sign-type .last .0) (c .sign-type .result) (typeOf (typed c .args .table .now) i ++ (32 ∷ typed c .args .sign ∷ []))
 type-is c i e = c .sign-type .ensures i e
 
-txt-is : (c : tie.After-sign-txt) (i : StoredEdge) → EdgeIs (texted c .args .x) i
+txt-is : (c : tie.After-sign-txt) (i : StoredEdge) → EdgeIs (texted c .args .edge) i
     → Begins (c .sign-txt .last .0) (c .sign-txt .result) (texted c .args .sign ∷ txtOf (chars (texted c .args .line .now)) (texted c .args .table .now) i)
 txt-is c i e = c .sign-txt .ensures i e
 
@@ -74,7 +74,7 @@ add-regular-requires c κs =
     let s = texted at-txt in
     let p = s .pre .0 in
     let (i, is) = p .stored-edge in
-    let places = places-of (s .args .line .now) (s .args .table .now) (s .args .x) i is in
+    let places = places-of (s .args .line .now) (s .args .table .now) (s .args .edge) i is in
     let short = sign-short (s .args .line .now) (s .args .table .now) is (p .few) (s .args .sign) (type-is at-type i (is .is) .is) (txt-is at-txt i (is .is) .is) in
     (p .holds, omega (arith, s .pre .1), omega (arith, places .1, p .few), short)
 
