@@ -28,12 +28,14 @@ pub fn run_last_stages(
     places: usize,
     stored: usize,
 ) -> Lattice
-    requires { ⌜ Ready (now line) (now table) shape places × ((es : List Edge) × Holds (now work) lattice es × CallEdges places es)
-        × Offsets (now line) (now offs) × AllGrounded (chars (now line)) (now table) (behind (now work) stored)
+    requires { ⌜ Ready (now line) (now table) shape places
+        × ((es : List Edge) × Holds (now work) lattice es × CallEdges places es) × Offsets (now line) (now offs)
+        × AllGrounded (chars (now line)) (now table) (behind (now work) stored)
         × CallEdges places (listedStored (chars (now line)) (now table) (behind (now work) stored))
         × (END + stored * SIZE ≤ length (now work)) ⌝ }
     ensures { λ r. ⌜ ((es : List Edge) → Holds (now (work .entry)) lattice es → CallEdges places es
-        → Holds (now (work .exit)) r (restOf (tableOf (now (table .entry)) shape) (chars (now (line .entry))) (map (edgeOf (chars (now (line .entry))) (now (table .entry))) (behind (now (work .entry)) stored)) es)) ⌝ }
+        → Holds (now (work .exit)) r (restOf (tableOf (now (table .entry)) shape) (chars (now (line .entry)))
+        (map (edgeOf (chars (now (line .entry))) (now (table .entry))) (behind (now (work .entry)) stored)) es)) ⌝ }
 {
     let made = fractions::fractions(work, lattice, line, offs, table, shape, places);
     let signed = signs::add_signs(work, made, line, offs, table, shape, stored);

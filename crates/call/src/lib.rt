@@ -41,8 +41,11 @@ fn checked_call(
     out: &mut [u8],
 ) -> Answer
     requires { ⌜ Offsets (now line) (now offs) × (workSize ≤ length (now work))
-        × Accepted (now line) (now table) (now edges) places shape count × RecordIndex (now table) shape (now index) entries ⌝ }
-    ensures { λ r. ⌜ AnswerIs (now (out .entry)) (now (out .exit)) r (afterChecks (tableOf (now (table .entry)) shape) (chars (now (line .entry))) (length (now (out .entry))) (listed (now (edges .entry)))) ⌝ }
+        × Accepted (now line) (now table) (now edges) places shape count
+        × RecordIndex (now table) shape (now index) entries ⌝ }
+    ensures { λ r. ⌜ AnswerIs (now (out .entry)) (now (out .exit)) r
+        (afterChecks (tableOf (now (table .entry)) shape) (chars (now (line .entry))) (length (now (out .entry)))
+        (listed (now (edges .entry)))) ⌝ }
 {
     match first_stages::run_first_stages(
         work,
@@ -80,7 +83,9 @@ pub fn add_numbers(
     work: &mut [u8],
     out: &mut [u8],
 ) -> Answer
-    ensures { λ r. ⌜ AnswerIs (now (out .entry)) (now (out .exit)) r (addNumbers (now (line .entry)) (now (table .entry)) (now (edges .entry)) (length (now (work .entry))) (length (now (out .entry)))) ⌝ }
+    ensures { λ r. ⌜ AnswerIs (now (out .entry)) (now (out .exit)) r
+        (addNumbers (now (line .entry)) (now (table .entry)) (now (edges .entry)) (length (now (work .entry)))
+        (length (now (out .entry)))) ⌝ }
 {
     if work.len() < WORK_SIZE {
         return Answer::Refused(Refusal::ShortWork);

@@ -36,7 +36,8 @@ pub fn add_char(
     edge: PassEdge,
 ) -> Lattice
     requires { ⌜ Addable (now work) lattice (now line) (now offs) (now table) edge × (kindNumber (edge .kind) ≡ 0) ⌝ }
-    ensures { λ r. ⌜ Added (now (line .entry)) (now (table .entry)) edge (now (work .entry)) lattice (now (work .exit)) r ⌝ }
+    ensures { λ r. ⌜ Added (now (line .entry)) (now (table .entry)) edge (now (work .entry)) lattice
+        (now (work .exit)) r ⌝ }
 {
     let at = edge.record_at.0;
     let f = fraction_at(table, at);

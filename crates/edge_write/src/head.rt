@@ -31,7 +31,8 @@ pub fn put_head(
     requires { ⌜ (at + 10 + length (now ty) + length (now txt) ≤ length (now out)) × (length (now ty) < u16Limit)
         × (length (now txt) < u16Limit) × (start .0 < u16Limit) × (end .0 < u16Limit) ⌝ }
     ensures { λ r. ⌜ (r ≡ at + 10 + length (now (ty .entry)) + length (now (txt .entry)))
-        × Put (now (out .entry)) (now (out .exit)) at r (headBytes map (start .0) (end .0) (now (ty .entry)) (now (txt .entry))) ⌝ }
+        × Put (now (out .entry)) (now (out .exit)) at r
+        (headBytes map (start .0) (end .0) (now (ty .entry)) (now (txt .entry))) ⌝ }
 {
     fields::write::put_u16(out, at, map);
     fields::write::put_u16(out, at + 2, start.0 as u16);

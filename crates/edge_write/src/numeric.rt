@@ -35,7 +35,8 @@ fn put_part_if(map: u16, p: u16, out: &mut [u8], at: usize, s: &[u8], t: Part) -
     requires { ⌜ (0 < p) × (textPastIf (eqb (map / p % 2) 1) (t .len) at ≤ length (now out)) × (t .len < u16Limit)
         × (eqb (map / p % 2) 1 ≡ true → t .at .0 + t .len ≤ length (now s)) ⌝ }
     ensures { λ r. ⌜ (r ≡ textPastIf (eqb (map / p % 2) 1) (t .len) at)
-        × Put (now (out .entry)) (now (out .exit)) at r (bytesIf str (only (eqb (map / p % 2) 1) (partOf (now (s .entry)) t))) ⌝ }
+        × Put (now (out .entry)) (now (out .exit)) at r
+        (bytesIf str (only (eqb (map / p % 2) 1) (partOf (now (s .entry)) t))) ⌝ }
 {
     if edge::bit(map, p) {
         put_part(out, at, s, t)
@@ -74,7 +75,8 @@ fn put_numbers(out: &mut [u8], at: usize, d: NumFields) -> usize
 // The fields of a numeric edge, their texts in three slices.
 fn put_fields(out: &mut [u8], at: usize, d: NumFields, o: &[u8], c: &[u8], v: &[u8]) -> usize
     requires { ⌜ (fieldsPast d at ≤ length (now out)) × Writable (now o) (now c) (now v) d ⌝ }
-    ensures { λ r. ⌜ Put (now (out .entry)) (now (out .exit)) at r (numericBytes (numericOf (now (o .entry)) (now (c .entry)) (now (v .entry)) d)) ⌝ }
+    ensures { λ r. ⌜ Put (now (out .entry)) (now (out .exit)) at r
+        (numericBytes (numericOf (now (o .entry)) (now (c .entry)) (now (v .entry)) d)) ⌝ }
 {
     let value = put_part(out, at, o, d.orig);
     let script = put_numbers(out, value, d);
@@ -116,8 +118,12 @@ pub fn write_numeric(
 ) -> Written
     requires { ⌜ (at ≤ length (now out)) × (length (now ty) < u16Limit) × (length (now txt) < u16Limit)
         × (start .0 < u16Limit) × (end .0 < u16Limit) × Writable (now o) (now c) (now v) d ⌝ }
-    ensures answer { λ r. ⌜ r ≡ written (now (out .entry)) at (edgeBytes (numeric (start .0) (end .0) (now (ty .entry)) (now (txt .entry)) (now (o .entry)) (now (c .entry)) (now (v .entry)) d)) ⌝ }
-    ensures bytes { λ _. ⌜ now (out .exit) ≡ writtenTo (now (out .entry)) at (edgeBytes (numeric (start .0) (end .0) (now (ty .entry)) (now (txt .entry)) (now (o .entry)) (now (c .entry)) (now (v .entry)) d)) ⌝ }
+    ensures answer { λ r. ⌜ r ≡ written (now (out .entry)) at
+        (edgeBytes (numeric (start .0) (end .0) (now (ty .entry)) (now (txt .entry)) (now (o .entry)) (now (c .entry))
+        (now (v .entry)) d)) ⌝ }
+    ensures bytes { λ _. ⌜ now (out .exit) ≡ writtenTo (now (out .entry)) at
+        (edgeBytes (numeric (start .0) (end .0) (now (ty .entry)) (now (txt .entry)) (now (o .entry)) (now (c .entry))
+        (now (v .entry)) d)) ⌝ }
 {
     let head = at + 10 + ty.len() + txt.len();
     if out.len() < fields_past(d, head) {

@@ -19,8 +19,10 @@ pub fn write_regular(
 ) -> Written
     requires { ⌜ (at ≤ length (now out)) × (length (now ty) < u16Limit) × (length (now txt) < u16Limit)
         × (start .0 < u16Limit) × (end .0 < u16Limit) ⌝ }
-    ensures answer { λ r. ⌜ r ≡ written (now (out .entry)) at (edgeBytes (regular (start .0) (end .0) (now (ty .entry)) (now (txt .entry)))) ⌝ }
-    ensures bytes { λ _. ⌜ now (out .exit) ≡ writtenTo (now (out .entry)) at (edgeBytes (regular (start .0) (end .0) (now (ty .entry)) (now (txt .entry)))) ⌝ }
+    ensures answer { λ r. ⌜ r ≡ written (now (out .entry)) at
+        (edgeBytes (regular (start .0) (end .0) (now (ty .entry)) (now (txt .entry)))) ⌝ }
+    ensures bytes { λ _. ⌜ now (out .exit) ≡ writtenTo (now (out .entry)) at
+        (edgeBytes (regular (start .0) (end .0) (now (ty .entry)) (now (txt .entry)))) ⌝ }
 {
     if out.len() < at + 10 + ty.len() + txt.len() {
         return Written::NoRoom;

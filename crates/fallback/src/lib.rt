@@ -20,7 +20,8 @@ use text::check::PLACES;
 // The edge of a character at a place, by its first byte, if it is a digit whose place has no mark.
 fn add_digit(work: &mut [u8], lattice: Lattice, byte: u8, place: Place, marked: bool) -> Lattice
     requires { ⌜ ((es : List Edge) × Holds (now work) lattice es) × (place .0 < maxChars) ⌝ }
-    ensures { λ r. ⌜ SameBehind (now (work .entry)) (now (work .exit)) × ((es : List Edge) → Holds (now (work .entry)) lattice es
+    ensures { λ r. ⌜ SameBehind (now (work .entry)) (now (work .exit))
+        × ((es : List Edge) → Holds (now (work .entry)) lattice es
         → Holds (now (work .exit)) r (addAll es (digitEdge byte (place .0) marked))) ⌝ }
 {
     if marked | (byte < 48) | (57 < byte) {
@@ -41,7 +42,8 @@ fn add_unmarked(
 ) -> Lattice
     requires { ⌜ ((es : List Edge) × Holds (now work) lattice es) × Offsets (now line) (now offs)
         × (length (chars (now line)) ≡ places) × (places ≤ maxChars) ⌝ }
-    ensures { λ r. ⌜ SameBehind (now (work .entry)) (now (work .exit)) × ((es : List Edge) → Holds (now (work .entry)) lattice es
+    ensures { λ r. ⌜ SameBehind (now (work .entry)) (now (work .exit))
+        × ((es : List Edge) → Holds (now (work .entry)) lattice es
         → Holds (now (work .exit)) r (addAll es (unmarked (now (marks .entry)) 0 (chars (now (line .entry)))))) ⌝ }
 {
     let mut grown = lattice;
@@ -78,8 +80,9 @@ pub fn fallback(
 ) -> Lattice
     requires { ⌜ Offsets (now line) (now offs) × (length (chars (now line)) ≡ places) × (places ≤ maxChars)
         × ((es : List Edge) × Holds (now work) lattice es × Legals places es) ⌝ }
-    ensures { λ r. ⌜ SameBehind (now (work .entry)) (now (work .exit)) × ((es : List Edge) → Holds (now (work .entry)) lattice es
-        → Legals places es → Holds (now (work .exit)) r (addAll es (fallback es 0 (chars (now (line .entry)))))) ⌝ }
+    ensures { λ r. ⌜ SameBehind (now (work .entry)) (now (work .exit))
+        × ((es : List Edge) → Holds (now (work .entry)) lattice es → Legals places es
+        → Holds (now (work .exit)) r (addAll es (fallback es 0 (chars (now (line .entry)))))) ⌝ }
 {
     if lattice.len == 0 {
         return lattice;

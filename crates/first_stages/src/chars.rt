@@ -54,11 +54,15 @@ fn put_and_add(
     place: Place,
     code: u32,
 ) -> Lattice
-    requires { ⌜ Room (now work) lattice (now line) (now offs) × (count < maxChars) × (place .0 < maxChars) × Inside (now table) prop
+    requires { ⌜ Room (now work) lattice (now line) (now offs) × (count < maxChars) × (place .0 < maxChars)
+        × Inside (now table) prop
         × Grounded (chars (now line)) (now table) (charStored (now table) prop («record_at» .0) (place .0) code) ⌝ }
-    ensures { λ r. ⌜ (behind (now (work .exit)) (count + 1) ≡ behind (now (work .entry)) count ++ (charStored (now (table .entry)) prop («record_at» .0) (place .0) code ∷ []))
+    ensures { λ r. ⌜ (behind (now (work .exit)) (count + 1) ≡ behind (now (work .entry)) count
+        ++ (charStored (now (table .entry)) prop («record_at» .0) (place .0) code ∷ []))
         × ((es : List Edge) → Holds (now (work .entry)) lattice es
-        → Holds (now (work .exit)) r (add es (listedEdge (edgeOf (chars (now (line .entry))) (now (table .entry)) (charStored (now (table .entry)) prop («record_at» .0) (place .0) code))))) ⌝ }
+        → Holds (now (work .exit)) r (add es (listedEdge
+        (edgeOf (chars (now (line .entry))) (now (table .entry))
+        (charStored (now (table .entry)) prop («record_at» .0) (place .0) code))))) ⌝ }
 {
     let e = char_edge(table, prop, record_at, place, code);
     write_edge(work, lattice::END + count * SIZE, e);
@@ -82,8 +86,10 @@ fn add_char(
         × Indexed (now table) (recordsIn (now table) all) (now index) (all .left) entries × (done .count ≤ place .0)
         × (place .0 < length (chars (now line))) × (getD (chars (now line)) (place .0) 0 ≡ code) ⌝ }
     ensures { λ r. ⌜ ((s : List ℕ) (l : Lattice)
-        → Adding (now (line .entry)) (now (table .entry)) (recordsIn (now (table .entry)) all) (place .0) s l (now (work .entry)) done
-        → Adding (now (line .entry)) (now (table .entry)) (recordsIn (now (table .entry)) all) (place .0 + 1) s l (now (work .exit)) r) ⌝ }
+        → Adding (now (line .entry)) (now (table .entry)) (recordsIn (now (table .entry)) all) (place .0) s l
+        (now (work .entry)) done
+        → Adding (now (line .entry)) (now (table .entry)) (recordsIn (now (table .entry)) all) (place .0 + 1) s l
+        (now (work .exit)) r) ⌝ }
 {
     let l = done.lattice;
     let n = done.count;
@@ -107,9 +113,10 @@ fn add_chars(
     index: &[u32; INDEX_SIZE],
     entries: usize,
 ) -> CharsAnswer
-    requires { ⌜ Room (now work) lattice (now line) (now offs) × (wellFormed (now line) ≡ true) × Records (now table) all
-        × Indexed (now table) (recordsIn (now table) all) (now index) (all .left) entries ⌝ }
-    ensures { λ r. ⌜ Adding (now (line .entry)) (now (table .entry)) (recordsIn (now (table .entry)) all) (length (chars (now (line .entry)))) (now (work .entry)) lattice (now (work .exit)) r ⌝ }
+    requires { ⌜ Room (now work) lattice (now line) (now offs) × (wellFormed (now line) ≡ true)
+        × Records (now table) all × Indexed (now table) (recordsIn (now table) all) (now index) (all .left) entries ⌝ }
+    ensures { λ r. ⌜ Adding (now (line .entry)) (now (table .entry)) (recordsIn (now (table .entry)) all)
+        (length (chars (now (line .entry)))) (now (work .entry)) lattice (now (work .exit)) r ⌝ }
 {
     let mut done = CharsAnswer {
         lattice: lattice,
@@ -148,9 +155,11 @@ pub fn initialize_num_edges(
     index: &[u32; INDEX_SIZE],
     entries: usize,
 ) -> CharsAnswer
-    requires { ⌜ ((es : List Edge) × Holds (now work) lattice es) × Offsets (now line) (now offs) × (workSize ≤ length (now work))
-        × ((n : ℕ) × Ready (now line) (now table) shape n) × RecordIndex (now table) shape (now index) entries ⌝ }
-    ensures { λ r. ⌜ FirstDone (now (line .entry)) (now (table .entry)) shape (now (work .entry)) lattice (now (work .exit)) r ⌝ }
+    requires { ⌜ ((es : List Edge) × Holds (now work) lattice es) × Offsets (now line) (now offs)
+        × (workSize ≤ length (now work)) × ((n : ℕ) × Ready (now line) (now table) shape n)
+        × RecordIndex (now table) shape (now index) entries ⌝ }
+    ensures { λ r. ⌜ FirstDone (now (line .entry)) (now (table .entry)) shape (now (work .entry)) lattice
+        (now (work .exit)) r ⌝ }
 {
     // the table begins with the count of its records
     let count = fields::u16_at(table, 0) as usize;

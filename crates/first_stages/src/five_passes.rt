@@ -45,8 +45,10 @@ fn add_joined(
     table: &[u8],
     edge: PassEdge,
 ) -> Lattice
-    requires { ⌜ Addable (now work) lattice (now line) (now offs) (now table) edge × (kindNumber (edge .kind) ≡ 0 → ⊥) ⌝ }
-    ensures { λ r. ⌜ Added (now (line .entry)) (now (table .entry)) edge (now (work .entry)) lattice (now (work .exit)) r ⌝ }
+    requires { ⌜ Addable (now work) lattice (now line) (now offs) (now table) edge
+        × (kindNumber (edge .kind) ≡ 0 → ⊥) ⌝ }
+    ensures { λ r. ⌜ Added (now (line .entry)) (now (table .entry)) edge (now (work .entry)) lattice
+        (now (work .exit)) r ⌝ }
 {
     let mut ty = [0u8; MAX_STRING];
     let mut txt = [0u8; MAX_CHARS];
@@ -83,8 +85,10 @@ fn add_if(
         × (length (chars (now line)) ≤ maxChars)
         × Grounded (chars (now line)) (now table) (storedAt (drop END (now work)) (i * SIZE))
         × (END + i * SIZE + SIZE ≤ length (now work)) × (kind ≡ 0 → ⊥) ⌝ }
-    ensures { λ r. ⌜ SameBehind (now (work .entry)) (now (work .exit)) × ((es : List Edge) → Holds (now (work .entry)) lattice es
-        → Holds (now (work .exit)) r (addIf (chars (now (line .entry))) (now (table .entry)) kind es (storedAt (drop END (now (work .entry))) (i * SIZE)))) ⌝ }
+    ensures { λ r. ⌜ SameBehind (now (work .entry)) (now (work .exit))
+        × ((es : List Edge) → Holds (now (work .entry)) lattice es
+        → Holds (now (work .exit)) r (addIf (chars (now (line .entry))) (now (table .entry)) kind es
+        (storedAt (drop END (now (work .entry))) (i * SIZE)))) ⌝ }
 {
     let at = lattice::END + i * SIZE;
     let found = kind_number(kind_at(work, at));
@@ -109,8 +113,11 @@ fn add_of_kind(
         × (length (chars (now line)) ≤ maxChars)
         × AllGrounded (chars (now line)) (now table) (storedListAt (drop END (now work)) 0 stored)
         × (END + stored * SIZE ≤ length (now work)) × (kind ≡ 0 → ⊥) ⌝ }
-    ensures { λ r. ⌜ SameBehind (now (work .entry)) (now (work .exit)) × ((es : List Edge) → Holds (now (work .entry)) lattice es
-        → Holds (now (work .exit)) r (addAll es (map listedEdge (map (edgeOf (chars (now (line .entry))) (now (table .entry))) (ofKind kind (storedListAt (drop END (now (work .entry))) 0 stored)))))) ⌝ }
+    ensures { λ r. ⌜ SameBehind (now (work .entry)) (now (work .exit))
+        × ((es : List Edge) → Holds (now (work .entry)) lattice es
+        → Holds (now (work .exit)) r (addAll es
+        (map listedEdge (map (edgeOf (chars (now (line .entry))) (now (table .entry)))
+        (ofKind kind (storedListAt (drop END (now (work .entry))) 0 stored)))))) ⌝ }
 {
     // two words, not a structure: one that is handed back in two pieces and copied as a whole makes the processor wait
     let mut count = lattice.count;
@@ -138,7 +145,8 @@ fn one_pass(
     requires { ⌜ ((es : List Edge) × Holds (now work) lattice es) × Offsets (now line) (now offs)
         × (length (chars (now line)) ≤ maxChars) × (workSize ≤ length (now work))
         × PassList (chars (now line)) (now table) (suc i) (now work) stored × (i < 5) ⌝ }
-    ensures { λ r. ⌜ OnePass (chars (now (line .entry))) (now (table .entry)) i (now (work .entry)) lattice stored (now (work .exit)) r ⌝ }
+    ensures { λ r. ⌜ OnePass (chars (now (line .entry))) (now (table .entry)) i (now (work .entry)) lattice stored
+        (now (work .exit)) r ⌝ }
 {
     match pass_run::nth::pass_behind(work, lattice::END, stored, i) {
         PassAnswer::Above(p) => PassesAnswer::Above(p),
@@ -165,7 +173,8 @@ pub fn five_passes(
     requires { ⌜ ((es : List Edge) × Holds (now work) lattice es) × Offsets (now line) (now offs)
         × (length (chars (now line)) ≤ maxChars) × (workSize ≤ length (now work))
         × PassList (chars (now line)) (now table) 1 (now work) stored ⌝ }
-    ensures { λ r. ⌜ FivePasses (chars (now (line .entry))) (now (table .entry)) (now (work .entry)) lattice stored (now (work .exit)) r ⌝ }
+    ensures { λ r. ⌜ FivePasses (chars (now (line .entry))) (now (table .entry)) (now (work .entry)) lattice stored
+        (now (work .exit)) r ⌝ }
 {
     let mut grown = lattice;
     let mut count = stored;

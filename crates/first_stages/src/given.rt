@@ -13,8 +13,10 @@ use lattice::Lattice;
 
 // The edges of an accepted listing are added, one after the other from its front.
 pub fn add_all_given(work: &mut [u8], lattice: Lattice, given: &[u8], count: usize) -> Lattice
-    requires { ⌜ ((es : List Edge) × Holds (now work) lattice es) × ((n : ℕ) × (checkListing true n (now given) ≡ Edges count)) ⌝ }
-    ensures { λ r. ⌜ SameBehind (now (work .entry)) (now (work .exit)) × ((es : List Edge) → Holds (now (work .entry)) lattice es
+    requires { ⌜ ((es : List Edge) × Holds (now work) lattice es)
+        × ((n : ℕ) × (checkListing true n (now given) ≡ Edges count)) ⌝ }
+    ensures { λ r. ⌜ SameBehind (now (work .entry)) (now (work .exit))
+        × ((es : List Edge) → Holds (now (work .entry)) lattice es
         → Holds (now (work .exit)) r (addAll es (listed (now (given .entry))))) ⌝ }
 {
     let mut grown = lattice;

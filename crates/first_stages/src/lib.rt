@@ -32,7 +32,8 @@ pub fn run_first_stages(
     requires { ⌜ Offsets (now line) (now offs) × (workSize ≤ length (now work))
         × ((n : ℕ) × Ready (now line) (now table) shape n × (checkListing true n (now edges) ≡ Edges count))
         × RecordIndex (now table) shape (now index) entries ⌝ }
-    ensures { λ r. ⌜ CallPassed (now (line .entry)) (now (table .entry)) shape (now (edges .entry)) (now (work .exit)) r ⌝ }
+    ensures { λ r. ⌜ CallPassed (now (line .entry)) (now (table .entry)) shape (now (edges .entry))
+        (now (work .exit)) r ⌝ }
 {
     let none = lattice::ends::empty(work);
     let given = crate::given::add_all_given(work, none, edges, count);

@@ -91,7 +91,8 @@ fn whole_value_at(work: &[u8], at: usize) -> WholeValue
 // The value of the i-th edge.
 fn whole_value(work: &[u8], lattice: Lattice, i: usize) -> WholeValue
     requires { ⌜ ((es : List Edge) × HoldsLine (now work) lattice es) × (i < lattice .count) ⌝ }
-    ensures { λ r. ⌜ ((es : List Edge) → HoldsLine (now (work .entry)) lattice es → optionOf r ≡ wholeValue (getD es i noEdge)) ⌝ }
+    ensures { λ r. ⌜ ((es : List Edge) → HoldsLine (now (work .entry)) lattice es
+        → optionOf r ≡ wholeValue (getD es i noEdge)) ⌝ }
 {
     let at = lattice::offset_at(work, lattice, i);
     whole_value_at(work, at)
@@ -100,7 +101,8 @@ fn whole_value(work: &[u8], lattice: Lattice, i: usize) -> WholeValue
 // Whether the i-th edge is numeric.
 fn is_numeric(work: &[u8], lattice: Lattice, i: usize) -> bool
     requires { ⌜ ((es : List Edge) × HoldsLine (now work) lattice es) × (i < lattice .count) ⌝ }
-    ensures { λ r. ⌜ ((es : List Edge) → HoldsLine (now (work .entry)) lattice es → r ≡ isNumeric (getD es i noEdge)) ⌝ }
+    ensures { λ r. ⌜ ((es : List Edge) → HoldsLine (now (work .entry)) lattice es
+        → r ≡ isNumeric (getD es i noEdge)) ⌝ }
 {
     let at = lattice::offset_at(work, lattice, i);
     edge::bit(fields::u16_at(work, at), bits::NUMERIC)
@@ -109,7 +111,8 @@ fn is_numeric(work: &[u8], lattice: Lattice, i: usize) -> bool
 // "Otherwise a percentage marker with a numeric right neighbour": right is one more than its index, 0 for none.
 fn otherwise(work: &[u8], lattice: Lattice, percent: bool, right: usize) -> Choice
     requires { ⌜ ((es : List Edge) × HoldsLine (now work) lattice es) × (right ≤ lattice .count) ⌝ }
-    ensures { λ r. ⌜ ((es : List Edge) → HoldsLine (now (work .entry)) lattice es → r ≡ otherwiseOf percent es right) ⌝ }
+    ensures { λ r. ⌜ ((es : List Edge) → HoldsLine (now (work .entry)) lattice es
+        → r ≡ otherwiseOf percent es right) ⌝ }
 {
     if !percent {
         return Choice {
@@ -193,8 +196,10 @@ fn between(
     left: usize,
     right: usize,
 ) -> Choice
-    requires { ⌜ ((es : List Edge) × HoldsLine (now work) lattice es) × (left ≤ lattice .count) × (right ≤ lattice .count) ⌝ }
-    ensures { λ r. ⌜ ((es : List Edge) → HoldsLine (now (work .entry)) lattice es → r ≡ betweenOf percent other es left right) ⌝ }
+    requires { ⌜ ((es : List Edge) × HoldsLine (now work) lattice es) × (left ≤ lattice .count)
+        × (right ≤ lattice .count) ⌝ }
+    ensures { λ r. ⌜ ((es : List Edge) → HoldsLine (now (work .entry)) lattice es
+        → r ≡ betweenOf percent other es left right) ⌝ }
 {
     if left == 0 {
         return other;
@@ -219,7 +224,8 @@ fn marked(
     place: Place,
     size: usize,
 ) -> Choice
-    requires { ⌜ ((es : List Edge) × HoldsNeighbors (now work) lattice (now lefts) (now rights) es) × (place .0 + size ≤ maxChars) ⌝ }
+    requires { ⌜ ((es : List Edge) × HoldsNeighbors (now work) lattice (now lefts) (now rights) es)
+        × (place .0 + size ≤ maxChars) ⌝ }
     ensures { λ r. ⌜ ((es : List Edge)
         → HoldsNeighbors (now (work .entry)) lattice (now (lefts .entry)) (now (rights .entry)) es
         → (outcomeOf es (place .0) r ≡ marked percent es (place .0) size) × Valid es r) ⌝ }

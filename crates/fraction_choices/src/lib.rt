@@ -39,7 +39,8 @@ fn choice_at(
         × (place .0 < length (chars (now line))) ⌝ }
     ensures { λ r. ⌜ ((es : List Edge)
         → HoldsNeighbors (now (work .entry)) lattice (now (before .entry)) (now (behind .entry)) es
-        → (outcomeOf es (place .0) r ≡ outcomeAt (tableOf (now (table .entry)) shape) (chars (now (line .entry))) es (place .0)) × Valid es r) ⌝ }
+        → (outcomeOf es (place .0) r ≡ outcomeAt (tableOf (now (table .entry)) shape) (chars (now (line .entry))) es
+        (place .0)) × Valid es r) ⌝ }
 {
     let marker = markers::find::marker_at(line, offs, table, shape, place);
     crate::decision::outcome_at(work, lattice, before, behind, marker, place)
@@ -61,11 +62,12 @@ fn choose_all(
     rights: &mut [usize; MAX_CHARS],
 )
     requires { ⌜ Ready (now line) (now table) shape places × Offsets (now line) (now offs)
-        × ((es : List Edge) × HoldsNeighbors (now work) lattice (now before) (now behind) es) × (length (now forms) ≡ maxChars)
-        × (length (now lefts) ≡ maxChars) × (length (now rights) ≡ maxChars) ⌝ }
+        × ((es : List Edge) × HoldsNeighbors (now work) lattice (now before) (now behind) es)
+        × (length (now forms) ≡ maxChars) × (length (now lefts) ≡ maxChars) × (length (now rights) ≡ maxChars) ⌝ }
     ensures { λ _. ⌜ ((es : List Edge)
         → HoldsNeighbors (now (work .entry)) lattice (now (before .entry)) (now (behind .entry)) es
-        → Decided (tableOf (now (table .entry)) shape) (chars (now (line .entry))) es (now (forms .exit)) (now (lefts .exit)) (now (rights .exit)) places) ⌝ }
+        → Decided (tableOf (now (table .entry)) shape) (chars (now (line .entry))) es (now (forms .exit))
+        (now (lefts .exit)) (now (rights .exit)) places) ⌝ }
 {
     let mut p = 0;
     while p < places {
@@ -105,7 +107,8 @@ pub fn choose(
         × ((es : List Edge) × HoldsLine (now work) lattice es) × (length (now forms) ≡ maxChars)
         × (length (now lefts) ≡ maxChars) × (length (now rights) ≡ maxChars) ⌝ }
     ensures { λ _. ⌜ ((es : List Edge) → HoldsLine (now (work .entry)) lattice es
-        → Decided (tableOf (now (table .entry)) shape) (chars (now (line .entry))) es (now (forms .exit)) (now (lefts .exit)) (now (rights .exit)) places) ⌝ }
+        → Decided (tableOf (now (table .entry)) shape) (chars (now (line .entry))) es (now (forms .exit))
+        (now (lefts .exit)) (now (rights .exit)) places) ⌝ }
 {
     let mut before = [0usize; PLACES];
     let mut behind = [0usize; PLACES];

@@ -45,7 +45,8 @@ fn scored_neighbors(
 )
     requires { ⌜ ((es : List Edge) × HoldsLine (now work) lattice es) × (now tops ≡ replicate PLACES 0)
         × (now table ≡ replicate PLACES 0) ⌝ }
-    ensures { λ _. ⌜ ((es : List Edge) → HoldsLine (now (work .entry)) lattice es → Neighbors right es (now (table .exit))) ⌝ }
+    ensures { λ _. ⌜ ((es : List Edge) → HoldsLine (now (work .entry)) lattice es
+        → Neighbors right es (now (table .exit))) ⌝ }
 {
     let mut at = 2;
     let mut i = 0;
@@ -61,7 +62,8 @@ fn scored_neighbors(
 // The right or the left neighbours of all places: one more than their indices, 0 for none.
 pub fn neighbors(work: &[u8], lattice: Lattice, right: bool, table: &mut [usize; PLACES])
     requires { ⌜ ((es : List Edge) × HoldsLine (now work) lattice es) × (now table ≡ replicate PLACES 0) ⌝ }
-    ensures { λ _. ⌜ ((es : List Edge) → HoldsLine (now (work .entry)) lattice es → Neighbors right es (now (table .exit))) ⌝ }
+    ensures { λ _. ⌜ ((es : List Edge) → HoldsLine (now (work .entry)) lattice es
+        → Neighbors right es (now (table .exit))) ⌝ }
 {
     let mut tops = [0usize; PLACES];
     scored_neighbors(work, lattice, right, &mut tops, table);

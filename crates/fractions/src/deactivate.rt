@@ -16,8 +16,11 @@ use text::check::MAX_CHARS;
 
 // Two edges turn inactive.
 fn turn_off_both(work: &mut [u8], lattice: Lattice, left: usize, right: usize)
-    requires { ⌜ ((es : List Edge) × Holds (now work) lattice es) × (lattice .len ≡ 0 → ⊥) × (left < lattice .count) × (right < lattice .count) ⌝ }
-    ensures { λ _. ⌜ SameBehind (now (work .entry)) (now (work .exit)) × ((es : List Edge) → Holds (now (work .entry)) lattice es → Holds (now (work .exit)) lattice (turnOffAt (turnOffAt es left) right)) ⌝ }
+    requires { ⌜ ((es : List Edge) × Holds (now work) lattice es) × (lattice .len ≡ 0 → ⊥) × (left < lattice .count)
+        × (right < lattice .count) ⌝ }
+    ensures { λ _. ⌜ SameBehind (now (work .entry)) (now (work .exit))
+        × ((es : List Edge) → Holds (now (work .entry)) lattice es
+        → Holds (now (work .exit)) lattice (turnOffAt (turnOffAt es left) right)) ⌝ }
 {
     lattice::turn_off(work, lattice, left);
     lattice::turn_off(work, lattice, right);
@@ -27,7 +30,8 @@ fn turn_off_both(work: &mut [u8], lattice: Lattice, left: usize, right: usize)
 fn turn_off_used(work: &mut [u8], lattice: Lattice, choice: Choice)
     requires { ⌜ ((es : List Edge) × Holds (now work) lattice es × Valid es choice) × (lattice .len ≡ 0 → ⊥) ⌝ }
     ensures { λ _. ⌜ SameBehind (now (work .entry)) (now (work .exit))
-        × ((es : List Edge) → Holds (now (work .entry)) lattice es → Holds (now (work .exit)) lattice (turnOff es (usedBy choice))) ⌝ }
+        × ((es : List Edge) → Holds (now (work .entry)) lattice es
+        → Holds (now (work .exit)) lattice (turnOff es (usedBy choice))) ⌝ }
 {
     let left = choice.left;
     let right = choice.right;
@@ -49,11 +53,13 @@ pub fn turn_off_all(
     rights: &[usize; MAX_CHARS],
     places: usize,
 )
-    requires { ⌜ ((es : List Edge) × Holds (now work) lattice es × AllValid es (now forms) (now lefts) (now rights) places)
-        × (lattice .len ≡ 0 → ⊥) × (places ≤ maxChars) ⌝ }
-    ensures { λ _. ⌜ SameBehind (now (work .entry)) (now (work .exit)) × ((es : List Edge) → Holds (now (work .entry)) lattice es
+    requires { ⌜ ((es : List Edge) × Holds (now work) lattice es
+        × AllValid es (now forms) (now lefts) (now rights) places) × (lattice .len ≡ 0 → ⊥) × (places ≤ maxChars) ⌝ }
+    ensures { λ _. ⌜ SameBehind (now (work .entry)) (now (work .exit))
+        × ((es : List Edge) → Holds (now (work .entry)) lattice es
         → AllValid es (now (forms .entry)) (now (lefts .entry)) (now (rights .entry)) places
-        → Holds (now (work .exit)) lattice (turnOff es (usedEdges (outcomesOf es (now (forms .entry)) (now (lefts .entry)) (now (rights .entry)) 0 places)))) ⌝ }
+        → Holds (now (work .exit)) lattice (turnOff es
+        (usedEdges (outcomesOf es (now (forms .entry)) (now (lefts .entry)) (now (rights .entry)) 0 places)))) ⌝ }
 {
     let mut p = 0;
     while p < places {

@@ -33,10 +33,13 @@ fn add_all(
     rights: &[usize; MAX_CHARS],
     places: usize,
 ) -> Lattice
-    requires { ⌜ ((es : List Edge) × Planned places (now work) lattice es (now forms) (now lefts) (now rights)) × (places ≤ maxChars) ⌝ }
-    ensures { λ r. ⌜ SameBehind (now (work .entry)) (now (work .exit)) × ((es : List Edge)
+    requires { ⌜ ((es : List Edge) × Planned places (now work) lattice es (now forms) (now lefts) (now rights))
+        × (places ≤ maxChars) ⌝ }
+    ensures { λ r. ⌜ SameBehind (now (work .entry)) (now (work .exit))
+        × ((es : List Edge)
         → Planned places (now (work .entry)) lattice es (now (forms .entry)) (now (lefts .entry)) (now (rights .entry))
-        → Holds (now (work .exit)) r (addAll es (newEdges (outcomesOf es (now (forms .entry)) (now (lefts .entry)) (now (rights .entry)) 0 places)))) ⌝ }
+        → Holds (now (work .exit)) r (addAll es
+        (newEdges (outcomesOf es (now (forms .entry)) (now (lefts .entry)) (now (rights .entry)) 0 places)))) ⌝ }
 {
     let mut grown = lattice;
     let mut p = 0;
@@ -58,11 +61,12 @@ pub fn fractions(
     shape: Shape,
     places: usize,
 ) -> Lattice
-    requires { ⌜ Ready (now line) (now table) shape places × ((es : List Edge) × Holds (now work) lattice es × CallEdges places es)
-        × Offsets (now line) (now offs) ⌝ }
-    ensures { λ r. ⌜ SameBehind (now (work .entry)) (now (work .exit)) × ((es : List Edge) → Holds (now (work .entry)) lattice es
-        → CallEdges places es
-        → Holds (now (work .exit)) r (fractions (tableOf (now (table .entry)) shape) (chars (now (line .entry))) es)) ⌝ }
+    requires { ⌜ Ready (now line) (now table) shape places
+        × ((es : List Edge) × Holds (now work) lattice es × CallEdges places es) × Offsets (now line) (now offs) ⌝ }
+    ensures { λ r. ⌜ SameBehind (now (work .entry)) (now (work .exit))
+        × ((es : List Edge) → Holds (now (work .entry)) lattice es → CallEdges places es
+        → Holds (now (work .exit)) r (fractions (tableOf (now (table .entry)) shape)
+        (chars (now (line .entry))) es)) ⌝ }
 {
     if lattice.len == 0 {
         return lattice;

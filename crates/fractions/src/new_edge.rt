@@ -18,7 +18,8 @@ use text::Place;
 
 // "right%" over all three.
 fn add_percent(work: &mut [u8], lattice: Lattice, left: usize, right: usize) -> Lattice
-    requires { ⌜ ((n : ℕ) × ((es : List Edge) × HoldsCall n (now work) lattice es × Two es left right)) × (lattice .len ≡ 0 → ⊥) ⌝ }
+    requires { ⌜ ((n : ℕ) × ((es : List Edge) × HoldsCall n (now work) lattice es × Two es left right))
+        × (lattice .len ≡ 0 → ⊥) ⌝ }
     ensures { λ r. ⌜ SameBehind (now (work .entry)) (now (work .exit)) × ((n : ℕ) (es : List Edge)
         → HoldsCall n (now (work .entry)) lattice es → Two es left right
         → Holds (now (work .exit)) r (add es (percentOf es left right))) ⌝ }
@@ -33,8 +34,8 @@ fn add_percent(work: &mut [u8], lattice: Lattice, left: usize, right: usize) -> 
 
 // "right/left" over all three.
 fn add_fraction(work: &mut [u8], lattice: Lattice, left: usize, right: usize) -> Lattice
-    requires { ⌜ ((n : ℕ) × ((es : List Edge) × HoldsCall n (now work) lattice es × Two es left right × (0 < valueOr (getD es left noEdge))))
-        × (lattice .len ≡ 0 → ⊥) ⌝ }
+    requires { ⌜ ((n : ℕ) × ((es : List Edge) × HoldsCall n (now work) lattice es × Two es left right
+        × (0 < valueOr (getD es left noEdge)))) × (lattice .len ≡ 0 → ⊥) ⌝ }
     ensures { λ r. ⌜ SameBehind (now (work .entry)) (now (work .exit)) × ((n : ℕ) (es : List Edge)
         → HoldsCall n (now (work .entry)) lattice es → Two es left right
         → Holds (now (work .exit)) r (add es (fractionOf es left right))) ⌝ }
@@ -54,8 +55,9 @@ fn add_fraction(work: &mut [u8], lattice: Lattice, left: usize, right: usize) ->
 // The edge that the choice at a place makes is added; a lattice that is full stays as it is.
 pub fn add_choice(work: &mut [u8], lattice: Lattice, place: Place, choice: Choice) -> Lattice
     requires { ⌜ ((n : ℕ) × ((es : List Edge) × HoldsChoice n (now work) lattice es choice)) × (place .0 < u16Limit) ⌝ }
-    ensures { λ r. ⌜ SameBehind (now (work .entry)) (now (work .exit)) × ((n : ℕ) (es : List Edge)
-        → HoldsChoice n (now (work .entry)) lattice es choice → Holds (now (work .exit)) r (addOutcome es (outcomeOf es (place .0) choice))) ⌝ }
+    ensures { λ r. ⌜ SameBehind (now (work .entry)) (now (work .exit))
+        × ((n : ℕ) (es : List Edge) → HoldsChoice n (now (work .entry)) lattice es choice
+        → Holds (now (work .exit)) r (addOutcome es (outcomeOf es (place .0) choice))) ⌝ }
 {
     if lattice.len == 0 {
         return lattice;

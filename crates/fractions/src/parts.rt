@@ -96,8 +96,10 @@ fn fraction_fields(size: usize, ratio: Ratio, copied: Script) -> NumFields
 
 // The head of the i-th edge.
 pub fn head_of(work: &[u8], lattice: Lattice, i: usize) -> EdgeView
-    requires { ⌜ ((n : ℕ) × ((es : List Edge) × HoldsCall n (now work) lattice es)) × (lattice .len ≡ 0 → ⊥) × (i < lattice .count) ⌝ }
-    ensures { λ r. ⌜ ((n : ℕ) (es : List Edge) → HoldsCall n (now (work .entry)) lattice es → HeadIs (now (work .entry)) (getD es i noEdge) r) ⌝ }
+    requires { ⌜ ((n : ℕ) × ((es : List Edge) × HoldsCall n (now work) lattice es)) × (lattice .len ≡ 0 → ⊥)
+        × (i < lattice .count) ⌝ }
+    ensures { λ r. ⌜ ((n : ℕ) (es : List Edge) → HoldsCall n (now (work .entry)) lattice es
+        → HeadIs (now (work .entry)) (getD es i noEdge) r) ⌝ }
 {
     let at = lattice::offset_at(work, lattice, i);
     edge::head::edge_at(work, at)
@@ -107,8 +109,8 @@ pub fn head_of(work: &[u8], lattice: Lattice, i: usize) -> EdgeView
 pub fn value_of(work: &[u8], lattice: Lattice, i: usize) -> u64
     requires { ⌜ ((n : ℕ) × ((es : List Edge) × HoldsCall n (now work) lattice es × HasValue (getD es i noEdge)))
         × (lattice .len ≡ 0 → ⊥) × (i < lattice .count) ⌝ }
-    ensures { λ r. ⌜ ((n : ℕ) (es : List Edge) → HoldsCall n (now (work .entry)) lattice es → HasValue (getD es i noEdge)
-        → r ≡ valueOr (getD es i noEdge)) ⌝ }
+    ensures { λ r. ⌜ ((n : ℕ) (es : List Edge) → HoldsCall n (now (work .entry)) lattice es
+        → HasValue (getD es i noEdge) → r ≡ valueOr (getD es i noEdge)) ⌝ }
 {
     let e = head_of(work, lattice, i);
     let d = edge::numeric::fields_at(e.map, work, e.fields.0);
@@ -119,8 +121,8 @@ pub fn value_of(work: &[u8], lattice: Lattice, i: usize) -> u64
 
 // The right edge's txt and "%", from a place on.
 pub fn add_txt_percent(work: &mut [u8], lattice: Lattice, place: Place, right: usize) -> Lattice
-    requires { ⌜ ((n : ℕ) × ((es : List Edge) × HoldsCall n (now work) lattice es × One es right)) × (lattice .len ≡ 0 → ⊥)
-        × (place .0 < u16Limit) ⌝ }
+    requires { ⌜ ((n : ℕ) × ((es : List Edge) × HoldsCall n (now work) lattice es × One es right))
+        × (lattice .len ≡ 0 → ⊥) × (place .0 < u16Limit) ⌝ }
     ensures { λ r. ⌜ SameBehind (now (work .entry)) (now (work .exit)) × ((n : ℕ) (es : List Edge)
         → HoldsCall n (now (work .entry)) lattice es → One es right
         → Holds (now (work .exit)) r (add es (txtPercentOf es (place .0) right))) ⌝ }
@@ -144,8 +146,10 @@ pub fn add_composed(
 ) -> Lattice
     requires { ⌜ ((es : List Edge) × Holds (now work) lattice es) × (start .0 < u16Limit) × (end .0 < u16Limit)
         × (length (now txt) ≤ textRoom) × (scriptLen copied ≤ maxString) ⌝ }
-    ensures { λ r. ⌜ SameBehind (now (work .entry)) (now (work .exit)) × ((es : List Edge) → Holds (now (work .entry)) lattice es
-        → Holds (now (work .exit)) r (add es (fractionWith (start .0) (end .0) (now (txt .entry)) (ratio .numerator, ratio .denominator) (scriptFrom (now (script .entry)) copied)))) ⌝ }
+    ensures { λ r. ⌜ SameBehind (now (work .entry)) (now (work .exit))
+        × ((es : List Edge) → Holds (now (work .entry)) lattice es
+        → Holds (now (work .exit)) r (add es (fractionWith (start .0) (end .0) (now (txt .entry))
+        (ratio .numerator, ratio .denominator) (scriptFrom (now (script .entry)) copied)))) ⌝ }
 {
     let d = fraction_fields(txt.len(), ratio, copied);
     lattice_add::numeric::add_numeric(

@@ -27,8 +27,10 @@ pub fn empty(work: &mut [u8]) -> Lattice
 // The listing goes to the output, or is refused: the output is then as it was.
 pub fn finish(work: &[u8], lattice: Lattice, out: &mut [u8]) -> Finished
     requires { ⌜ ((es : List Edge) × Holds (now work) lattice es) ⌝ }
-    ensures answer { λ r. ⌜ ((es : List Edge) → Holds (now (work .entry)) lattice es → r ≡ finished (length (now (out .entry))) es) ⌝ }
-    ensures output { λ _. ⌜ ((es : List Edge) → Holds (now (work .entry)) lattice es → now (out .exit) ≡ finishedOut (now (out .entry)) es) ⌝ }
+    ensures answer { λ r. ⌜ ((es : List Edge) → Holds (now (work .entry)) lattice es
+        → r ≡ finished (length (now (out .entry))) es) ⌝ }
+    ensures output { λ _. ⌜ ((es : List Edge) → Holds (now (work .entry)) lattice es
+        → now (out .exit) ≡ finishedOut (now (out .entry)) es) ⌝ }
 {
     let len = lattice.len;
     if lattice.len == 0 {

@@ -50,7 +50,8 @@ fn same_parts(work: &[u8], a: usize, source: &[u8], b: usize, size: usize) -> bo
 // Whether an edge of the lattice has this key: those of its bucket are looked at.
 fn has_key(work: &[u8], source: &[u8], at: usize, size: usize, bucket: usize) -> bool
     requires { ⌜ Search (now work) (now source) at size bucket ⌝ }
-    ensures { λ r. ⌜ ((q : Search (now (work .entry)) (now (source .entry)) at size bucket) → r ≡ has (q .es) (q .e)) ⌝ }
+    ensures { λ r. ⌜ ((q : Search (now (work .entry)) (now (source .entry)) at size bucket)
+        → r ≡ has (q .es) (q .e)) ⌝ }
 {
     let mut edge = fields::u16_at(work, HEADS + 2 * bucket) as usize;
     while 0 < edge {
@@ -75,8 +76,8 @@ pub fn plan_add(
     to: usize,
 ) -> Adding
     requires { ⌜ ((es : List Edge) × Holds (now work) lattice es) × ((e : Edge) × Stands (now source) at size to e) ⌝ }
-    ensures { λ r. ⌜ ((es : List Edge) (e : Edge) → Holds (now (work .entry)) lattice es → Stands (now (source .entry)) at size to e
-        → AddingIs lattice es e r) ⌝ }
+    ensures { λ r. ⌜ ((es : List Edge) (e : Edge) → Holds (now (work .entry)) lattice es
+        → Stands (now (source .entry)) at size to e → AddingIs lattice es e r) ⌝ }
 {
     if lattice.len == 0 {
         return Adding::Nothing;

@@ -72,7 +72,8 @@ fn inactive_map(map: u16) -> u16
 pub fn turn_off(work: &mut [u8], lattice: Lattice, i: usize)
     requires { ⌜ ((es : List Edge) × Holds (now work) lattice es) × (lattice .len ≡ 0 → ⊥) × (i < lattice .count) ⌝ }
     ensures { λ _. ⌜ SameBehind (now (work .entry)) (now (work .exit))
-        × ((es : List Edge) → Holds (now (work .entry)) lattice es → Holds (now (work .exit)) lattice (turnOffAt es i)) ⌝ }
+        × ((es : List Edge) → Holds (now (work .entry)) lattice es
+        → Holds (now (work .exit)) lattice (turnOffAt es i)) ⌝ }
 {
     let at = offset_at(work, lattice, i);
     let map = inactive_map(fields::u16_at(work, at));

@@ -90,7 +90,8 @@ fn compose(
     requires { ⌜ (at + 2 ≤ txt) × (txt ≤ to) × (to ≤ len) × (len + (to - at) + length (now sep) ≤ length (now work))
         × (length (now sep) + size < u16Limit) ⌝ }
     ensures { λ r. ⌜ (r ≡ len + (to - at) + length (now (sep .entry)))
-        × Put (now (work .entry)) (now (work .exit)) len r (prefixedBytes (now (work .entry)) at txt size to (now (sep .entry))) ⌝ }
+        × Put (now (work .entry)) (now (work .exit)) len r
+        (prefixedBytes (now (work .entry)) at txt size to (now (sep .entry))) ⌝ }
 {
     let head = txt - 2 - at;
     let behind = len + head + 2;
@@ -105,8 +106,9 @@ fn compose(
 pub fn add_copy(work: &mut [u8], lattice: Lattice, at: usize, next: usize, sep: &[u8]) -> Lattice
     requires { ⌜ ((es : List Edge) × Holds (now work) lattice es)
         × ((e : Edge) × Source (now work) (lattice .len) at next (length (now sep)) e) ⌝ }
-    ensures { λ r. ⌜ SameBehind (now (work .entry)) (now (work .exit)) × ((es : List Edge) (e : Edge)
-        → Holds (now (work .entry)) lattice es → Source (now (work .entry)) (lattice .len) at next (length (now (sep .entry))) e
+    ensures { λ r. ⌜ SameBehind (now (work .entry)) (now (work .exit))
+        × ((es : List Edge) (e : Edge) → Holds (now (work .entry)) lattice es
+        → Source (now (work .entry)) (lattice .len) at next (length (now (sep .entry))) e
         → Holds (now (work .exit)) r (add es (prefixed (now (sep .entry)) e))) ⌝ }
 {
     let len = lattice.len;

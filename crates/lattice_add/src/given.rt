@@ -12,9 +12,10 @@ use lattice::Lattice;
 
 // The regular edge that stands in a listing from at to the offset to is added. It may be longer than the room behind the lattice's listing.
 pub fn add_given(work: &mut [u8], lattice: Lattice, given: &[u8], at: usize, to: usize) -> Lattice
-    requires { ⌜ ((es : List Edge) × Holds (now work) lattice es) × (mapAt (now given) at ≡ 0) × (to ≡ nextAt (now given) at)
-        × (to ≤ length (now given)) ⌝ }
-    ensures { λ r. ⌜ SameBehind (now (work .entry)) (now (work .exit)) × ((es : List Edge) → Holds (now (work .entry)) lattice es
+    requires { ⌜ ((es : List Edge) × Holds (now work) lattice es) × (mapAt (now given) at ≡ 0)
+        × (to ≡ nextAt (now given) at) × (to ≤ length (now given)) ⌝ }
+    ensures { λ r. ⌜ SameBehind (now (work .entry)) (now (work .exit))
+        × ((es : List Edge) → Holds (now (work .entry)) lattice es
         → Holds (now (work .exit)) r (add es (edgeAt (now (given .entry)) at))) ⌝ }
 {
     let count = lattice.count;

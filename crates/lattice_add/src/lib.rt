@@ -14,9 +14,11 @@ use lattice::Lattice;
 
 // The edge that is composed behind the listing, up to an offset and with a key of so many bytes, is added.
 pub fn add_edge(work: &mut [u8], lattice: Lattice, size: usize, to: usize) -> Lattice
-    requires { ⌜ ((es : List Edge) × Holds (now work) lattice es) × ((e : Edge) × Stands (now work) (lattice .len) size to e) ⌝ }
-    ensures { λ r. ⌜ SameBehind (now (work .entry)) (now (work .exit)) × ((es : List Edge) (e : Edge)
-        → Holds (now (work .entry)) lattice es → Stands (now (work .entry)) (lattice .len) size to e → Holds (now (work .exit)) r (add es e)) ⌝ }
+    requires { ⌜ ((es : List Edge) × Holds (now work) lattice es)
+        × ((e : Edge) × Stands (now work) (lattice .len) size to e) ⌝ }
+    ensures { λ r. ⌜ SameBehind (now (work .entry)) (now (work .exit))
+        × ((es : List Edge) (e : Edge) → Holds (now (work .entry)) lattice es
+        → Stands (now (work .entry)) (lattice .len) size to e → Holds (now (work .exit)) r (add es e)) ⌝ }
 {
     let count = lattice.count;
     let len = lattice.len;

@@ -28,8 +28,10 @@ pub fn add_numeric(
     requires { ⌜ ((es : List Edge) × Holds (now work) lattice es) × (start .0 < u16Limit) × (end .0 < u16Limit)
         × Writable (now orig) (now script) (now value) num
         × (length (now ty) + length (now txt) + num .orig .len + num .script .len + num .«value_s» .len ≤ 1990) ⌝ }
-    ensures { λ r. ⌜ SameBehind (now (work .entry)) (now (work .exit)) × ((es : List Edge) → Holds (now (work .entry)) lattice es
-        → Holds (now (work .exit)) r (add es (numeric (start .0) (end .0) (now (ty .entry)) (now (txt .entry)) (now (orig .entry)) (now (script .entry)) (now (value .entry)) num))) ⌝ }
+    ensures { λ r. ⌜ SameBehind (now (work .entry)) (now (work .exit))
+        × ((es : List Edge) → Holds (now (work .entry)) lattice es
+        → Holds (now (work .exit)) r (add es (numeric (start .0) (end .0) (now (ty .entry)) (now (txt .entry))
+        (now (orig .entry)) (now (script .entry)) (now (value .entry)) num))) ⌝ }
 {
     let len = lattice.len;
     match edge_write::numeric::write_numeric(

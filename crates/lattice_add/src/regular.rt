@@ -22,7 +22,8 @@ pub fn add_regular(
 ) -> Lattice
     requires { ⌜ ((es : List Edge) × Holds (now work) lattice es) × (start .0 < u16Limit) × (end .0 < u16Limit)
         × (length (now ty) + length (now txt) ≤ 2000) ⌝ }
-    ensures { λ r. ⌜ SameBehind (now (work .entry)) (now (work .exit)) × ((es : List Edge) → Holds (now (work .entry)) lattice es
+    ensures { λ r. ⌜ SameBehind (now (work .entry)) (now (work .exit))
+        × ((es : List Edge) → Holds (now (work .entry)) lattice es
         → Holds (now (work .exit)) r (add es (regular (start .0) (end .0) (now (ty .entry)) (now (txt .entry))))) ⌝ }
 {
     let len = lattice.len;

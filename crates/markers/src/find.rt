@@ -96,7 +96,8 @@ pub fn marker_at(
 ) -> Marker
     requires { ⌜ ((n : ℕ) × Ready (now line) (now table) shape n) × Offsets (now line) (now offs)
         × (here .0 < length (chars (now line))) ⌝ }
-    ensures { λ r. ⌜ markerOf r ≡ markerAt (tableOf (now (table .entry)) shape) (chars (now (line .entry))) (here .0) ⌝ }
+    ensures { λ r. ⌜ markerOf r ≡ markerAt (tableOf (now (table .entry)) shape) (chars (now (line .entry)))
+        (here .0) ⌝ }
 {
     let place = here.0;
     let at = offs[place];

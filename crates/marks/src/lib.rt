@@ -26,7 +26,8 @@ pub enum Asked {
 // Sets the mark of the place where an edge ends whose txt ends with a digit.
 fn mark_end(work: &[u8], at: usize, marks: &mut [bool; PLACES])
     requires { ⌜ Spanned 256 (now work) at ⌝ }
-    ensures { λ _. ⌜ now (marks .exit) ≡ cond (endsWithDigit (edgeAt (now (work .entry)) at .txt)) (set (now (marks .entry)) (edgeAt (now (work .entry)) at .end) true) (now (marks .entry)) ⌝ }
+    ensures { λ _. ⌜ now (marks .exit) ≡ cond (endsWithDigit (edgeAt (now (work .entry)) at .txt))
+        (set (now (marks .entry)) (edgeAt (now (work .entry)) at .end) true) (now (marks .entry)) ⌝ }
 {
     let e = edge::head::edge_at(work, at);
     let txt = e.txt;
@@ -42,7 +43,8 @@ fn mark_end(work: &[u8], at: usize, marks: &mut [bool; PLACES])
 // Sets the mark of an edge's place where the edge is numeric and one place long.
 fn mark_place(work: &[u8], at: usize, marks: &mut [bool; PLACES])
     requires { ⌜ Spanned 256 (now work) at ⌝ }
-    ensures { λ _. ⌜ now (marks .exit) ≡ cond (onePlace (edgeAt (now (work .entry)) at)) (set (now (marks .entry)) (edgeAt (now (work .entry)) at .start) true) (now (marks .entry)) ⌝ }
+    ensures { λ _. ⌜ now (marks .exit) ≡ cond (onePlace (edgeAt (now (work .entry)) at))
+        (set (now (marks .entry)) (edgeAt (now (work .entry)) at .start) true) (now (marks .entry)) ⌝ }
 {
     let map = fields::u16_at(work, at);
     let start = fields::u16_at(work, at + 2) as usize;
@@ -55,7 +57,8 @@ fn mark_place(work: &[u8], at: usize, marks: &mut [bool; PLACES])
 // Sets the mark of an edge, if it is one that is asked for.
 fn mark(work: &[u8], at: usize, asked: Asked, marks: &mut [bool; PLACES])
     requires { ⌜ Spanned 256 (now work) at ⌝ }
-    ensures { λ _. ⌜ now (marks .exit) ≡ cond (asks asked (edgeAt (now (work .entry)) at)) (set (now (marks .entry)) (placeBy asked (edgeAt (now (work .entry)) at)) true) (now (marks .entry)) ⌝ }
+    ensures { λ _. ⌜ now (marks .exit) ≡ cond (asks asked (edgeAt (now (work .entry)) at))
+        (set (now (marks .entry)) (placeBy asked (edgeAt (now (work .entry)) at)) true) (now (marks .entry)) ⌝ }
 {
     match asked {
         Asked::DigitEnds => mark_end(work, at, marks),
@@ -65,8 +68,10 @@ fn mark(work: &[u8], at: usize, asked: Asked, marks: &mut [bool; PLACES])
 
 // The marks of all edges that are asked for. One walk over the lattice.
 pub fn mark_places(work: &[u8], lattice: Lattice, asked: Asked, marks: &mut [bool; PLACES])
-    requires { ⌜ (lattice .len ≡ 0 → ⊥) × ((n : ℕ) × (n ≤ 256) × ((es : List Edge) × Holds (now work) lattice es × Legals n es)) × (now marks ≡ replicate 257 false) ⌝ }
-    ensures { λ _. ⌜ ((n : ℕ) (es : List Edge) → n ≤ 256 → Holds (now (work .entry)) lattice es → Legals n es → (p : ℕ) → p < 257 → getD (now (marks .exit)) p false ≡ anyAt (asks asked) (placeBy asked) es p) ⌝ }
+    requires { ⌜ (lattice .len ≡ 0 → ⊥) × ((n : ℕ) × (n ≤ 256)
+        × ((es : List Edge) × Holds (now work) lattice es × Legals n es)) × (now marks ≡ replicate 257 false) ⌝ }
+    ensures { λ _. ⌜ ((n : ℕ) (es : List Edge) → n ≤ 256 → Holds (now (work .entry)) lattice es → Legals n es → (p : ℕ)
+        → p < 257 → getD (now (marks .exit)) p false ≡ anyAt (asks asked) (placeBy asked) es p) ⌝ }
 {
     let count = lattice.count;
     let mut i = 0;

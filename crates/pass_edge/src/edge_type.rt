@@ -40,7 +40,8 @@ fn put_pass(buf: &mut [u8], pass: Pass) -> usize
 // The type of a stored edge goes to the front of a buffer: how many bytes.
 pub fn type_of(buf: &mut [u8], table: &[u8], edge: PassEdge) -> usize
     requires { ⌜ ((i : StoredEdge) × EdgeIs edge i × Rooted (now table) i) × (maxString ≤ length (now buf)) ⌝ }
-    ensures { λ r. ⌜ ((i : StoredEdge) → EdgeIs edge i → Front (now (buf .entry)) (now (buf .exit)) r (typeOf (now (table .entry)) i)) ⌝ }
+    ensures { λ r. ⌜ ((i : StoredEdge) → EdgeIs edge i
+        → Front (now (buf .entry)) (now (buf .exit)) r (typeOf (now (table .entry)) i)) ⌝ }
 {
     let kind = edge.kind;
     match kind {

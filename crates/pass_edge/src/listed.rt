@@ -104,10 +104,11 @@ pub fn add_texts(
         × ((i : StoredEdge) × TextsAre (now line) (now table) edge (now ty) (now txt) i)
         × (length (chars (now line)) ≤ maxChars)
         × FractionIs fraction (storedFraction (now table) (kindNumber (edge .kind)) (edge .«record_at» .0)) ⌝ }
-    ensures { λ r. ⌜ SameBehind (now (work .entry)) (now (work .exit)) × ((es : List Edge) (i : StoredEdge)
-        → Holds (now (work .entry)) lattice es
+    ensures { λ r. ⌜ SameBehind (now (work .entry)) (now (work .exit))
+        × ((es : List Edge) (i : StoredEdge) → Holds (now (work .entry)) lattice es
         → TextsAre (now (line .entry)) (now (table .entry)) edge (now (ty .entry)) (now (txt .entry)) i
-        → Holds (now (work .exit)) r (add es (listedEdge (edgeOf (chars (now (line .entry))) (now (table .entry)) i)))) ⌝ }
+        → Holds (now (work .exit)) r (add es (listedEdge
+        (edgeOf (chars (now (line .entry))) (now (table .entry)) i)))) ⌝ }
 {
     let d = fields_of(offs, edge, fraction, txt.len());
     lattice_add::numeric::add_numeric(

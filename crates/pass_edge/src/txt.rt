@@ -29,7 +29,8 @@ fn char_txt(
         × (length (chars (now line)) ≤ maxChars)
         × (length (charTxt (chars (now line)) (now table) at (start .0) (end .0)) ≤ length (now buf))
         × LegalAt (now table) at ⌝ }
-    ensures { λ r. ⌜ Front (now (buf .entry)) (now (buf .exit)) r (charTxt (chars (now (line .entry))) (now (table .entry)) at (start .0) (end .0)) ⌝ }
+    ensures { λ r. ⌜ Front (now (buf .entry)) (now (buf .exit)) r
+        (charTxt (chars (now (line .entry))) (now (table .entry)) at (start .0) (end .0)) ⌝ }
 {
     if table[at + 4] / bits::ROM % 2 == 1 {
         return crate::put_text(buf, crate::rom_at(table, at));

@@ -89,7 +89,8 @@ impl Chain {
     // The chain takes the next edge, where the pass joins it, and hands itself back.
     pub fn join(mut self, pass: Pass, e: PassEdge) -> Next
         requires { ⌜ ((x : StoredChain) × ChainIs self x) × ((y : StoredEdge) × EdgeIs e y) ⌝ }
-        ensures { λ r. ⌜ ((x : StoredChain) (y : StoredEdge) → ChainIs self x → EdgeIs e y → r ≡ answer (passOf pass) x y) ⌝ }
+        ensures { λ r. ⌜ ((x : StoredChain) (y : StoredEdge) → ChainIs self x → EdgeIs e y
+            → r ≡ answer (passOf pass) x y) ⌝ }
     {
         if self.edge.end.0 != e.start.0 {
             return Next::Ends;

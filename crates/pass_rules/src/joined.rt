@@ -25,7 +25,8 @@ fn with_digit(l: f64, r: f64) -> Bounded
 
 // The value over a chain of value l and a next edge that counts r.
 pub fn joined_value(pass: Pass, l: f64, r: f64) -> Bounded
-    ensures { λ v. ⌜ ((m n : ℕ) → m ≤ TOP → n ≤ TOP → l ≡ ofNat m → r ≡ ofNat n → v ≡ value (valueOf (passOf pass) m n)) ⌝ }
+    ensures { λ v. ⌜ ((m n : ℕ) → m ≤ TOP → n ≤ TOP → l ≡ ofNat m → r ≡ ofNat n
+        → v ≡ value (valueOf (passOf pass) m n)) ⌝ }
 {
     match pass {
         Pass::D1 => with_digit(l, r),

@@ -38,7 +38,8 @@ pub enum ChainRun {
 // Whether the i-th of n edges is a chain of its own, as far as that is told without reading it.
 fn is_own_chain(list: &[u8], n: usize, i: usize, pass: Pass) -> bool
     requires { ⌜ (i < n) × (n * SIZE ≤ length (now list)) ⌝ }
-    ensures { λ r. ⌜ (r ≡ true → First (passOf pass) (now (list .entry)) n i (i + 1) (storedAt (now (list .entry)) (i * SIZE))) ⌝ }
+    ensures { λ r. ⌜ (r ≡ true
+        → First (passOf pass) (now (list .entry)) n i (i + 1) (storedAt (now (list .entry)) (i * SIZE))) ⌝ }
 {
     if i + 1 < n {
         return !may_join(list, i * SIZE, (i + 1) * SIZE, pass);
@@ -61,7 +62,8 @@ fn copy_record(list: &mut [u8], to: usize, from: usize)
 // The i-th edge becomes the k-th.
 fn move_record(list: &mut [u8], k: usize, i: usize)
     requires { ⌜ (k ≤ i) × ((i + 1) * SIZE ≤ length (now list)) ⌝ }
-    ensures { λ _. ⌜ Ended (now (list .entry)) k (i + 1) (storedAt (now (list .entry)) (i * SIZE)) (now (list .exit)) ⌝ }
+    ensures { λ _. ⌜ Ended (now (list .entry)) k (i + 1) (storedAt (now (list .entry)) (i * SIZE))
+        (now (list .exit)) ⌝ }
 {
     if k < i {
         copy_record(list, k * SIZE, i * SIZE);
@@ -70,8 +72,10 @@ fn move_record(list: &mut [u8], k: usize, i: usize)
 
 // What the edge at an offset does to the chain: it is read where the pass may join it.
 fn next_of_chain(c: Chain, pass: Pass, list: &[u8], at: usize) -> Next
-    requires { ⌜ ((x : StoredChain) × ChainIs c x) × (at + SIZE ≤ length (now list)) × Small (storedAt (now list) at) ⌝ }
-    ensures { λ r. ⌜ ((x : StoredChain) → ChainIs c x → r ≡ answer (passOf pass) x (storedAt (now (list .entry)) at)) ⌝ }
+    requires { ⌜ ((x : StoredChain) × ChainIs c x) × (at + SIZE ≤ length (now list))
+        × Small (storedAt (now list) at) ⌝ }
+    ensures { λ r. ⌜ ((x : StoredChain) → ChainIs c x
+        → r ≡ answer (passOf pass) x (storedAt (now (list .entry)) at)) ⌝ }
 {
     if may_take(c, list, at, pass) {
         return c.join(pass, read_edge(list, at));

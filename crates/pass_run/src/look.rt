@@ -14,7 +14,8 @@ use pass_list::run::Pass;
 // Whether the pass may join the edges at two offsets: where it does, these few fields say so.
 pub fn may_join(list: &[u8], a: usize, b: usize, pass: Pass) -> bool
     requires { ⌜ (a + SIZE ≤ length (now list)) × (b + SIZE ≤ length (now list)) ⌝ }
-    ensures { λ r. ⌜ (joins (passOf pass) (begin (storedAt (now (list .entry)) a)) (storedAt (now (list .entry)) b) ≡ true → r ≡ true) ⌝ }
+    ensures { λ r. ⌜ (joins (passOf pass) (begin (storedAt (now (list .entry)) a)) (storedAt (now (list .entry)) b)
+        ≡ true → r ≡ true) ⌝ }
 {
     if fields::u16_at(list, a + layout::END_AT) != fields::u16_at(list, b) {
         return false;

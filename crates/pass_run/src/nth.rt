@@ -28,7 +28,8 @@ fn pass_of(i: usize) -> Pass
 
 // The i-th pass over the list that stands in the work space from an offset on; what stands before it stays as it is.
 pub fn pass_behind(work: &mut [u8], from: usize, n: usize, i: usize) -> PassAnswer
-    requires { ⌜ (from + n * SIZE ≤ length (now work)) × AllSmall (storedListAt (drop from (now work)) 0 n) × (i < 5) ⌝ }
+    requires { ⌜ (from + n * SIZE ≤ length (now work)) × AllSmall (storedListAt (drop from (now work)) 0 n)
+        × (i < 5) ⌝ }
     ensures { λ r. ⌜ (take from (now (work .exit)) ≡ take from (now (work .entry)))
         × PassAnswerIs (nth i) (storedListAt (drop from (now (work .entry))) 0 n) (drop from (now (work .exit))) r ⌝ }
 {

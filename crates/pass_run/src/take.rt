@@ -15,7 +15,8 @@ use pass_rules::chain::Chain;
 // Whether the pass may join the edge at an offset to a chain.
 pub fn may_take(c: Chain, list: &[u8], at: usize, pass: Pass) -> bool
     requires { ⌜ at + SIZE ≤ length (now list) ⌝ }
-    ensures { λ r. ⌜ ((x : StoredChain) → c ≡ passChain x → joins (passOf pass) x (storedAt (now (list .entry)) at) ≡ true → r ≡ true) ⌝ }
+    ensures { λ r. ⌜ ((x : StoredChain) → c ≡ passChain x
+        → joins (passOf pass) x (storedAt (now (list .entry)) at) ≡ true → r ≡ true) ⌝ }
 {
     let start = fields::u16_at(list, at) as usize;
     let r = fields::u16_at(list, at + layout::MAP_AT);

@@ -37,8 +37,12 @@ pub fn best_of(s: &[u8], first: usize, count: usize, q: Query, skip: bool) -> Fo
 // Keeps an edge, by its offset or another label, as the neighbour of a place, where it scores higher than the one kept there.
 pub fn keep(tops: &mut [usize], labels: &mut [usize], place: Place, score: usize, label: usize)
     requires { ⌜ (place .0 < length (now tops)) × (place .0 < length (now labels)) ⌝ }
-    ensures scores { λ _. ⌜ now (tops .exit) ≡ cond (ltb (getD (now (tops .entry)) (place .0) 0) score) (set (now (tops .entry)) (place .0) score) (now (tops .entry)) ⌝ }
-    ensures kept { λ _. ⌜ now (labels .exit) ≡ cond (ltb (getD (now (tops .entry)) (place .0) 0) score) (set (now (labels .entry)) (place .0) label) (now (labels .entry)) ⌝ }
+    ensures scores { λ _. ⌜ now (tops .exit)
+        ≡ cond (ltb (getD (now (tops .entry)) (place .0) 0) score) (set (now (tops .entry)) (place .0) score)
+        (now (tops .entry)) ⌝ }
+    ensures kept { λ _. ⌜ now (labels .exit)
+        ≡ cond (ltb (getD (now (tops .entry)) (place .0) 0) score) (set (now (labels .entry)) (place .0) label)
+        (now (labels .entry)) ⌝ }
 {
     let p = place.0;
     if tops[p] < score {

@@ -15,7 +15,8 @@ use text::check::MAX_CHARS;
 // The step of the path from a place.
 fn hop_from(s: &[u8], tops: &[usize; MAX_CHARS], ats: &[usize; MAX_CHARS], place: Place) -> Hop
     requires { ⌜ Steps (now s) (now tops) (now ats) × (place .0 < maxChars) ⌝ }
-    ensures { λ r. ⌜ r ≡ hopOf (now (s .entry)) (byTable (now (s .entry)) (now (tops .entry)) (now (ats .entry)) (place .0)) ⌝ }
+    ensures { λ r. ⌜ r ≡ hopOf (now (s .entry))
+        (byTable (now (s .entry)) (now (tops .entry)) (now (ats .entry)) (place .0)) ⌝ }
 {
     let p = place.0;
     if tops[p] == 0 {
@@ -39,7 +40,8 @@ pub fn path_size(
     room: usize,
 ) -> Size
     requires { ⌜ Steps (now s) (now tops) (now ats) × (end .0 ≤ maxChars) ⌝ }
-    ensures { λ r. ⌜ r ≡ sizeOf (now (s .entry)) (path (byTable (now (s .entry)) (now (tops .entry)) (now (ats .entry))) (start .0) (end .0)) room ⌝ }
+    ensures { λ r. ⌜ r ≡ sizeOf (now (s .entry))
+        (path (byTable (now (s .entry)) (now (tops .entry)) (now (ats .entry))) (start .0) (end .0)) room ⌝ }
 {
     if room < 2 {
         return Size::Over;
@@ -77,8 +79,11 @@ pub fn write_path(
     out: &mut [u8],
 )
     requires { ⌜ Steps (now s) (now tops) (now ats) × (end .0 ≤ maxChars)
-        × (2 + length (edgeParts (now s) (path (byTable (now s) (now tops) (now ats)) (start .0) (end .0))) ≤ length (now out)) ⌝ }
-    ensures { λ _. ⌜ now (out .exit) ≡ sets (now (out .entry)) 2 (edgeParts (now (s .entry)) (path (byTable (now (s .entry)) (now (tops .entry)) (now (ats .entry))) (start .0) (end .0))) ⌝ }
+        × (2 + length (edgeParts (now s) (path (byTable (now s) (now tops) (now ats)) (start .0) (end .0)))
+        ≤ length (now out)) ⌝ }
+    ensures { λ _. ⌜ now (out .exit) ≡ sets (now (out .entry)) 2
+        (edgeParts (now (s .entry)) (path (byTable (now (s .entry)) (now (tops .entry)) (now (ats .entry))) (start .0)
+        (end .0))) ⌝ }
 {
     let last = end.0;
     let mut p = start.0;

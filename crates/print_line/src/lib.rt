@@ -16,7 +16,9 @@ use lattice::MOST_BYTES;
 // The text of a line with a table and no given edges. The rows of a listing that the call answers fit 65,536 bytes.
 fn answer_line(line: &[u8], table: &[u8], work: &mut [u8], out: &mut [u8], text: &mut [u8]) -> usize
     requires { ⌜ 65536 ≤ length (now text) ⌝ }
-    ensures { λ r. ⌜ TextIs (now (text .entry)) (now (text .exit)) r (addNumbers (now (line .entry)) (now (table .entry)) noEdges (length (now (work .entry))) (length (now (out .entry)))) ⌝ }
+    ensures { λ r. ⌜ TextIs (now (text .entry)) (now (text .exit)) r
+        (addNumbers (now (line .entry)) (now (table .entry)) noEdges (length (now (work .entry)))
+        (length (now (out .entry)))) ⌝ }
 {
     match call::add_numbers(line, table, b"\x00\x00", work, out) {
         Answer::Listing(n) => rows::listing::put_rows(text, &out[..n]),

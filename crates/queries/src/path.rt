@@ -26,7 +26,8 @@ fn right_neighbors(
     tops: &mut [usize; MAX_CHARS],
     ats: &mut [usize; MAX_CHARS],
 )
-    requires { ⌜ Spans maxChars count (now s) 2 × (now tops ≡ replicate maxChars 0) × (now ats ≡ replicate maxChars 0) ⌝ }
+    requires { ⌜ Spans maxChars count (now s) 2 × (now tops ≡ replicate maxChars 0)
+        × (now ats ≡ replicate maxChars 0) ⌝ }
     ensures { λ _. ⌜ Rights skip (now (s .entry)) count (now (tops .exit)) (now (ats .exit)) ⌝ }
 {
     let mut at = 2;
@@ -50,8 +51,11 @@ fn path_in(
     out: &mut [u8],
 ) -> PathAnswer
     requires { ⌜ Spans maxChars count (now listing) 2 × (end .0 ≤ maxChars) ⌝ }
-    ensures answer { λ r. ⌜ r ≡ written (fitting (length (now (out .entry))) (pathListing (now (listing .entry)) (path (rights skip (now (listing .entry)) count) (start .0) (end .0)))) ⌝ }
-    ensures output { λ _. ⌜ now (out .exit) ≡ after (now (out .entry)) (fitting (length (now (out .entry))) (pathListing (now (listing .entry)) (path (rights skip (now (listing .entry)) count) (start .0) (end .0)))) ⌝ }
+    ensures answer { λ r. ⌜ r ≡ written (fitting (length (now (out .entry)))
+        (pathListing (now (listing .entry)) (path (rights skip (now (listing .entry)) count) (start .0) (end .0)))) ⌝ }
+    ensures output { λ _. ⌜ now (out .exit)
+        ≡ after (now (out .entry)) (fitting (length (now (out .entry)))
+        (pathListing (now (listing .entry)) (path (rights skip (now (listing .entry)) count) (start .0) (end .0)))) ⌝ }
 {
     let mut tops = [0usize; MAX_CHARS];
     let mut ats = [0usize; MAX_CHARS];
@@ -75,8 +79,11 @@ pub fn path(
     skip: bool,
     out: &mut [u8],
 ) -> PathAnswer
-    ensures answer { λ r. ⌜ r ≡ written (pathOut (now (line .entry)) (now (listing .entry)) start end skip (length (now (out .entry)))) ⌝ }
-    ensures output { λ _. ⌜ now (out .exit) ≡ after (now (out .entry)) (pathOut (now (line .entry)) (now (listing .entry)) start end skip (length (now (out .entry)))) ⌝ }
+    ensures answer { λ r. ⌜ r ≡ written (pathOut (now (line .entry)) (now (listing .entry)) start end skip
+        (length (now (out .entry)))) ⌝ }
+    ensures output { λ _. ⌜ now (out .exit)
+        ≡ after (now (out .entry)) (pathOut (now (line .entry)) (now (listing .entry)) start end skip
+        (length (now (out .entry)))) ⌝ }
 {
     match check(line, listing) {
         ReadCheck::Refused(r) => PathAnswer::Refused(r),

@@ -19,7 +19,8 @@ use text::Place;
 // The text shown at a place of a line of so many characters.
 fn shown_at(line: &[u8], listing: &[u8], chars: usize, count: usize, place: Place) -> Shown
     requires { ⌜ Spans chars count (now listing) 2 × (place .0 < chars) ⌝ }
-    ensures { λ r. ⌜ r ≡ shownBy (now (line .entry)) (now (listing .entry)) (place .0) (found (best false (Query.Right place) (withOffsets count (now (listing .entry)) 2))) ⌝ }
+    ensures { λ r. ⌜ r ≡ shownBy (now (line .entry)) (now (listing .entry)) (place .0)
+        (found (best false (Query.Right place) (withOffsets count (now (listing .entry)) 2))) ⌝ }
 {
     match best_of(listing, 2, count, Query::Right(place), false) {
         Found::At(at) => {

@@ -13,7 +13,8 @@ pub enum Look {
 
 // A number that is there: it is from least to TOP.
 pub fn number_look(s: &[u8], at: usize, there: bool, least: u64) -> Look
-    ensures { λ r. ⌜ lookField r ≡ mapField (allOf (fromLeast least)) (optional there (number 8) (now (s .entry)) at) ⌝ }
+    ensures { λ r. ⌜ lookField r ≡ mapField (allOf (fromLeast least))
+        (optional there (number 8) (now (s .entry)) at) ⌝ }
 {
     if !there {
         return Look::Field(true, at);

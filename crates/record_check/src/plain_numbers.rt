@@ -45,7 +45,8 @@ fn legal_digit(s: &[u8], first: u8, rom: usize, value: u64) -> bool
 pub fn legal_numbers(s: &[u8], first: u8, rom: usize, at: usize) -> bool
     requires { ⌜ (rom + 2 ≤ length (now s)) × (at + 16 ≤ length (now s)) ⌝ }
     ensures { λ r. ⌜ (r ≡ true
-        → Numbers first (leAt (now (s .entry)) rom 2) (leAt (now (s .entry)) at 8) (leAt (now (s .entry)) (at + 8) 8)) ⌝ }
+        → Numbers first (leAt (now (s .entry)) rom 2) (leAt (now (s .entry)) at 8)
+        (leAt (now (s .entry)) (at + 8) 8)) ⌝ }
 {
     let value = fields::u64_at(s, at);
     let base = fields::u64_at(s, at + 8);

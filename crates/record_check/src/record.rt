@@ -43,7 +43,8 @@ fn well_formed_if(s: &[u8], p: Part, there: bool) -> bool
 
 fn legal_texts(s: &[u8], map: u8, kind: Part, rom: Part, script: Part) -> bool
     requires { ⌜ Within (now s) kind × Within (now s) rom × Within (now s) script ⌝ }
-    ensures { λ r. ⌜ r ≡ textsFine map (partOf (now (s .entry)) kind) (partOf (now (s .entry)) rom) (partOf (now (s .entry)) script) ⌝ }
+    ensures { λ r. ⌜ r ≡ textsFine map (partOf (now (s .entry)) kind) (partOf (now (s .entry)) rom)
+        (partOf (now (s .entry)) script) ⌝ }
 {
     if !crate::texts::well_formed(s, kind) {
         return false;
@@ -58,7 +59,8 @@ fn legal_texts(s: &[u8], map: u8, kind: Part, rom: Part, script: Part) -> bool
 fn legal_rest(s: &[u8], head: bool, map: u8, at: usize, kind: Part, rom: Part, script: Part) -> bool
     requires { ⌜ (bit map 1 ≡ true → at + 8 ≤ length (now s)) ⌝ }
     requires within { ⌜ Within (now s) kind × Within (now s) rom × Within (now s) script ⌝ }
-    ensures { λ r. ⌜ r ≡ restFine head map (leAt (now (s .entry)) at 8) (partOf (now (s .entry)) kind) (partOf (now (s .entry)) rom) (partOf (now (s .entry)) script) ⌝ }
+    ensures { λ r. ⌜ r ≡ restFine head map (leAt (now (s .entry)) at 8) (partOf (now (s .entry)) kind)
+        (partOf (now (s .entry)) rom) (partOf (now (s .entry)) script) ⌝ }
 {
     if !head {
         return false;

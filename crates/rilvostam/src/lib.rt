@@ -27,9 +27,14 @@ pub extern "C" fn rilvostam_add_numbers(
     out: &mut [u8],
     at: &mut u64,
 ) -> u32
-    ensures status { λ r. ⌜ r ≡ callTold (addNumbers (now (line .entry)) (now (table .entry)) (now (edges .entry)) (length (now (work .entry))) (length (now (out .entry)))) .status ⌝ }
-    ensures place { λ _. ⌜ now (at .exit) ≡ callTold (addNumbers (now (line .entry)) (now (table .entry)) (now (edges .entry)) (length (now (work .entry))) (length (now (out .entry)))) .at ⌝ }
-    ensures output { λ _. ⌜ now (out .exit) ≡ outAfter (now (out .entry)) (addNumbers (now (line .entry)) (now (table .entry)) (now (edges .entry)) (length (now (work .entry))) (length (now (out .entry)))) ⌝ }
+    ensures status { λ r. ⌜ r ≡ callTold (addNumbers (now (line .entry)) (now (table .entry)) (now (edges .entry))
+        (length (now (work .entry))) (length (now (out .entry)))) .status ⌝ }
+    ensures place { λ _. ⌜ now (at .exit) ≡ callTold
+        (addNumbers (now (line .entry)) (now (table .entry)) (now (edges .entry)) (length (now (work .entry)))
+        (length (now (out .entry)))) .at ⌝ }
+    ensures output { λ _. ⌜ now (out .exit)
+        ≡ outAfter (now (out .entry)) (addNumbers (now (line .entry)) (now (table .entry)) (now (edges .entry))
+        (length (now (work .entry))) (length (now (out .entry)))) ⌝ }
 {
     let numbers = answers::answer_told(call::add_numbers(line, table, edges, work, out));
     *at = numbers.at;
@@ -46,8 +51,10 @@ pub extern "C" fn rilvostam_best_edge(
     skip: u8,
     at: &mut u64,
 ) -> u32
-    ensures status { λ r. ⌜ r ≡ answerTold (answer (now (line .entry)) (now (listing .entry)) (Span (placeOf start) (placeOf end)) (isSet skip)) .status ⌝ }
-    ensures place { λ _. ⌜ now (at .exit) ≡ answerTold (answer (now (line .entry)) (now (listing .entry)) (Span (placeOf start) (placeOf end)) (isSet skip)) .at ⌝ }
+    ensures status { λ r. ⌜ r ≡ answerTold (answer (now (line .entry)) (now (listing .entry))
+        (Span (placeOf start) (placeOf end)) (isSet skip)) .status ⌝ }
+    ensures place { λ _. ⌜ now (at .exit) ≡ answerTold
+        (answer (now (line .entry)) (now (listing .entry)) (Span (placeOf start) (placeOf end)) (isSet skip)) .at ⌝ }
 {
     let q = Query::Span(Place(start as usize), Place(end as usize));
     let best = answers::reading::answer_told(queries::best_edge(line, listing, q, skip != 0));
@@ -64,8 +71,10 @@ pub extern "C" fn rilvostam_right_neighbor(
     skip: u8,
     at: &mut u64,
 ) -> u32
-    ensures status { λ r. ⌜ r ≡ answerTold (answer (now (line .entry)) (now (listing .entry)) (Right (placeOf place)) (isSet skip)) .status ⌝ }
-    ensures place { λ _. ⌜ now (at .exit) ≡ answerTold (answer (now (line .entry)) (now (listing .entry)) (Right (placeOf place)) (isSet skip)) .at ⌝ }
+    ensures status { λ r. ⌜ r ≡ answerTold (answer (now (line .entry)) (now (listing .entry)) (Right (placeOf place))
+        (isSet skip)) .status ⌝ }
+    ensures place { λ _. ⌜ now (at .exit) ≡ answerTold
+        (answer (now (line .entry)) (now (listing .entry)) (Right (placeOf place)) (isSet skip)) .at ⌝ }
 {
     let q = Query::Right(Place(place as usize));
     let right = answers::reading::answer_told(queries::best_edge(line, listing, q, skip != 0));
@@ -82,8 +91,10 @@ pub extern "C" fn rilvostam_left_neighbor(
     skip: u8,
     at: &mut u64,
 ) -> u32
-    ensures status { λ r. ⌜ r ≡ answerTold (answer (now (line .entry)) (now (listing .entry)) (Left (placeOf place)) (isSet skip)) .status ⌝ }
-    ensures place { λ _. ⌜ now (at .exit) ≡ answerTold (answer (now (line .entry)) (now (listing .entry)) (Left (placeOf place)) (isSet skip)) .at ⌝ }
+    ensures status { λ r. ⌜ r ≡ answerTold (answer (now (line .entry)) (now (listing .entry)) (Left (placeOf place))
+        (isSet skip)) .status ⌝ }
+    ensures place { λ _. ⌜ now (at .exit) ≡ answerTold
+        (answer (now (line .entry)) (now (listing .entry)) (Left (placeOf place)) (isSet skip)) .at ⌝ }
 {
     let q = Query::Left(Place(place as usize));
     let left = answers::reading::answer_told(queries::best_edge(line, listing, q, skip != 0));
@@ -102,9 +113,15 @@ pub extern "C" fn rilvostam_path(
     out: &mut [u8],
     at: &mut u64,
 ) -> u32
-    ensures status { λ r. ⌜ r ≡ writtenTold (written (pathOut (now (line .entry)) (now (listing .entry)) (placeOf start) (placeOf end) (isSet skip) (length (now (out .entry))))) .status ⌝ }
-    ensures place { λ _. ⌜ now (at .exit) ≡ writtenTold (written (pathOut (now (line .entry)) (now (listing .entry)) (placeOf start) (placeOf end) (isSet skip) (length (now (out .entry))))) .at ⌝ }
-    ensures output { λ _. ⌜ now (out .exit) ≡ after (now (out .entry)) (pathOut (now (line .entry)) (now (listing .entry)) (placeOf start) (placeOf end) (isSet skip) (length (now (out .entry)))) ⌝ }
+    ensures status { λ r. ⌜ r ≡ writtenTold
+        (written (pathOut (now (line .entry)) (now (listing .entry)) (placeOf start) (placeOf end) (isSet skip)
+        (length (now (out .entry))))) .status ⌝ }
+    ensures place { λ _. ⌜ now (at .exit) ≡ writtenTold
+        (written (pathOut (now (line .entry)) (now (listing .entry)) (placeOf start) (placeOf end) (isSet skip)
+        (length (now (out .entry))))) .at ⌝ }
+    ensures output { λ _. ⌜ now (out .exit)
+        ≡ after (now (out .entry)) (pathOut (now (line .entry)) (now (listing .entry)) (placeOf start) (placeOf end)
+        (isSet skip) (length (now (out .entry)))) ⌝ }
 {
     let from = Place(start as usize);
     let to = Place(end as usize);
@@ -131,9 +148,12 @@ pub extern "C" fn rilvostam_shown_text(
     within: &mut u8,
 ) -> u32
     ensures status { λ r. ⌜ r ≡ shownTold (shown (now (line .entry)) (now (listing .entry)) (placeOf place)) .status ⌝ }
-    ensures place { λ _. ⌜ now (at .exit) ≡ shownTold (shown (now (line .entry)) (now (listing .entry)) (placeOf place)) .at ⌝ }
-    ensures len { λ _. ⌜ now (len .exit) ≡ shownTold (shown (now (line .entry)) (now (listing .entry)) (placeOf place)) .len ⌝ }
-    ensures within { λ _. ⌜ now (within .exit) ≡ shownTold (shown (now (line .entry)) (now (listing .entry)) (placeOf place)) .in_listing ⌝ }
+    ensures place { λ _. ⌜ now (at .exit) ≡ shownTold
+        (shown (now (line .entry)) (now (listing .entry)) (placeOf place)) .at ⌝ }
+    ensures len { λ _. ⌜ now (len .exit) ≡ shownTold
+        (shown (now (line .entry)) (now (listing .entry)) (placeOf place)) .len ⌝ }
+    ensures within { λ _. ⌜ now (within .exit)
+        ≡ shownTold (shown (now (line .entry)) (now (listing .entry)) (placeOf place)) .in_listing ⌝ }
 {
     let text = answers::reading::shown_told(queries::shown::shown_text(
         line,

@@ -13,8 +13,10 @@ pub extern "C" fn rilvostam_nearest_number(
     place: u64,
     at: &mut u64,
 ) -> u32
-    ensures status { λ r. ⌜ r ≡ answerTold (nearestNumber (now (line .entry)) (now (listing .entry)) (placeOf place)) .status ⌝ }
-    ensures place { λ _. ⌜ now (at .exit) ≡ answerTold (nearestNumber (now (line .entry)) (now (listing .entry)) (placeOf place)) .at ⌝ }
+    ensures status { λ r. ⌜ r ≡ answerTold (nearestNumber (now (line .entry)) (now (listing .entry))
+        (placeOf place)) .status ⌝ }
+    ensures place { λ _. ⌜ now (at .exit) ≡ answerTold
+        (nearestNumber (now (line .entry)) (now (listing .entry)) (placeOf place)) .at ⌝ }
 {
     let p = Place(place as usize);
     let number = answers::reading::answer_told(nearest_number::nearest_number(line, listing, p));

@@ -13,7 +13,8 @@ pub extern "C" fn rilvostam_pool_shares(
 ) -> u32
     ensures status { λ r. ⌜ r ≡ poolTold (now (line .entry)) (now (listing .entry)) .status ⌝ }
     ensures above { λ _. ⌜ now (numerator .exit) ≡ poolTold (now (line .entry)) (now (listing .entry)) .numerator ⌝ }
-    ensures below { λ _. ⌜ now (denominator .exit) ≡ poolTold (now (line .entry)) (now (listing .entry)) .denominator ⌝ }
+    ensures below { λ _. ⌜ now (denominator .exit)
+        ≡ poolTold (now (line .entry)) (now (listing .entry)) .denominator ⌝ }
     ensures place { λ _. ⌜ now (at .exit) ≡ poolTold (now (line .entry)) (now (listing .entry)) .at ⌝ }
 {
     let sum = shares::told::shares_told(shares::pool_shares(line, listing));

@@ -12,7 +12,8 @@ use answers::Refusal;
 
 // A table's bytes at the start of the output; where the output is shorter than they are, 8.
 fn put_table(table: &[u8], out: &mut [u8]) -> Answer
-    ensures { λ r. ⌜ AnswerIs (now (out .entry)) (now (out .exit)) r (supplied (now (table .entry)) (length (now (out .entry)))) ⌝ }
+    ensures { λ r. ⌜ AnswerIs (now (out .entry)) (now (out .exit)) r
+        (supplied (now (table .entry)) (length (now (out .entry)))) ⌝ }
 {
     if out.len() < table.len() {
         return Answer::Refused(Refusal::TooLong);
@@ -26,7 +27,8 @@ fn put_table(table: &[u8], out: &mut [u8]) -> Answer
 pub extern "C" fn rilvostam_plain_table(out: &mut [u8], at: &mut u64) -> u32
     ensures status { λ r. ⌜ r ≡ callTold (supplied plainBytes (length (now (out .entry)))) .status ⌝ }
     ensures place { λ _. ⌜ now (at .exit) ≡ callTold (supplied plainBytes (length (now (out .entry)))) .at ⌝ }
-    ensures output { λ _. ⌜ now (out .exit) ≡ outAfter (now (out .entry)) (supplied plainBytes (length (now (out .entry)))) ⌝ }
+    ensures output { λ _. ⌜ now (out .exit)
+        ≡ outAfter (now (out .entry)) (supplied plainBytes (length (now (out .entry)))) ⌝ }
 {
     let table = grammar::plain_table::plain_table();
     let plain = answers::answer_told(put_table(&table, out));
@@ -39,7 +41,8 @@ pub extern "C" fn rilvostam_plain_table(out: &mut [u8], at: &mut u64) -> u32
 pub extern "C" fn rilvostam_formal_table(out: &mut [u8], at: &mut u64) -> u32
     ensures status { λ r. ⌜ r ≡ callTold (supplied formalBytes (length (now (out .entry)))) .status ⌝ }
     ensures place { λ _. ⌜ now (at .exit) ≡ callTold (supplied formalBytes (length (now (out .entry)))) .at ⌝ }
-    ensures output { λ _. ⌜ now (out .exit) ≡ outAfter (now (out .entry)) (supplied formalBytes (length (now (out .entry)))) ⌝ }
+    ensures output { λ _. ⌜ now (out .exit)
+        ≡ outAfter (now (out .entry)) (supplied formalBytes (length (now (out .entry)))) ⌝ }
 {
     let table = grammar::formal_table::formal_table();
     let formal = answers::answer_told(put_table(&table, out));

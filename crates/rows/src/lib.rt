@@ -56,7 +56,8 @@ fn put_columns(out: &mut [u8], at: usize, s: &[u8], e: EdgeView) -> usize
 
 // The row of the edge at an offset of a listing, for which there is room.
 pub fn put_row(out: &mut [u8], at: usize, listing: &[u8], from: usize) -> usize
-    requires { ⌜ (nextAt (now listing) from ≤ length (now listing)) × (at + length (rowBytes (edgeAt (now listing) from)) ≤ length (now out)) ⌝ }
+    requires { ⌜ (nextAt (now listing) from ≤ length (now listing))
+        × (at + length (rowBytes (edgeAt (now listing) from)) ≤ length (now out)) ⌝ }
     ensures { λ r. ⌜ Put (now (out .entry)) (now (out .exit)) at r (rowBytes (edgeAt (now (listing .entry)) from)) ⌝ }
 {
     let e = edge::head::edge_at(listing, from);

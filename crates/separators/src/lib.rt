@@ -39,7 +39,8 @@ fn is_apart(work: &[u8], at: usize, marks: &[bool; PLACES]) -> bool
 
 // The copy of an edge that stands in the listing is added, with its separator: a space if it has a fraction, else "·".
 fn add_separated(work: &mut [u8], lattice: Lattice, at: usize, next: usize) -> Lattice
-    requires { ⌜ ((es : List Edge) × Holds (now work) lattice es) × ((e : Edge) × Source (now work) (lattice .len) at next 2 e) ⌝ }
+    requires { ⌜ ((es : List Edge) × Holds (now work) lattice es)
+        × ((e : Edge) × Source (now work) (lattice .len) at next 2 e) ⌝ }
     ensures { λ r. ⌜ SameBehind (now (work .entry)) (now (work .exit)) × ((es : List Edge) (e : Edge)
         → Holds (now (work .entry)) lattice es → Source (now (work .entry)) (lattice .len) at next 2 e
         → Holds (now (work .exit)) r (add es (copyOf e))) ⌝ }
@@ -64,7 +65,8 @@ fn end_of(work: &[u8], lattice: Lattice, i: usize) -> usize
 
 // The i-th edge is set apart, if the marks say so. The copy is made before its original turns inactive: it is active as that was.
 fn set_apart(work: &mut [u8], lattice: Lattice, i: usize, marks: &[bool; PLACES]) -> Lattice
-    requires { ⌜ ((n : ℕ) × (n ≤ maxChars) × ((es : List Edge) × Holds (now work) lattice es × (i < length es) × CallEdge n (getD es i noEdge))) ⌝ }
+    requires { ⌜ ((n : ℕ) × (n ≤ maxChars) × ((es : List Edge) × Holds (now work) lattice es × (i < length es)
+        × CallEdge n (getD es i noEdge))) ⌝ }
     ensures { λ r. ⌜ SameBehind (now (work .entry)) (now (work .exit)) × ((n : ℕ) (es : List Edge) → n ≤ maxChars
         → Holds (now (work .entry)) lattice es → i < length es → CallEdge n (getD es i noEdge)
         → Holds (now (work .exit)) r (setApart (now (marks .entry)) es i)) ⌝ }
@@ -87,7 +89,8 @@ fn set_apart(work: &mut [u8], lattice: Lattice, i: usize, marks: &[bool; PLACES]
 
 // All edges that are there are set apart in turn, if the marks say so. The copies are not looked at.
 fn set_all_apart(work: &mut [u8], lattice: Lattice, marks: &[bool; PLACES]) -> Lattice
-    requires { ⌜ ((n : ℕ) × (n ≤ maxChars) × ((es : List Edge) × Holds (now work) lattice es × (length es ≡ lattice .count) × CallEdges n es)) ⌝ }
+    requires { ⌜ ((n : ℕ) × (n ≤ maxChars) × ((es : List Edge) × Holds (now work) lattice es
+        × (length es ≡ lattice .count) × CallEdges n es)) ⌝ }
     ensures { λ r. ⌜ SameBehind (now (work .entry)) (now (work .exit)) × ((n : ℕ) (es : List Edge) → n ≤ maxChars
         → Holds (now (work .entry)) lattice es → length es ≡ lattice .count → CallEdges n es
         → Holds (now (work .exit)) r (allApart (now (marks .entry)) es 0 (length es))) ⌝ }

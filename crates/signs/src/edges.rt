@@ -73,9 +73,10 @@ fn add_signed(
     start: Place,
 ) -> Lattice
     requires { ⌜ Addable (now work) lattice (now line) (now offs) (now table) edge × (start .0 ≤ maxChars) ⌝ }
-    ensures { λ r. ⌜ SameBehind (now (work .entry)) (now (work .exit)) × ((es : List Edge) (i : StoredEdge)
-        → Holds (now (work .entry)) lattice es → EdgeIs edge i
-        → Holds (now (work .exit)) r (add es (signEdge (start .0) sign (edgeOf (chars (now (line .entry))) (now (table .entry)) i)))) ⌝ }
+    ensures { λ r. ⌜ SameBehind (now (work .entry)) (now (work .exit))
+        × ((es : List Edge) (i : StoredEdge) → Holds (now (work .entry)) lattice es → EdgeIs edge i
+        → Holds (now (work .exit)) r (add es (signEdge (start .0) sign
+        (edgeOf (chars (now (line .entry))) (now (table .entry)) i)))) ⌝ }
 {
     let mut ty = [0u8; 62];
     let mut txt = [0u8; 257];
@@ -97,7 +98,8 @@ fn add_sign(
 ) -> Lattice
     requires { ⌜ Addable (now work) lattice (now line) (now offs) (now table) edge × Within (now table) marker
         × (wellFormed (partOf (now table) marker) ≡ true) ⌝ }
-    ensures { λ r. ⌜ Signs (now (line .entry)) (now (table .entry)) edge sign (partOf (now (table .entry)) marker ∷ []) (now (work .entry)) lattice (now (work .exit)) r ⌝ }
+    ensures { λ r. ⌜ Signs (now (line .entry)) (now (table .entry)) edge sign (partOf (now (table .entry)) marker ∷ [])
+        (now (work .entry)) lattice (now (work .exit)) r ⌝ }
 {
     let from = marker.at.0;
     let to = from + marker.len;
@@ -127,8 +129,10 @@ pub fn add_signs_of(
     edge: PassEdge,
     sign: u8,
 ) -> Lattice
-    requires { ⌜ Addable (now work) lattice (now line) (now offs) (now table) edge × Formed (listAt (now table) list) ⌝ }
-    ensures { λ r. ⌜ Signs (now (line .entry)) (now (table .entry)) edge sign (listAt (now (table .entry)) list) (now (work .entry)) lattice (now (work .exit)) r ⌝ }
+    requires { ⌜ Addable (now work) lattice (now line) (now offs) (now table) edge
+        × Formed (listAt (now table) list) ⌝ }
+    ensures { λ r. ⌜ Signs (now (line .entry)) (now (table .entry)) edge sign (listAt (now (table .entry)) list)
+        (now (work .entry)) lattice (now (work .exit)) r ⌝ }
 {
     if table.len() <= list {
         return lattice;

@@ -34,10 +34,13 @@ fn add_edge_signs(
     edge: PassEdge,
 ) -> Lattice
     requires { ⌜ ((es : List Edge) × Holds (now work) lattice es) × Offsets (now line) (now offs)
-        × ((i : StoredEdge) × StoredIs (now line) (now table) edge i) × ((n : ℕ) × Ready (now line) (now table) shape n) ⌝ }
-    ensures { λ r. ⌜ SameBehind (now (work .entry)) (now (work .exit)) × ((es : List Edge) (i : StoredEdge)
-        → Holds (now (work .entry)) lattice es → EdgeIs edge i
-        → Holds (now (work .exit)) r (addAll es (signsOf (tableOf (now (table .entry)) shape) (chars (now (line .entry))) (edgeOf (chars (now (line .entry))) (now (table .entry)) i)))) ⌝ }
+        × ((i : StoredEdge) × StoredIs (now line) (now table) edge i)
+        × ((n : ℕ) × Ready (now line) (now table) shape n) ⌝ }
+    ensures { λ r. ⌜ SameBehind (now (work .entry)) (now (work .exit))
+        × ((es : List Edge) (i : StoredEdge) → Holds (now (work .entry)) lattice es → EdgeIs edge i
+        → Holds (now (work .exit)) r (addAll es
+        (signsOf (tableOf (now (table .entry)) shape) (chars (now (line .entry)))
+        (edgeOf (chars (now (line .entry))) (now (table .entry)) i)))) ⌝ }
 {
     if edge.start.0 == 0 {
         return lattice;
@@ -72,8 +75,12 @@ pub fn add_signs(
         × ((m : ℕ) × Ready (now line) (now table) shape m)
         × AllGrounded (chars (now line)) (now table) (storedListAt (drop END (now work)) 0 stored)
         × (END + stored * SIZE ≤ length (now work)) ⌝ }
-    ensures { λ r. ⌜ SameBehind (now (work .entry)) (now (work .exit)) × ((es : List Edge) → Holds (now (work .entry)) lattice es
-        → Holds (now (work .exit)) r (addAll es (signs (tableOf (now (table .entry)) shape) (chars (now (line .entry))) (map (edgeOf (chars (now (line .entry))) (now (table .entry))) (storedListAt (drop END (now (work .entry))) 0 stored))))) ⌝ }
+    ensures { λ r. ⌜ SameBehind (now (work .entry)) (now (work .exit))
+        × ((es : List Edge) → Holds (now (work .entry)) lattice es
+        → Holds (now (work .exit)) r (addAll es
+        (signs (tableOf (now (table .entry)) shape) (chars (now (line .entry)))
+        (map (edgeOf (chars (now (line .entry))) (now (table .entry)))
+        (storedListAt (drop END (now (work .entry))) 0 stored))))) ⌝ }
 {
     let list = lattice::END;
     let mut grown = lattice;

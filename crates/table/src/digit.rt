@@ -29,7 +29,8 @@ pub fn is_digit_type(s: &[u8], p: Part) -> bool
 pub fn legal_digit(s: &[u8], map: u8, at: usize, kind: Part, rom: Part) -> bool
     requires { ⌜ (bit map 1 ≡ true → at + 8 ≤ length (now s)) ⌝ }
     requires within { ⌜ Within (now s) kind × Within (now s) rom ⌝ }
-    ensures { λ r. ⌜ r ≡ digitFine map (leAt (now (s .entry)) at 8) (partOf (now (s .entry)) kind) (partOf (now (s .entry)) rom) ⌝ }
+    ensures { λ r. ⌜ r ≡ digitFine map (leAt (now (s .entry)) at 8) (partOf (now (s .entry)) kind)
+        (partOf (now (s .entry)) rom) ⌝ }
 {
     if map / bits::VALUE % 2 != 1 {
         return true;

@@ -104,7 +104,8 @@ fn nearest_entry(
 ) -> RecordRun
     requires { ⌜ Whole (now table) (all .at) (all .left)
         × Indexed (now table) (recordsAt (all .left) (now table) (all .at)) (now offs) (all .left) n ⌝ }
-    ensures { λ r. ⌜ RecordsAhead (now (table .entry)) (recordsAt (all .left) (now (table .entry)) (all .at)) c (r .at) (r .left) ⌝ }
+    ensures { λ r. ⌜ RecordsAhead (now (table .entry)) (recordsAt (all .left) (now (table .entry)) (all .at)) c (r .at)
+        (r .left) ⌝ }
 {
     let stride = stride_of(all.left);
     let mut from = all;

@@ -7,7 +7,8 @@ ghost use Rattle.vectors.specs.Until.{untilByte};
 // The offset of the first `stop` from an offset on, or the end.
 pub fn until(s: &[u8], from: usize, stop: u8) -> usize
     requires { ⌜ from ≤ length (now s) ⌝ }
-    ensures { λ r. ⌜ (r ≡ from + length (untilByte stop (drop from (now (s .entry))))) × (r ≤ length (now (s .entry))) ⌝ }
+    ensures { λ r. ⌜ (r ≡ from + length (untilByte stop (drop from (now (s .entry)))))
+        × (r ≤ length (now (s .entry))) ⌝ }
 {
     let mut at = from;
     while at < s.len() {

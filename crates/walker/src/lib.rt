@@ -32,7 +32,8 @@ pub fn edge_here<'a>(w: Walker<'a>) -> Here
 
 // The walker at the next edge.
 pub fn next<'a>(w: Walker<'a>) -> Walker<'a>
-    ensures { λ r. ⌜ (r .listing ≡ w .entry .listing) × (r .at .0 ≡ behind (now (w .entry .listing)) (w .entry .at .0)) ⌝ }
+    ensures { λ r. ⌜ (r .listing ≡ w .entry .listing)
+        × (r .at .0 ≡ behind (now (w .entry .listing)) (w .entry .at .0)) ⌝ }
 {
     Walker {
         listing: w.listing,

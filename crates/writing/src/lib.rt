@@ -62,7 +62,8 @@ fn zero_if(b: bool) -> u32
 fn put_digit(buf: &mut [u8; 192], at: usize, h: u64, d: u64, mark: u32) -> usize
     requires { ⌜ (9 ≤ at) × (at ≤ 192) × (length (now buf) ≡ 192) × (d < 10) × ((m : List Char) × Mark m mark) ⌝ }
     ensures begins { λ r. ⌜ (r ≤ at) × (at ≤ r + 9) × (length (now (buf .exit)) ≡ 192) ⌝ }
-    ensures stored { λ r. ⌜ ((m : List Char) → Mark m mark → Before (now (buf .entry)) at (utf8 (digitPart h d m)) r (now (buf .exit))) ⌝ }
+    ensures stored { λ r. ⌜ ((m : List Char) → Mark m mark
+        → Before (now (buf .entry)) at (utf8 (digitPart h d m)) r (now (buf .exit))) ⌝ }
 {
     if d == 0 {
         return at;
@@ -91,7 +92,8 @@ fn put_digits(buf: &mut [u8; 192], at: usize, g: u64) -> usize
 fn put_group(buf: &mut [u8; 192], at: usize, h: u64, g: u64, mark: u32) -> usize
     requires { ⌜ (42 ≤ at) × (at ≤ 192) × (length (now buf) ≡ 192) × ((m : List Char) × Mark m mark) ⌝ }
     ensures begins { λ r. ⌜ (r ≤ at) × (at ≤ r + 42) × (length (now (buf .exit)) ≡ 192) ⌝ }
-    ensures stored { λ r. ⌜ ((m : List Char) → Mark m mark → Before (now (buf .entry)) at (utf8 (groupPart h g m)) r (now (buf .exit))) ⌝ }
+    ensures stored { λ r. ⌜ ((m : List Char) → Mark m mark
+        → Before (now (buf .entry)) at (utf8 (groupPart h g m)) r (now (buf .exit))) ⌝ }
 {
     if g == 0 {
         return at;
