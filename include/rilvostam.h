@@ -1,8 +1,8 @@
 /* Rilvostam: written numbers on the lines of registers. The C interface of librilvostam.a.
  *
- * A slice is a pointer and a length in bytes. No pointer is NULL, not even with length 0. `work`, `out`, `at`, `len`, `in_listing` and `is_number` overlap no
- * other argument. Bytes need no alignment; `at` and `len` have that of a uint64_t. The library keeps no state and allocates nothing, so calls may run in parallel, each with
- * buffers of its own.
+ * A slice is a pointer and a length in bytes. No pointer is NULL, not even with length 0. `work`, `out`, `at`, `len`, `in_listing`, `is_number`, `numbers` and `next` overlap no
+ * other argument. Bytes need no alignment; `at`, `len`, `numbers` and `next` have that of a uint64_t. The library keeps no state and allocates nothing, so calls may run in
+ * parallel, each with buffers of its own.
  *
  * Each function answers RILVOSTAM_OK or the number of a refusal. `*at` is written on every answer: on a refusal the offset in bytes or the place in
  * characters that goes with it, or 0. On a refusal `out` is as it was; otherwise the bytes behind what was written are as they were.
@@ -13,6 +13,7 @@
 
 #include <stddef.h>
 #include <stdint.h>
+#include <string.h>
 
 #ifdef __cplusplus
 extern "C" {
@@ -79,6 +80,112 @@ uint32_t rilvostam_path(const uint8_t *line, size_t line_len, const uint8_t *lis
  * 0: *len bytes from *at on, of the listing where *in_listing is 1, of the line where it is 0. On a refusal *len and *in_listing are 0. */
 uint32_t rilvostam_shown_text(const uint8_t *line, size_t line_len, const uint8_t *listing, size_t listing_len,
                               uint64_t place, uint64_t *at, uint64_t *len, uint8_t *in_listing);
+
+/* The edge at an offset of a listing, as numbers: those of the enum below, in numbers[0] to numbers[18]. A text is its offset in the listing and its length; value and mult are the bits
+ * of their double; what the edge does not have is 0. An offset is RILVOSTAM_FIRST_EDGE, a *next of this call, or one that a call above answered; whatever stands elsewhere is read
+ * as if it were an edge. rilvostam_read_edge and rilvostam_next_edge are easier to use.
+ * 0: *next is the offset of the next edge, the listing's length behind the last. Where no whole edge stands, as there, it is refused 6, *next is at and numbers is as it was. */
+#define RILVOSTAM_FIRST_EDGE 2
+enum {
+    RILVOSTAM_EDGE_MAP, /* which fields there are: the bits RILVOSTAM_IS_.. and RILVOSTAM_HAS_.. */
+    RILVOSTAM_EDGE_START,
+    RILVOSTAM_EDGE_END,
+    RILVOSTAM_EDGE_TYPE,
+    RILVOSTAM_EDGE_TYPE_LEN,
+    RILVOSTAM_EDGE_TXT,
+    RILVOSTAM_EDGE_TXT_LEN,
+    RILVOSTAM_EDGE_ORIG_TXT,
+    RILVOSTAM_EDGE_ORIG_TXT_LEN,
+    RILVOSTAM_EDGE_VALUE,
+    RILVOSTAM_EDGE_NUMERATOR,
+    RILVOSTAM_EDGE_DENOMINATOR,
+    RILVOSTAM_EDGE_BASE,
+    RILVOSTAM_EDGE_MULT,
+    RILVOSTAM_EDGE_SCRIPT,
+    RILVOSTAM_EDGE_SCRIPT_LEN,
+    RILVOSTAM_EDGE_VALUE_S,
+    RILVOSTAM_EDGE_VALUE_S_LEN,
+    RILVOSTAM_EDGE_DECIMALS,
+    RILVOSTAM_EDGE_NUMBERS /* how many they are: 19 */
+};
+uint32_t rilvostam_edge_at(const uint8_t *listing, size_t listing_len, uint64_t at, uint64_t *numbers, uint64_t *next);
+
+/* The bits of an edge's map. */
+enum {
+    RILVOSTAM_IS_NUMERIC = 1, /* it has orig_txt; without this bit none of the others stands */
+    RILVOSTAM_HAS_VALUE = 2,
+    RILVOSTAM_HAS_FRACTION = 4,
+    RILVOSTAM_HAS_BASE = 8,
+    RILVOSTAM_HAS_MULT = 16,
+    RILVOSTAM_HAS_SCRIPT = 32,
+    RILVOSTAM_IS_LARGE_POWER = 64,
+    RILVOSTAM_IS_ACTIVE = 128,
+    RILVOSTAM_HAS_VALUE_S = 256
+};
+
+/* A text of an edge: a part of the listing, in UTF-8, without a zero byte behind it. printf("%.*s", (int)t.len, t.at) prints it. */
+typedef struct {
+    const char *at;
+    size_t len;
+} rilvostam_text;
+
+/* An edge. A field whose bit of the map does not stand is 0, and its text empty. The texts last as long as the listing. */
+typedef struct {
+    uint64_t offset;     /* where it stands in the listing */
+    uint64_t start, end; /* places: characters of the line */
+    uint32_t map;
+    rilvostam_text type, txt, orig_txt, script, value_s;
+    double value, mult;
+    uint64_t numerator, denominator, base;
+    uint64_t decimals; /* for a later form of the listing; 0 now */
+} rilvostam_edge;
+
+static inline rilvostam_text rilvostam_edge_text(const uint8_t *listing, const uint64_t *offset_and_length) {
+    rilvostam_text t;
+    t.at = (const char *)listing + offset_and_length[0];
+    t.len = (size_t)offset_and_length[1];
+    return t;
+}
+
+static inline void rilvostam_fill_edge(const uint8_t *listing, uint64_t at, const uint64_t *n, rilvostam_edge *e) {
+    e->offset = at;
+    e->start = n[RILVOSTAM_EDGE_START];
+    e->end = n[RILVOSTAM_EDGE_END];
+    e->map = (uint32_t)n[RILVOSTAM_EDGE_MAP];
+    e->type = rilvostam_edge_text(listing, n + RILVOSTAM_EDGE_TYPE);
+    e->txt = rilvostam_edge_text(listing, n + RILVOSTAM_EDGE_TXT);
+    e->orig_txt = rilvostam_edge_text(listing, n + RILVOSTAM_EDGE_ORIG_TXT);
+    e->script = rilvostam_edge_text(listing, n + RILVOSTAM_EDGE_SCRIPT);
+    e->value_s = rilvostam_edge_text(listing, n + RILVOSTAM_EDGE_VALUE_S);
+    memcpy(&e->value, n + RILVOSTAM_EDGE_VALUE, sizeof e->value);
+    memcpy(&e->mult, n + RILVOSTAM_EDGE_MULT, sizeof e->mult);
+    e->numerator = n[RILVOSTAM_EDGE_NUMERATOR];
+    e->denominator = n[RILVOSTAM_EDGE_DENOMINATOR];
+    e->base = n[RILVOSTAM_EDGE_BASE];
+    e->decimals = n[RILVOSTAM_EDGE_DECIMALS];
+}
+
+/* The edge at an offset that a call answered: 1 and *e, or 0 where no whole edge stands, and *e is as it was. */
+static inline int rilvostam_read_edge(const uint8_t *listing, size_t listing_len, uint64_t at, rilvostam_edge *e) {
+    uint64_t n[RILVOSTAM_EDGE_NUMBERS], next;
+    if (rilvostam_edge_at(listing, listing_len, at, n, &next) != RILVOSTAM_OK) return 0;
+    rilvostam_fill_edge(listing, at, n, e);
+    return 1;
+}
+
+/* The edges of a listing one after the other, from *at = 0 on:
+ *     uint64_t at = 0; rilvostam_edge e;
+ *     while (rilvostam_next_edge(listing, len, &at, &e)) ..
+ * 1: *e is the next edge and *at the offset behind it. 0: no whole edge stands at *at. Of a listing that the library wrote or accepted *at is then its length. */
+static inline int rilvostam_next_edge(const uint8_t *listing, size_t listing_len, uint64_t *at, rilvostam_edge *e) {
+    uint64_t n[RILVOSTAM_EDGE_NUMBERS], next, here = *at;
+    if (here < RILVOSTAM_FIRST_EDGE) here = RILVOSTAM_FIRST_EDGE;
+    *at = here;
+    if (rilvostam_edge_at(listing, listing_len, here, n, &next) != RILVOSTAM_OK) return 0;
+    rilvostam_fill_edge(listing, here, n, e);
+    *at = next;
+    return 1;
+}
 
 /* The numeral of a number, at the front of out, in UTF-8 with the characters of the plain table: 10010000 is 一千零一万, and 0 is 零. A number above TOP is refused 10
  * whatever the output's length.

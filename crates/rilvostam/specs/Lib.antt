@@ -1,4 +1,5 @@
 -- What the exported functions answer.
 pub mod Exported
+pub mod EdgeNumbers
 pub mod Numerals
 pub mod Tables

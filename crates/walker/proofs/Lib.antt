@@ -1,2 +1,3 @@
 -- What is promised of a walk beyond the contracts.
 pub mod Theorems
+pub mod WholeTheorems

@@ -37,7 +37,7 @@ unfolding viewAt edgeAt textAt
 view-says s at = record { start = refl; end = refl; type = refl; txt = refl; num = refl }
 
 -- ---- one step
-step-whole : (s : List ℕ) (at i : ℕ) → nextAt s at ≤ length s → onward (suc i) s at ≡ onward i s (nextAt s at)
+pub step-whole : (s : List ℕ) (at i : ℕ) → nextAt s at ≤ length s → onward (suc i) s at ≡ onward i s (nextAt s at)
 unfolding onward
 step-whole s at i h = ap (onward i s) (sym (behind-edge s at {b = whole s at} refl (le-leb (nextAt s at) (length s) h) refl))
 
@@ -53,7 +53,7 @@ stays s at (suc i) h = ap (onward i s) (sym (behind-end s at {b = whole s at} re
 -- ---- the steps over edges that are accepted
 module _ (given : Bool) (n : ℕ) (s : List ℕ) (c : ℕ) where
   -- what a check that accepts has found of k edges
-  data Walks : ℕ → ℕ → Type 0 where
+  pub data Walks : ℕ → ℕ → Type 0 where
     over : {at : ℕ} → c ≡ leAt s 0 2 → length s ≤ at → Walks zero at
     more : {k at : ℕ} → nextAt s at ≤ length s → Walks k (nextAt s at) → Walks (suc k) at
 
@@ -71,11 +71,11 @@ module _ (given : Bool) (n : ℕ) (s : List ℕ) (c : ℕ) where
       go true e later t = more (good-whole given n s at e) (later t)
       go false e later t = let z : _≡_ {A = ℕ} 0 1 = cc in absurd (omega arith)
 
-  count-is : (k at : ℕ) → Walks k at → c ≡ leAt s 0 2
+  pub count-is : (k at : ℕ) → Walks k at → c ≡ leAt s 0 2
   count-is zero at (over e h) = e
   count-is (suc k) at (more h w) = count-is k (nextAt s at) w
 
-  accepted : checkListing given n s ≡ Edges c → Walks (leAt s 0 2) 2
+  pub accepted : checkListing given n s ≡ Edges c → Walks (leAt s 0 2) 2
   unfolding checkListing
   accepted t = go (leb 2 (length s)) t
     where

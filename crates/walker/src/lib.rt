@@ -1,6 +1,7 @@
 // A walk over a listing, edge by edge from its front (01, "A form for each place"): a walker holds the listing and an offset.
 // Its functions are thin: the work is in the functions of `walker::steps`.
 pub mod steps; // steps.rt: its steps, by a slice and an offset
+pub mod whole_edge; // whole_edge.rt: a whole edge by its numbers
 
 ghost use mathlib.Core.Path.{_≡_};
 ghost use Rattle.walker.specs.Walk.{hereAt, behind, onward};

@@ -1,5 +1,7 @@
-// Walks listings edge by edge with `walker::nth`, past their end, and prints what it meets: places, map and the length of the txt of each edge, or the end. `stdout` has the expected answers, worked
-// out by hand from the scope.
+// Walks listings edge by edge with `walker::nth`, past their end, and prints what it meets: places, map and the length of the txt of each edge, or the end. Then reads edges by their offsets
+// as C does, and prints all their numbers. `stdout` has the expected answers, worked out by hand from the scope.
+use rilvostam::edges::EDGE_NUMBERS;
+use rilvostam::edges::rilvostam_edge_at;
 use walker::steps::Here;
 
 // What stands at a step.
@@ -27,6 +29,41 @@ fn walk(s: &[u8], n: usize) {
     }
 }
 
+// Numbers in a row.
+fn say_all(numbers: [u64; EDGE_NUMBERS]) {
+    let mut i = 0;
+    while i < EDGE_NUMBERS {
+        vectors::say(b" ", numbers[i]);
+        i += 1;
+    }
+    io::write_all(1, b"\n");
+}
+
+// The answer of C's call for an offset, the next offset, and the numbers, which were 7 before.
+fn read(s: &[u8], at: u64) {
+    let mut numbers = [7u64; EDGE_NUMBERS];
+    let mut next: u64 = 7;
+    let status = rilvostam_edge_at(s, at, &mut numbers, &mut next);
+    vectors::say(b"answer ", status as u64);
+    vectors::say(b" next ", next);
+    say_all(numbers);
+}
+
+// Two edges as in `main`, read by their offsets.
+fn read_edges() {
+    let s =
+        b"\x02\x00\x00\x00\x00\x00\x01\x00\x01\x00t\x01\x00x\xff\x01\x01\x00\x03\x00\x01\x00t\x02\x00xy\x01\x00o\x01\x00\x00\x00\x00\x00\xf8\x7f\x01\x00\x00\x00\x00\x00\x00\x00\x02\x00\x00\x00\x00\x00\x00\x00\x00\x00\x00\x00\x00\x00\x00\x00\xff\xff\xff\xff\xff\xff\xff\xff\x01\x00c\x01\x00v";
+    read(s, 2); // the regular edge, from 2 to 14
+    read(s, 14); // the numeric one, to the end
+    read(s, 76); // the end: no edge
+    read(s, 18446744073709551615); // nor there
+    read(b"\x01\x00\x00\x00\x00\x00\x01\x00\x01\x00t\x01\x00", 2); // a txt that is cut off
+    read(
+        b"\x01\x00\x41\x00\x00\x00\x01\x00\x00\x00\x00\x00\x02\x00op",
+        2,
+    ); // a large power without any number
+}
+
 // Two edges, a regular one over place 0 and a numeric one with every field over places 1 and 2: whole, without the last byte, and without the txt of the first.
 fn main() {
     walk(
@@ -41,4 +78,5 @@ fn main() {
     walk(b"\x01\x00\x00\x00\x00\x00\x03\x00\x00\x00\x00\x00", 2); // an edge with empty strings
     walk(b"\x05\x00", 1); // the count is not read
     walk(b"", 1); // no count
+    read_edges();
 }

@@ -1,0 +1,2 @@
+-- The laws that the proofs of `walker::whole_edge` share.
+pub mod EdgeLaws
