@@ -34,8 +34,37 @@ enum {
     RILVOSTAM_TOO_LONG = 8,      /* the listing has over 1,024 edges or RILVOSTAM_OUT bytes, or what is to be written is longer than the output: 0 */
     RILVOSTAM_BAD_PLACE = 9,     /* a place, start or end above the line's length, or start after end: 0 */
     RILVOSTAM_NUMBER_ABOVE_TOP = 10, /* a number above 9,007,199,254,740,991 that is to be written: 0 */
-    RILVOSTAM_SUM_ABOVE_TOP = 11 /* a sum whose numerator or denominator, in lowest terms, is above 9,007,199,254,740,991: index of the edge in the listing, from 0 */
+    RILVOSTAM_SUM_ABOVE_TOP = 11, /* a sum whose numerator or denominator, in lowest terms, is above 9,007,199,254,740,991: index of the edge in the listing, from 0 */
+    RILVOSTAM_NOT_ONE_WORN = 12, /* a line without just one □, or with another character outside the plain table: 0 */
+    RILVOSTAM_NONE_SERVES = 13   /* none of the sixteen characters in the place of □ makes the line a numeral up to 9,007,199,254,740,991: 0 */
 };
+
+/* A refusal in words: its name, as above without RILVOSTAM_; a sentence; and what *at says with it, "" where it is 0. */
+typedef struct {
+    const char *name, *sentence, *place;
+} rilvostam_words;
+
+/* The words for an answer of the library; a number that is none has the name UNKNOWN. */
+static inline rilvostam_words rilvostam_in_words(uint32_t answer) {
+    static const rilvostam_words words[] = {
+        {"OK", "nothing is refused", ""},
+        {"SHORT_WORK", "the work space has under 65,536 bytes", ""},
+        {"NOT_UTF8", "the line is not well-formed UTF-8", "offset of the first ill-formed sequence"},
+        {"OVER_LONG", "the line has over 256 characters", "offset of the 257th"},
+        {"TABLE_LAYOUT", "the bytes are no table: an item is cut off, too long or has a bit that may not stand, or bytes are left over", "offset of the item, or of what is left over"},
+        {"TABLE_CONTENT", "the table has a record or a string that may not stand in one", "offset of the record or string"},
+        {"BAD_LISTING", "the bytes are no listing, or have an edge that may not stand over the line", "offset of the edge, or of what is left over"},
+        {"ABOVE_TOP", "a number of the line is above 9,007,199,254,740,991", "place where the number starts"},
+        {"TOO_LONG", "the listing has over 1,024 edges or over 32,768 bytes, or what is to be written is longer than the output", ""},
+        {"BAD_PLACE", "a place is past the end of the line, or start is after end", ""},
+        {"NUMBER_ABOVE_TOP", "the number to be written is above 9,007,199,254,740,991", ""},
+        {"SUM_ABOVE_TOP", "the sum's numerator or denominator, in lowest terms, is above 9,007,199,254,740,991", "index of the edge in the listing"},
+        {"NOT_ONE_WORN", "the line has not just one □, or it has another character outside the plain table", ""},
+        {"NONE_SERVES", "none of the sixteen characters makes the line a numeral up to 9,007,199,254,740,991", ""},
+    };
+    static const rilvostam_words unknown = {"UNKNOWN", "the library has no such answer", ""};
+    return answer < sizeof words / sizeof words[0] ? words[answer] : unknown;
+}
 
 /* Bytes of work space that rilvostam_add_numbers needs, and bytes of output that always suffice. */
 #define RILVOSTAM_WORK 65536

@@ -2,7 +2,7 @@
 
 use rilvostam::*;
 
-/// The plain table, from its text by the rules of `tools/table`: here by hand, record by record.
+/// The plain table by hand, record by record; `plain_table` gives the same.
 fn plain() -> Vec<u8> {
     let mut records: Vec<(char, &str, u64, u64)> = "零一二三四五六七八九".chars().zip(0..).map(|(c, v)| (c, "digit", v, 1)).collect();
     records.extend([('十', "base", 10, 10), ('百', "base", 100, 100), ('千', "base", 1000, 1000)]);
@@ -34,6 +34,11 @@ fn rows(line: &str) -> Vec<String> {
     edges(&listing(line))
         .map(|e| format!("{} {} {} {} {}", e.start, e.end, e.kind, e.txt, e.num.map_or('-', |n| if n.active { '1' } else { '0' })))
         .collect()
+}
+
+#[test]
+fn plain_by_hand() {
+    assert_eq!(plain(), plain_table());
 }
 
 #[test]
@@ -69,7 +74,8 @@ fn refusals() {
     refusal(7, 0)(call("九".repeat(17).as_bytes(), &table, NO_EDGES, WORK));
     refusal(8, 0)(call("一万五".as_bytes(), &table, NO_EDGES, WORK));
     refusal(9, 0)(right_neighbor(b"x", NO_EDGES, 2, false).unwrap_err());
-    assert_eq!(Refusal { cause: Cause::AboveTop, at: 3 }.to_string(), "a number that starts at place 3 is above 9,007,199,254,740,991");
+    let words = "refused 7 ABOVE_TOP: a number of the line is above 9,007,199,254,740,991 (place where the number starts: 3)";
+    assert_eq!(Refusal { cause: Cause::AboveTop, at: 3 }.to_string(), words);
 }
 
 /// A listing of regular edges: start, end, type and txt.
