@@ -1,39 +1,50 @@
-/* Prints the edges of a line: start, end, type, txt, and 1, 0 or - (active, inactive, regular), tabs between, or the refusal.
- * usage: example TABLE LINE, where TABLE is a file of a table's bytes (tools/table makes one) */
+/* Prints the edges of a line: start, end, type, txt, and 1, 0 or - (active, inactive, regular), tabs between. A refusal is told in
+ * words on standard error.
+ * usage: example LINE [TABLE], where TABLE is a file of a table's bytes (tools/table makes one); without it the plain table
+ * exit status: 0; 1 for a refusal; 2 where the arguments or the file can't be used */
 #include <stdio.h>
 #include <stdlib.h>
 #include <string.h>
 #include "../../include/rilvostam.h"
 
-static unsigned u16(const uint8_t *s) { return s[0] | s[1] << 8; }
+static uint8_t table[4 << 20], work[RILVOSTAM_WORK], listing[RILVOSTAM_OUT];
 
-/* The offset behind the edge at an offset of a listing that the library wrote. */
-static size_t next_edge(const uint8_t *s, size_t at) {
-    static const unsigned eight_bytes[] = {1, 2, 2, 3, 4};
-    unsigned map = u16(s + at);
-    at += 6;
-    for (unsigned i = 0; i < 2 + (map & 1); i++) at += 2 + u16(s + at);
-    for (int i = 0; i < 5; i++) if (map >> eight_bytes[i] & 1) at += 8;
-    for (unsigned bit = 5; bit <= 8; bit += 3) if (map >> bit & 1) at += 2 + u16(s + at);
-    return at;
+static int refused(uint32_t answer, uint64_t at) {
+    rilvostam_words w = rilvostam_in_words(answer);
+    fprintf(stderr, "refused %u %s: %s", (unsigned)answer, w.name, w.sentence);
+    if (*w.place) fprintf(stderr, " (%s: %llu)", w.place, (unsigned long long)at);
+    fputc('\n', stderr);
+    return 1;
+}
+
+static void print_edges(size_t len) {
+    rilvostam_edge e;
+    uint64_t at = 0;
+    while (rilvostam_next_edge(listing, len, &at, &e))
+        printf("%llu\t%llu\t%.*s\t%.*s\t%c\n", (unsigned long long)e.start, (unsigned long long)e.end, (int)e.type.len, e.type.at, (int)e.txt.len, e.txt.at,
+               !(e.map & RILVOSTAM_IS_NUMERIC) ? '-' : e.map & RILVOSTAM_IS_ACTIVE ? '1' : '0');
 }
 
 int main(int argc, char **argv) {
-    static uint8_t table[4 << 20], work[RILVOSTAM_WORK], out[RILVOSTAM_OUT];
     const uint8_t no_edges[2] = {0, 0};
-    uint64_t at;
-    FILE *f = argc == 3 ? fopen(argv[1], "rb") : NULL;
-    if (!f) { fprintf(stderr, "usage: example TABLE LINE\n"); return 2; }
-    size_t n = fread(table, 1, sizeof table, f);
-    uint32_t r = rilvostam_add_numbers((const uint8_t *)argv[2], strlen(argv[2]), table, n, no_edges, 2, work, sizeof work, out, sizeof out, &at);
-    if (r) { printf("refused %u %llu\n", r, (unsigned long long)at); return 1; }
-    size_t edge = 2;
-    for (unsigned i = u16(out); i > 0; i--) {
-        const uint8_t *type = out + edge + 6, *txt = type + 2 + u16(type);
-        unsigned map = u16(out + edge);
-        printf("%u\t%u\t%.*s\t%.*s\t%c\n", u16(out + edge + 2), u16(out + edge + 4), (int)u16(type), (const char *)type + 2, (int)u16(txt), (const char *)txt + 2,
-               map & 1 ? (map & 128 ? '1' : '0') : '-');
-        edge = next_edge(out, edge);
+    uint64_t at, table_len;
+    uint32_t answer;
+    if (argc < 2 || argc > 3) {
+        fprintf(stderr, "usage: example LINE [TABLE]\n");
+        return 2;
     }
-    return 0;
+    const char *line = argv[1];
+    if (argc == 3) {
+        FILE *f = fopen(argv[2], "rb");
+        if (!f || (table_len = fread(table, 1, sizeof table, f), ferror(f)) || table_len == sizeof table) {
+            fprintf(stderr, "%s can't be read, or has over %zu bytes\n", argv[2], sizeof table - 1);
+            return 2;
+        }
+    } else if ((answer = rilvostam_plain_table(table, sizeof table, &table_len)) != RILVOSTAM_OK) {
+        return refused(answer, table_len);
+    }
+    answer = rilvostam_add_numbers((const uint8_t *)line, strlen(line), table, table_len, no_edges, sizeof no_edges, work, sizeof work, listing, sizeof listing, &at);
+    if (answer != RILVOSTAM_OK) return refused(answer, at);
+    print_edges(at);
+    return fflush(stdout) == 0 ? 0 : 2;
 }

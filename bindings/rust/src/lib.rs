@@ -16,7 +16,7 @@ mod edges;
 mod refusal;
 mod tables;
 
-pub use edges::{Edge, Edges, NumData, edges};
+pub use edges::{Edge, Edges, NumData, edge_at, edges};
 pub use refusal::{Cause, Refusal};
 pub use tables::{TABLE, formal_table, formal_table_into, plain_table, plain_table_into};
 

@@ -192,3 +192,33 @@ fn fields() {
         assert_eq!(read_field(write_number(number, &mut out).unwrap().as_bytes()).unwrap(), Some(number));
     }
 }
+
+/// An edge with every field over the first two places, and one with none behind it.
+const TWO: &[u8] = b"\x02\0\xff\x01\0\0\x02\0\x01\0t\x02\0xy\x01\0o\0\0\0\0\0\0\x14\x40\x01\0\0\0\0\0\0\0\x02\0\0\0\0\0\0\0\x09\0\0\0\0\0\0\0\0\0\0\0\0\0\xe0\x3f\x01\0c\x01\0v\0\0\0\0\x01\0\0\0\0\0";
+
+#[test]
+fn every_field() {
+    let (edge, next) = edge_at(TWO, 2).unwrap();
+    let num = NumData {
+        orig_txt: "o",
+        value: Some(5.0),
+        fraction: Some((1, 2)),
+        base: Some(9),
+        base_multiplier: Some(0.5),
+        script: Some("c"),
+        large_power: true,
+        active: true,
+        value_s: Some("v"),
+    };
+    assert_eq!(edge, Edge { offset: 2, start: 0, end: 2, kind: "t", txt: "xy", num: Some(num) });
+    assert_eq!(edge_at(TWO, next).unwrap(), (Edge { offset: next, start: 0, end: 1, kind: "", txt: "", num: None }, TWO.len()));
+    let refused = |listing: &[u8], at: usize| edge_at(listing, at).map_err(|r| (r.cause, r.at)).unwrap_err();
+    // Every way to cut the edges off, offsets past the end, and a text that is not UTF-8.
+    for len in 0..TWO.len() {
+        assert_eq!(refused(&TWO[..len], if len < next { 2 } else { next }), (Cause::BadListing, if len < next { 2 } else { next as u64 }));
+        assert_eq!(edges(&TWO[..len]).count(), usize::from(next <= len));
+    }
+    assert_eq!(refused(TWO, TWO.len()), (Cause::BadListing, TWO.len() as u64));
+    assert_eq!(refused(TWO, usize::MAX), (Cause::BadListing, u64::MAX));
+    assert_eq!(refused(b"\x01\0\0\0\0\0\x01\0\x01\0\xff\0\0", 2), (Cause::BadListing, 2));
+}
