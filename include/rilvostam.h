@@ -238,6 +238,10 @@ uint32_t rilvostam_pool_shares(const uint8_t *line, size_t line_len, const uint8
 uint32_t rilvostam_plain_table(uint8_t *out, size_t out_len, uint64_t *at);
 uint32_t rilvostam_formal_table(uint8_t *out, size_t out_len, uint64_t *at);
 
+/* The check of a table, as rilvostam_add_numbers makes it: refusal 4 or 5 with the offset.
+ * 0: *at is the count of its records. */
+uint32_t rilvostam_check_table(const uint8_t *table, size_t table_len, uint64_t *at);
+
 #ifdef __cplusplus
 }
 #endif

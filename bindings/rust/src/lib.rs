@@ -18,7 +18,7 @@ mod tables;
 
 pub use edges::{Edge, Edges, NumData, edge_at, edges};
 pub use refusal::{Cause, Refusal};
-pub use tables::{TABLE, formal_table, formal_table_into, plain_table, plain_table_into};
+pub use tables::{TABLE, check_table, formal_table, formal_table_into, plain_table, plain_table_into};
 
 /// Bytes of work space that a call needs.
 pub const WORK: usize = 65_536;

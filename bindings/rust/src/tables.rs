@@ -1,4 +1,4 @@
-//! The tables that the library has.
+//! The tables that the library has, and the check of a table.
 
 use crate::{Refusal, answer};
 
@@ -9,6 +9,7 @@ mod c {
     unsafe extern "C" {
         pub fn rilvostam_plain_table(out: *mut u8, out_len: usize, at: *mut u64) -> u32;
         pub fn rilvostam_formal_table(out: *mut u8, out_len: usize, at: *mut u64) -> u32;
+        pub fn rilvostam_check_table(table: *const u8, table_len: usize, at: *mut u64) -> u32;
     }
 }
 
@@ -38,4 +39,18 @@ pub fn formal_table() -> [u8; TABLE] {
     let mut out = [0; TABLE];
     formal_table_into(&mut out).expect("the table has this length");
     out
+}
+
+/// The count of a table's records, or refusal 4 or 5 as [`add_numbers`](crate::add_numbers) would give it.
+///
+/// ```
+/// use rilvostam::{check_table, plain_table};
+/// assert_eq!(check_table(&plain_table()), Ok(16));
+/// let refusal = check_table(b"\0\0").unwrap_err();
+/// assert_eq!((refusal.number(), refusal.at), (4, 2));
+/// ```
+pub fn check_table(table: &[u8]) -> Result<usize, Refusal> {
+    let mut at = 0;
+    // SAFETY: as above.
+    answer(unsafe { c::rilvostam_check_table(table.as_ptr(), table.len(), &mut at) }, at)
 }

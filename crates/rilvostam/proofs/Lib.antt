@@ -1,3 +1,4 @@
 -- Laws of the exported functions.
 mod Tells
+mod CheckedLaws
 mod TablesLaws

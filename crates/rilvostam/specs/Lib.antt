@@ -2,4 +2,5 @@
 pub mod Exported
 pub mod EdgeNumbers
 pub mod Numerals
+pub mod TableTold
 pub mod Tables

@@ -4,6 +4,7 @@ pub mod numerals; // numerals.rt: the calls on single numerals
 pub mod pooling; // pooling.rt: what a listing's shares come to
 pub mod nearest; // nearest.rt: the number nearest to a place (02, S-14)
 pub mod edges; // edges.rt: the edge at an offset of a listing
+pub mod checks; // checks.rt: the check of a table
 pub mod tables; // tables.rt: the plain and the formal table
 
 ghost use mathlib.Core.Path.{_≡_};

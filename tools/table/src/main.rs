@@ -1,7 +1,7 @@
 //! Tables of characters as text. README.md has the form.
 //!
 //! table encode < TEXT > BYTES      the table's bytes, or a refusal in words with the line of the text where it stands
-//! table decode < BYTES > TEXT      the text of a table's bytes
+//! table decode < BYTES > TEXT      the text of a table's bytes, or the library's refusal of them
 //! table explain OFFSET < TEXT      the line of the text that stands at an offset of its bytes, as the library's refusals 4 and 5 name it
 
 mod read;
@@ -21,7 +21,7 @@ fn main() -> ExitCode {
     }
     let answer = match words[..] {
         ["encode"] => encode(&input),
-        ["decode"] => read::table(&input).map(|t| text::write(&t).into_bytes()),
+        ["decode"] => decode(&input),
         ["explain", offset] => explain(&input, offset),
         _ => {
             eprintln!("usage: table encode | decode | explain OFFSET");
@@ -43,22 +43,27 @@ fn parse(input: &[u8]) -> Result<table::Table, String> {
 
 fn encode(input: &[u8]) -> Result<Vec<u8>, String> {
     let table = parse(input)?;
-    match table.refusal() {
-        None => Ok(table.bytes().0),
-        Some((number, line, why)) => Err(format!("line {line}: {why} (refusal {number})")),
-    }
+    let table = table.bytes()?;
+    table.refusal().map_or(Ok(table.bytes), Err)
+}
+
+fn decode(input: &[u8]) -> Result<Vec<u8>, String> {
+    rilvostam::check_table(input).map_err(|refusal| refusal.to_string())?;
+    Ok(text::write(&read::table(input)).into_bytes())
 }
 
 fn explain(input: &[u8], offset: &str) -> Result<Vec<u8>, String> {
     let offset: usize = offset.parse().map_err(|_| format!("{offset} is no offset"))?;
-    let (bytes, items) = parse(input)?.bytes();
-    let item = items.iter().rev().find(|(at, _)| *at <= offset).map(|(_, line)| *line);
-    match item {
-        _ if offset > bytes.len() => Err(format!("the table has only {} bytes", bytes.len())),
-        Some(line) if line > 0 => {
+    let table = parse(input)?;
+    let table = table.bytes()?;
+    if offset > table.bytes.len() {
+        return Err(format!("the table has only {} bytes", table.bytes.len()));
+    }
+    match table.item_at(offset).line() {
+        Some(line) => {
             let text = String::from_utf8_lossy(input);
             Ok(format!("line {line}: {}\n", text.lines().nth(line - 1).unwrap_or("")).into_bytes())
         }
-        _ => Ok("a count, which no line of the text says\n".into()),
+        None => Ok("a count, which no line of the text says\n".into()),
     }
 }

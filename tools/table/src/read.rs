@@ -1,4 +1,4 @@
-//! A table's bytes as a value. What is no table by its layout is refused with the offset; the content is not looked at.
+//! A table's bytes as a value. The library has accepted them.
 
 use crate::table::{Mark, Record, Table};
 
@@ -30,6 +30,21 @@ impl Reader<'_> {
         if bit & 1 == 1 { read(self).map(Some) } else { Some(None) }
     }
 
+    fn table(&mut self) -> Option<Table> {
+        let count = u16::from_le_bytes(self.take()?);
+        let mut table = Table::default();
+        for list in &mut table.lists {
+            let [length] = self.take()?;
+            for _ in 0..length {
+                list.push(Mark { text: self.string()?, line: 0 });
+            }
+        }
+        for _ in 0..count {
+            table.records.push(self.record()?);
+        }
+        Some(table)
+    }
+
     fn record(&mut self) -> Option<Record> {
         let code_point = u32::from_le_bytes(self.take()?);
         let [map] = self.take()?;
@@ -48,22 +63,8 @@ impl Reader<'_> {
     }
 }
 
-pub fn table(bytes: &[u8]) -> Result<Table, String> {
-    let mut r = Reader { bytes, at: 0 };
-    let fault = |at| format!("no table: the item at offset {at} is cut off or no UTF-8");
-    let count = r.take().map(u16::from_le_bytes).ok_or_else(|| fault(0))?;
-    let mut table = Table::default();
-    for list in &mut table.lists {
-        let at = r.at;
-        let [length] = r.take().ok_or_else(|| fault(at))?;
-        for _ in 0..length {
-            let at = r.at;
-            list.push(Mark { text: r.string().ok_or_else(|| fault(at))?, line: 0 });
-        }
-    }
-    for _ in 0..count {
-        let at = r.at;
-        table.records.push(r.record().ok_or_else(|| fault(at))?);
-    }
-    if r.at == bytes.len() { Ok(table) } else { Err(format!("bytes left over from offset {} on", r.at)) }
+/// The table that the bytes are, which the library has accepted.
+pub fn table(bytes: &[u8]) -> Table {
+    let mut reader = Reader { bytes, at: 0 };
+    reader.table().expect("the library accepted the table")
 }

@@ -29,12 +29,14 @@ fn word(characters: &mut std::iter::Peekable<std::str::Chars>) -> Result<String,
     if quoted { Err("a quote that is not closed".into()) } else { Ok(word) }
 }
 
+/// The table that the lines say, its records in the order of their code points.
 pub fn read(text: &str) -> Result<Table, String> {
     let mut table = Table::default();
     for (index, line) in text.lines().enumerate() {
         let number = index + 1;
         words(line).and_then(|words| item(&mut table, &words, number)).map_err(|why| format!("line {number}: {why}"))?;
     }
+    table.records.sort_by_key(|record| record.code_point); // of the same character the first line stays first
     Ok(table)
 }
 
@@ -52,7 +54,9 @@ fn item(table: &mut Table, words: &[String], line: usize) -> Result<(), String> 
     let mut record = Record { code_point: code_point(character)?, line, ..Record::default() };
     let mut typed = false;
     for word in fields {
-        typed |= word.starts_with("type=");
+        if word.starts_with("type=") && std::mem::replace(&mut typed, true) {
+            return Err("type stands twice".into());
+        }
         field(&mut record, word)?;
     }
     if !typed {
@@ -79,7 +83,10 @@ fn number(text: &str) -> Result<u64, String> {
 fn field(record: &mut Record, word: &str) -> Result<(), String> {
     let (name, text) = word.split_once('=').unwrap_or((word, ""));
     let twice = match name {
-        "type" => !std::mem::replace(&mut record.kind, text.into()).is_empty(),
+        "type" => {
+            record.kind = text.into();
+            false
+        }
         "rom" => record.rom.replace(text.into()).is_some(),
         "value" => record.value.replace(number(text)?).is_some(),
         "fraction" => {
@@ -105,7 +112,7 @@ fn quoted(text: &str) -> String {
 }
 
 /// The character itself where a reader sees it and the form can hold it.
-fn character(code_point: u32) -> String {
+pub fn character(code_point: u32) -> String {
     match char::from_u32(code_point) {
         Some(c) if !c.is_control() && !c.is_whitespace() && !matches!(c, '#' | '"' | '\\') => c.into(),
         _ => format!("U+{code_point:04X}"),
@@ -142,19 +149,25 @@ mod tests {
     const PLAIN: &str = include_str!("../../../data/plain.table");
     const FORMAL: &str = include_str!("../../../data/formal.table");
 
-    /// The bytes without the lines, which are no part of a table.
     fn bytes(text: &str) -> Vec<u8> {
-        self::read(text).unwrap().bytes().0
+        self::read(text).unwrap().bytes().unwrap().bytes
     }
 
     #[test]
     fn tables_there_and_back() {
         for text in [PLAIN, FORMAL] {
             let first = bytes(text);
-            let back = write(&read::table(&first).unwrap());
+            let back = write(&read::table(&first));
             assert_eq!(bytes(&back), first);
-            assert_eq!(self::read(text).unwrap().refusal(), None);
+            assert_eq!(self::read(text).unwrap().bytes().unwrap().refusal(), None);
         }
+    }
+
+    #[test]
+    fn order_of_lines_is_free() {
+        let mut lines: Vec<&str> = PLAIN.lines().collect();
+        lines.reverse();
+        assert_eq!(bytes(&lines.join("\n")), bytes(PLAIN));
     }
 
     /// The byte string of `plain_table` or `formal_table`, whose contract says that it is the table of the proof.
@@ -191,16 +204,29 @@ mod tests {
 
     #[test]
     fn refusals_name_the_line() {
-        let refusal = |text: &str| self::read(text).unwrap().refusal().map(|(number, line, _)| (number, line));
-        assert_eq!(refusal("# one\nplus \"\"\n"), Some((5, 2)));
-        assert_eq!(refusal("record b type=x\nrecord a type=x\n"), Some((5, 2)));
-        assert_eq!(refusal("record 5 type=digit value=5 rom=6\n"), Some((5, 1)));
+        let refusal = |text: &str| self::read(text).unwrap().bytes().unwrap().refusal();
+        let refused = |text: &str, words: &str| assert_eq!(refusal(text).as_deref(), Some(words));
+        refused("# one\nplus \"\"\n", "line 2: an empty marker, connector or sign (refusal 5)");
+        refused(&format!("minus {}\n", "x".repeat(61)), "line 1: a string of 61 bytes; 60 are allowed (refusal 4)");
+        refused("record 5 type=digit value=5 rom=6\n", "line 1: a digit 0 to 9 whose rom is not that ASCII digit (refusal 5)");
+        refused("record 5 type=x base=0\n", "line 1: a base or denominator of 0 (refusal 5)");
+        refused("record 5 type=x value=9007199254740992\n", "line 1: a value above 9007199254740991 (refusal 5)");
+        refused("record U+D800 type=x\n", "line 1: U+D800 is no scalar value (refusal 5)");
+        refused(&format!("record a type={}\n", "x".repeat(61)), "line 1: a type of 61 bytes; 60 are allowed (refusal 4)");
+        refused("record b type=x\nrecord a type=x\n\nrecord b type=y\n", "line 4: b has a record in line 1 already (refusal 5)");
+        assert_eq!(refusal("record b type=x\nrecord a type=x\n"), None);
         assert_eq!(refusal("record 5 type=digit value=10 rom=6\n"), None);
-        assert_eq!(refusal("record 5 type=x base=0\n"), Some((5, 1)));
-        assert_eq!(refusal("record 5 type=x value=9007199254740992\n"), Some((5, 1)));
-        assert_eq!(refusal("record U+D800 type=x\n"), Some((5, 1)));
-        assert_eq!(refusal(&format!("record a type={}\n", "x".repeat(61))), Some((4, 1)));
-        assert_eq!(self::read("record a\n").unwrap_err(), "line 1: a record has a type, if only type=\"\"");
-        assert_eq!(self::read("\nnumber 5\n").unwrap_err(), "line 2: number is none of percentage, connector, plus, minus, record");
+    }
+
+    #[test]
+    fn what_is_no_table_text() {
+        let error = |text: &str| self::read(text).unwrap_err();
+        assert_eq!(error("record a\n"), "line 1: a record has a type, if only type=\"\"");
+        assert_eq!(error("record a type=\"\" type=x\n"), "line 1: type stands twice");
+        assert_eq!(error("record a type=x rom=y rom=z\n"), "line 1: rom stands twice");
+        assert_eq!(error("\nnumber 5\n"), "line 2: number is none of percentage, connector, plus, minus, record");
+        let room = |text: &str| self::read(text).unwrap().bytes().err().unwrap();
+        assert_eq!(room(&format!("plus {}\n", "x".repeat(256))), "line 1: a string of 256 bytes; 60 are allowed");
+        assert_eq!(room(&"plus +\n".repeat(256)), "line 256: over 255 strings in a list: their count has 8 bits");
     }
 }
