@@ -1,5 +1,7 @@
 /* Rilvostam: written numbers on the lines of registers. The C interface of librilvostam.a.
  *
+ * docs/FORMATS.md has the bytes of a table and of a listing field by field, each refusal with an example, and the limits. A listing is read without them: rilvostam_next_edge, below.
+ *
  * A slice is a pointer and a length in bytes. No pointer is NULL, not even with length 0. `work`, `out`, `at`, `len`, `in_listing`, `is_number`, `numbers` and `next` overlap no
  * other argument. Bytes need no alignment; `at`, `len`, `numbers` and `next` have that of a uint64_t. The library keeps no state and allocates nothing, so calls may run in
  * parallel, each with buffers of its own.

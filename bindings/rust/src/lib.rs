@@ -1,7 +1,7 @@
 //! Written numbers in the lines of registers: 一万五 is 15000.
 //!
 //! Safe functions over `librilvostam.a`, which is proved against its definitions. A line is UTF-8, a table and a listing of edges are bytes in the library's forms
-//! (README of the project); a maker writes tables as text with `tools/table`.
+//! (docs/FORMATS.md of the project); a maker writes tables as text with `tools/table`.
 //!
 //! ```no_run
 //! # let table: Vec<u8> = vec![];
