@@ -218,6 +218,27 @@ static inline int rilvostam_next_edge(const uint8_t *listing, size_t listing_len
     return 1;
 }
 
+/* Which number is this line? The active numeric edges of its listing that share no character, longest first, and of equally long ones the one that starts first; at most
+ * room of them go to numbers. Answers how many. Where the whole line is one number it is the only one: its start is 0 and its end the count of the line's characters.
+ * A number has a value or a fraction (map); txt is what it reads as. */
+static inline size_t rilvostam_which_numbers(const uint8_t *listing, size_t listing_len, rilvostam_edge *numbers, size_t room) {
+    size_t count = 0;
+    while (count < room) {
+        rilvostam_edge e, *best = numbers + count;
+        uint64_t at = 0, longest = 0;
+        while (rilvostam_next_edge(listing, listing_len, &at, &e)) {
+            int fits = (e.map & RILVOSTAM_IS_ACTIVE) != 0 && (e.map & (RILVOSTAM_HAS_VALUE | RILVOSTAM_HAS_FRACTION)) != 0;
+            for (size_t i = 0; i < count && fits; i++) fits = e.end <= numbers[i].start || numbers[i].end <= e.start;
+            if (!fits || e.end <= e.start || e.end - e.start < longest || (e.end - e.start == longest && best->start <= e.start)) continue;
+            longest = e.end - e.start;
+            *best = e;
+        }
+        if (longest == 0) break;
+        count++;
+    }
+    return count;
+}
+
 /* The numeral of a number, at the front of out, in UTF-8 with the characters of the plain table: 10010000 is 一千零一万, and 0 is 零. A number above TOP is refused 10
  * whatever the output's length.
  * 0: *at is the length of the numeral. */

@@ -1,24 +1,25 @@
 //! Written numbers in the lines of registers: 一万五 is 15000.
 //!
 //! Safe functions over `librilvostam.a`, which is proved against its definitions. A line is UTF-8, a table and a listing of edges are bytes in the library's forms
-//! (docs/FORMATS.md of the project); a maker writes tables as text with `tools/table`.
+//! (docs/FORMATS.md of the project); a maker writes tables as text with `tools/table`, and reads a listing with [`edges`].
 //!
-//! ```no_run
-//! # let table: Vec<u8> = vec![];
-//! let listing = rilvostam::add_numbers("一万五", &table, rilvostam::NO_EDGES)?;
-//! for edge in rilvostam::edges(&listing) {
-//!     println!("{} to {}: {}", edge.start, edge.end, edge.txt);
-//! }
+//! ```
+//! let listing = rilvostam::add_numbers("一万五", &rilvostam::plain_table(), rilvostam::NO_EDGES)?;
+//! let whole = rilvostam::edges(&listing).find(|edge| edge.start == 0 && edge.end == 3).unwrap();
+//! assert_eq!((whole.txt, whole.num.unwrap().value), ("15000", Some(15000.0)));
 //! # Ok::<(), rilvostam::Refusal>(())
 //! ```
+#![deny(missing_docs)]
 
 mod edges;
 mod refusal;
 mod tables;
+mod which;
 
 pub use edges::{Edge, Edges, NumData, edge_at, edges};
 pub use refusal::{Cause, Refusal};
 pub use tables::{TABLE, check_table, formal_table, formal_table_into, plain_table, plain_table_into};
+pub use which::{Number, Which, which_number};
 
 /// Bytes of work space that a call needs.
 pub const WORK: usize = 65_536;
@@ -85,6 +86,13 @@ fn found(status: u32, at: u64) -> Result<Option<usize>, Refusal> {
 }
 
 /// The listing of a line's edges, given ones first. Allocates work space and output; [`add_numbers_into`] does not.
+///
+/// ```
+/// # use rilvostam::*;
+/// let listing = add_numbers("一万五", &plain_table(), NO_EDGES)?;
+/// assert_eq!(edges(&listing).map(|e| e.txt).collect::<Vec<_>>(), ["1", "10000", "5", "10000", "15000", "·10000", "·5"]);
+/// # Ok::<(), Refusal>(())
+/// ```
 pub fn add_numbers(line: &str, table: &[u8], edges: &[u8]) -> Result<Vec<u8>, Refusal> {
     let (mut work, mut out) = (vec![0; WORK], vec![0; OUT]);
     let length = add_numbers_into(line.as_bytes(), table, edges, &mut work, &mut out)?;
@@ -115,6 +123,15 @@ pub fn add_numbers_into(line: &[u8], table: &[u8], edges: &[u8], work: &mut [u8]
 }
 
 /// The offset in the listing of the best edge from place `start` to place `end`, the first of its class in listing order. `skip`: no numeric edge.
+///
+/// ```
+/// # use rilvostam::*;
+/// let line = "x一万五";
+/// let listing = add_numbers(line, &plain_table(), NO_EDGES)?;
+/// let at = best_edge(line.as_bytes(), &listing, 1, 3, false)?.unwrap();
+/// assert_eq!(edge_at(&listing, at)?.0.txt, "10000");
+/// # Ok::<(), Refusal>(())
+/// ```
 pub fn best_edge(line: &[u8], listing: &[u8], start: u64, end: u64, skip: bool) -> Result<Option<usize>, Refusal> {
     let mut at = 0;
     // SAFETY: as above.
@@ -125,6 +142,16 @@ pub fn best_edge(line: &[u8], listing: &[u8], start: u64, end: u64, skip: bool) 
 }
 
 /// The offset of the best edge of the longest span that starts at a place.
+///
+/// ```
+/// # use rilvostam::*;
+/// let line = "x一万五";
+/// let listing = add_numbers(line, &plain_table(), NO_EDGES)?;
+/// let at = right_neighbor(line.as_bytes(), &listing, 1, false)?.unwrap();
+/// assert_eq!(edge_at(&listing, at)?.0.txt, "15000");
+/// assert_eq!(right_neighbor(line.as_bytes(), &listing, 0, false)?, None);
+/// # Ok::<(), Refusal>(())
+/// ```
 pub fn right_neighbor(line: &[u8], listing: &[u8], place: u64, skip: bool) -> Result<Option<usize>, Refusal> {
     let mut at = 0;
     // SAFETY: as above.
@@ -134,6 +161,15 @@ pub fn right_neighbor(line: &[u8], listing: &[u8], place: u64, skip: bool) -> Re
 }
 
 /// The offset of the best edge of the longest span that ends at a place.
+///
+/// ```
+/// # use rilvostam::*;
+/// let line = "x一万五";
+/// let listing = add_numbers(line, &plain_table(), NO_EDGES)?;
+/// let at = left_neighbor(line.as_bytes(), &listing, 3, false)?.unwrap();
+/// assert_eq!(edge_at(&listing, at)?.0.txt, "10000");
+/// # Ok::<(), Refusal>(())
+/// ```
 pub fn left_neighbor(line: &[u8], listing: &[u8], place: u64, skip: bool) -> Result<Option<usize>, Refusal> {
     let mut at = 0;
     // SAFETY: as above.
@@ -152,6 +188,15 @@ pub fn nearest_number(line: &[u8], listing: &[u8], place: u64) -> Result<Option<
 }
 
 /// The path from `start` to `end` as a listing. It is never longer than the listing that is read.
+///
+/// ```
+/// # use rilvostam::*;
+/// let line = "x一万五";
+/// let listing = add_numbers(line, &plain_table(), NO_EDGES)?;
+/// let path = path(line.as_bytes(), &listing, 0, 4, false)?;
+/// assert_eq!(edges(&path).map(|e| e.txt).collect::<Vec<_>>(), ["15000"]);
+/// # Ok::<(), Refusal>(())
+/// ```
 pub fn path(line: &[u8], listing: &[u8], start: u64, end: u64, skip: bool) -> Result<Vec<u8>, Refusal> {
     let (mut out, mut at) = (vec![0; listing.len()], 0);
     // SAFETY: as above; `out` is new.
@@ -174,6 +219,15 @@ pub fn path(line: &[u8], listing: &[u8], start: u64, end: u64, skip: bool) -> Re
 }
 
 /// The text shown at a place: a part of the listing, or the character's own bytes, a part of the line.
+///
+/// ```
+/// # use rilvostam::*;
+/// let line = "x一万五";
+/// let listing = add_numbers(line, &plain_table(), NO_EDGES)?;
+/// assert_eq!(shown_text(line.as_bytes(), &listing, 0)?, b"x");
+/// assert_eq!(shown_text(line.as_bytes(), &listing, 1)?, b"15000");
+/// # Ok::<(), Refusal>(())
+/// ```
 pub fn shown_text<'a>(line: &'a [u8], listing: &'a [u8], place: u64) -> Result<&'a [u8], Refusal> {
     let (mut at, mut len, mut in_listing) = (0, 0, 0);
     // SAFETY: as above.
@@ -195,6 +249,12 @@ pub fn shown_text<'a>(line: &'a [u8], listing: &'a [u8], place: u64) -> Result<&
 }
 
 /// The numeral of a number up to 9,007,199,254,740,991, at the front of `out`: 10005 is 一万零五. On a refusal `out` is as it was.
+///
+/// ```
+/// let mut out = [0; rilvostam::NUMERAL];
+/// assert_eq!(rilvostam::write_number(10005, &mut out), Ok("一万零五"));
+/// assert_eq!(rilvostam::write_number(1 << 53, &mut out).unwrap_err().number(), 10);
+/// ```
 pub fn write_number(number: u64, out: &mut [u8]) -> Result<&str, Refusal> {
     let mut at = 0;
     // SAFETY: as above.
@@ -204,6 +264,14 @@ pub fn write_number(number: u64, out: &mut [u8]) -> Result<&str, Refusal> {
 }
 
 /// The shares of a listing together: the sum of its active edges' fractions in lowest terms, numerator and denominator, 0 and 1 where there is none.
+///
+/// ```
+/// # use rilvostam::*;
+/// let line = "三分之一x六分之一";
+/// let listing = add_numbers(line, &plain_table(), NO_EDGES)?;
+/// assert_eq!(pool_shares(line.as_bytes(), &listing), Ok((1, 2)));
+/// # Ok::<(), Refusal>(())
+/// ```
 pub fn pool_shares(line: &[u8], listing: &[u8]) -> Result<(u64, u64), Refusal> {
     let (mut numerator, mut denominator, mut at) = (0, 0, 0);
     // SAFETY: as above.
@@ -222,6 +290,11 @@ pub fn pool_shares(line: &[u8], listing: &[u8]) -> Result<(u64, u64), Refusal> {
 }
 
 /// The value of a line that is one numeral of the plain table, up to 9,007,199,254,740,991; `None` for any other line.
+///
+/// ```
+/// assert_eq!(rilvostam::read_field("一万五".as_bytes()), Ok(Some(15000)));
+/// assert_eq!(rilvostam::read_field("一百一百".as_bytes()), Ok(None));
+/// ```
 pub fn read_field(line: &[u8]) -> Result<Option<u64>, Refusal> {
     let (mut is_number, mut at) = (0, 0);
     // SAFETY: as above.

@@ -222,3 +222,24 @@ fn every_field() {
     assert_eq!(refused(TWO, usize::MAX), (Cause::BadListing, u64::MAX));
     assert_eq!(refused(b"\x01\0\0\0\0\0\x01\0\x01\0\xff\0\0", 2), (Cause::BadListing, 2));
 }
+
+#[test]
+fn which_numbers() {
+    let which = |line: &str| match which_number(line, &plain_table()).unwrap() {
+        Which::Whole(n) => format!("whole {}", n.txt),
+        Which::Parts(numbers) => numbers.iter().map(|n| format!("{} {} {},", n.start, n.end, n.txt)).collect(),
+    };
+    for (line, answer) in [
+        ("一万五", "whole 15000"),
+        ("三分之一", "whole 1/3"),
+        ("零", "whole 0"),
+        ("墓三号x二十", "4 6 20,1 2 3,"),
+        ("一百一百", "0 2 100,2 4 \u{b7}100,"),
+        ("百分之五", ""),
+        ("x", ""),
+        ("", ""),
+    ] {
+        assert_eq!(which(line), answer, "{line}");
+    }
+    assert_eq!(which_number("九九九九九九九九九九九九九九九九九", &plain_table()).unwrap_err().number(), 7);
+}
