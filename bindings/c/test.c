@@ -1,0 +1,129 @@
+/* Tests of the C interface and of the header's inline functions; tools/test_bindings runs it. Silent and 0 where all hold; else a line for each that does not, and 1. */
+#include <stdio.h>
+#include <string.h>
+#include "../../include/rilvostam.h"
+
+static int faults = 0;
+#define CHECK(what) ((what) ? (void)0 : (void)(faults++, fprintf(stderr, "%s:%d: not so: %s\n", __FILE__, __LINE__, #what)))
+
+static uint8_t table[RILVOSTAM_TABLE], work[RILVOSTAM_WORK], listing[RILVOSTAM_OUT];
+static const uint8_t no_edges[2] = {0, 0};
+
+static int is(rilvostam_text t, const char *text) { return t.len == strlen(text) && memcmp(t.at, text, t.len) == 0; }
+
+static const uint8_t *bytes(const char *text) { return (const uint8_t *)text; }
+
+/* The length of a line's listing, with the plain table. */
+static size_t list(const char *line) {
+    uint64_t at;
+    CHECK(rilvostam_plain_table(table, sizeof table, &at) == RILVOSTAM_OK && at == sizeof table);
+    CHECK(rilvostam_add_numbers(bytes(line), strlen(line), table, sizeof table, no_edges, 2, work, sizeof work, listing, sizeof listing, &at) == RILVOSTAM_OK);
+    return (size_t)at;
+}
+
+static void words(void) {
+    CHECK(strcmp(rilvostam_in_words(0).name, "OK") == 0);
+    CHECK(strcmp(rilvostam_in_words(RILVOSTAM_NOT_UTF8).name, "NOT_UTF8") == 0);
+    CHECK(strcmp(rilvostam_in_words(RILVOSTAM_SUM_ABOVE_TOP).place, "index of the edge in the listing") == 0);
+    CHECK(strcmp(rilvostam_in_words(13).name, "NONE_SERVES") == 0);
+    CHECK(strcmp(rilvostam_in_words(14).name, "UNKNOWN") == 0);
+    CHECK(strcmp(rilvostam_in_words(UINT32_MAX).name, "UNKNOWN") == 0);
+    for (uint32_t i = 0; i < 16; i++) CHECK(*rilvostam_in_words(i).name && *rilvostam_in_words(i).sentence);
+}
+
+/* An edge with every field over the first two places, and behind it a regular one. */
+static const uint8_t two[] = "\x02\0\xff\x01\0\0\x02\0\x01\0t\x02\0xy\x01\0o\0\0\0\0\0\0\x14\x40\x01\0\0\0\0\0\0\0\x02\0\0\0\0\0\0\0\x09\0\0\0\0\0\0\0\0\0\0\0\0\0\xe0\x3f\x01\0c\x01\0v"
+                             "\0\0\0\0\x01\0\0\0\0\0";
+#define TWO (sizeof two - 1)
+#define SECOND (TWO - 10)
+
+static void edges(void) {
+    rilvostam_edge e;
+    uint64_t at = 0, n[RILVOSTAM_EDGE_NUMBERS], next;
+    CHECK(rilvostam_next_edge(two, TWO, &at, &e) && at == SECOND && e.offset == 2 && e.start == 0 && e.end == 2 && e.map == 511);
+    CHECK(is(e.type, "t") && is(e.txt, "xy") && is(e.orig_txt, "o") && is(e.script, "c") && is(e.value_s, "v"));
+    CHECK(e.value == 5 && e.mult == 0.5 && e.numerator == 1 && e.denominator == 2 && e.base == 9 && e.decimals == 0);
+    CHECK(rilvostam_next_edge(two, TWO, &at, &e) && at == TWO && e.offset == SECOND && e.start == 0 && e.end == 1 && e.map == 0);
+    CHECK(is(e.type, "") && is(e.txt, "") && is(e.orig_txt, "") && e.value == 0 && e.base == 0);
+    CHECK(!rilvostam_next_edge(two, TWO, &at, &e) && at == TWO && e.offset == SECOND);
+    CHECK(rilvostam_read_edge(two, TWO, SECOND, &e) && !rilvostam_read_edge(two, TWO, TWO, &e) && !rilvostam_read_edge(two, TWO, RILVOSTAM_NONE, &e));
+    /* cut off anywhere: 6 at the edge, and the numbers as they were */
+    for (size_t len = 0; len < TWO; len++) {
+        uint64_t cut = len < SECOND ? 2 : SECOND;
+        memset(n, 7, sizeof n);
+        next = 7;
+        CHECK(rilvostam_edge_at(two, len, cut, n, &next) == RILVOSTAM_BAD_LISTING && next == cut);
+        for (int i = 0; i < RILVOSTAM_EDGE_NUMBERS; i++) CHECK(n[i] == 0x0707070707070707u);
+    }
+    CHECK(RILVOSTAM_EDGE_NUMBERS == 19);
+    const char *rows[] = {"100", "5", "5%"};
+    size_t len = list("百分之五"), count = 0;
+    for (at = 0; rilvostam_next_edge(listing, len, &at, &e); count++) CHECK(count < 3 && is(e.txt, rows[count]));
+    CHECK(count == 3 && at == len);
+}
+
+static void numbers(void) {
+    rilvostam_edge n[8];
+    size_t len = list("一万五");
+    CHECK(rilvostam_which_numbers(listing, len, n, 8) == 1 && n[0].start == 0 && n[0].end == 3 && n[0].value == 15000);
+    len = list("墓三号x二十");
+    CHECK(rilvostam_which_numbers(listing, len, n, 8) == 2 && n[0].start == 4 && n[0].value == 20 && n[1].start == 1 && n[1].value == 3);
+    CHECK(rilvostam_which_numbers(listing, len, n, 1) == 1 && n[0].value == 20);
+    CHECK(rilvostam_which_numbers(listing, len, n, 0) == 0);
+    len = list("一百一百");
+    CHECK(rilvostam_which_numbers(listing, len, n, 8) == 2 && n[0].start == 0 && n[0].value == 100 && n[1].start == 2 && n[1].value == 100);
+    len = list("三分之一");
+    CHECK(rilvostam_which_numbers(listing, len, n, 8) == 1 && n[0].numerator == 1 && n[0].denominator == 3 && !(n[0].map & RILVOSTAM_HAS_VALUE));
+    len = list("百分之五");
+    CHECK(rilvostam_which_numbers(listing, len, n, 8) == 0);
+}
+
+static void tables(void) {
+    uint64_t at;
+    list("");
+    CHECK(rilvostam_check_table(table, sizeof table, &at) == RILVOSTAM_OK && at == 16);
+    CHECK(rilvostam_check_table(table, sizeof table - 1, &at) == RILVOSTAM_TABLE_LAYOUT && at > 500);
+    CHECK(rilvostam_check_table(bytes("\0\0"), 2, &at) == RILVOSTAM_TABLE_LAYOUT && at == 2);
+    CHECK(rilvostam_check_table(bytes("\0\0\x01\0\0\0\0"), 7, &at) == RILVOSTAM_TABLE_CONTENT && at == 3);
+    CHECK(rilvostam_check_table(bytes("\0\0\0\0\0\0"), 6, &at) == RILVOSTAM_OK && at == 0);
+    CHECK(rilvostam_formal_table(table, sizeof table, &at) == RILVOSTAM_OK && rilvostam_check_table(table, sizeof table, &at) == RILVOSTAM_OK && at == 16);
+    CHECK(rilvostam_plain_table(table, sizeof table - 1, &at) == RILVOSTAM_TOO_LONG && at == 0);
+}
+
+static void reading(void) {
+    const char *line = "x一万五";
+    size_t line_len = strlen(line), len = list(line);
+    uint64_t at, length, numerator, denominator;
+    uint8_t in_listing, path[256];
+    rilvostam_edge e;
+    CHECK(rilvostam_right_neighbor(bytes(line), line_len, listing, len, 1, 0, &at) == RILVOSTAM_OK && rilvostam_read_edge(listing, len, at, &e) && e.value == 15000);
+    CHECK(rilvostam_left_neighbor(bytes(line), line_len, listing, len, 4, 0, &at) == RILVOSTAM_OK && at == e.offset);
+    CHECK(rilvostam_best_edge(bytes(line), line_len, listing, len, 1, 4, 0, &at) == RILVOSTAM_OK && at == e.offset);
+    CHECK(rilvostam_best_edge(bytes(line), line_len, listing, len, 1, 4, 1, &at) == RILVOSTAM_OK && at == RILVOSTAM_NONE);
+    CHECK(rilvostam_nearest_number(bytes(line), line_len, listing, len, 0, &at) == RILVOSTAM_OK && at == e.offset);
+    CHECK(rilvostam_shown_text(bytes(line), line_len, listing, len, 0, &at, &length, &in_listing) == RILVOSTAM_OK && at == 0 && length == 1 && in_listing == 0);
+    CHECK(rilvostam_path(bytes(line), line_len, listing, len, 0, 4, 0, path, sizeof path, &at) == RILVOSTAM_OK && rilvostam_read_edge(path, (size_t)at, 2, &e) && is(e.txt, "15000"));
+    CHECK(rilvostam_right_neighbor(bytes(line), line_len, listing, len, 5, 0, &at) == RILVOSTAM_BAD_PLACE && at == 0);
+    len = list("三分之一x六分之一");
+    line = "三分之一x六分之一";
+    CHECK(rilvostam_pool_shares(bytes(line), strlen(line), listing, len, &numerator, &denominator, &at) == RILVOSTAM_OK && numerator == 1 && denominator == 2);
+}
+
+static void numerals(void) {
+    uint64_t at;
+    uint8_t out[RILVOSTAM_NUMERAL], is_number;
+    CHECK(rilvostam_write_number(10005, out, sizeof out, &at) == RILVOSTAM_OK && at == strlen("一万零五") && memcmp(out, "一万零五", (size_t)at) == 0);
+    CHECK(rilvostam_write_number((UINT64_C(1) << 53), out, 0, &at) == RILVOSTAM_NUMBER_ABOVE_TOP && at == 0);
+    CHECK(rilvostam_read_field(bytes("一万五"), strlen("一万五"), &is_number, &at) == RILVOSTAM_OK && is_number == 1 && at == 15000);
+    CHECK(rilvostam_read_field(bytes("五x"), strlen("五x"), &is_number, &at) == RILVOSTAM_OK && is_number == 0 && at == 0);
+}
+
+int main(void) {
+    words();
+    edges();
+    numbers();
+    tables();
+    reading();
+    numerals();
+    return faults ? 1 : 0;
+}
