@@ -75,6 +75,9 @@ static inline rilvostam_words rilvostam_in_words(uint32_t answer) {
 /* Bytes of output that suffice for every numeral. */
 #define RILVOSTAM_NUMERAL 93
 
+/* Bytes of output that suffice for the weights of every line. */
+#define RILVOSTAM_WEIGHTS 2048
+
 /* No edge. */
 #define RILVOSTAM_NONE UINT64_MAX
 
@@ -247,6 +250,12 @@ uint32_t rilvostam_write_number(uint64_t number, uint8_t *out, size_t out_len, u
 /* Is this field one number? The line is read with the plain table, straight by the grammar of numerals: 一万五 is one, 一百一百 is none, and so is a line with any other character.
  * 0: *is_number is 1 and *at is the value, or both are 0. A numeral above TOP is refused 7. On a refusal *is_number is 0. */
 uint32_t rilvostam_read_field(const uint8_t *line, size_t line_len, uint8_t *is_number, uint64_t *at);
+
+/* How far one wrong digit goes: a weight for each 一 to 九 of a line that is one numeral of the plain table, in line order, eight bytes each, little-endian, at the front of out.
+ * Another of these nine in that digit's stead makes a numeral too, whose value differs by the difference of the digits times the weight: 一万五 has the weights 10000 and 1000.
+ * A numeral above TOP is refused 7 whatever the output's length. RILVOSTAM_WEIGHTS bytes of output always suffice.
+ * 0: *at is the count of the weights, 0 for a line that is no numeral. */
+uint32_t rilvostam_weights(const uint8_t *line, size_t line_len, uint8_t *out, size_t out_len, uint64_t *at);
 
 /* The shares of a listing: the fractions of its active edges, each added to the sum of those before, in lowest terms. Without any the sum is 0/1. It is refused 11
  * at the first edge with which numerator or denominator is above 9,007,199,254,740,991. numerator and denominator overlap no other argument and have the

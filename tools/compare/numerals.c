@@ -1,7 +1,8 @@
 /* Asks the library what standard input asks, one question to a line, for tools/model/numerals.py:
  *     w NUMBER ROOM    rilvostam_write_number with an output of ROOM bytes
  *     f HEX            rilvostam_read_field on these bytes; - is the empty line
- * Each answer is a row. For w: the status, *at, and the output in hexadecimal with eight bytes behind it; outputs are filled with A5 before. For f: the status, *is_number, *at. */
+ *     d HEX ROOM       rilvostam_weights on these bytes with an output of ROOM bytes
+ * Each answer is a row. For w and d: the status, *at, and the output in hexadecimal with eight bytes behind it; outputs are filled with A5 before. For f: the status, *is_number, *at. */
 #include <inttypes.h>
 #include <stdio.h>
 #include <string.h>
@@ -12,18 +13,36 @@
 static uint8_t out[4096], line[4096];
 static char hex[2 * sizeof line + 1];
 
-static void write_number(uint64_t number, size_t room) {
-    uint64_t at = 77;
-    memset(out, 0xa5, sizeof out);
-    uint32_t status = rilvostam_write_number(number, out, room, &at);
+static void show(uint32_t status, uint64_t at, size_t room) {
     printf("%" PRIu32 " %" PRIu64 " ", status, at);
     for (size_t i = 0; i < room + GUARD; i++) printf("%02x", out[i]);
     printf("\n");
 }
 
-static void read_field(void) {
+static void write_number(uint64_t number, size_t room) {
+    uint64_t at = 77;
+    memset(out, 0xa5, sizeof out);
+    uint32_t status = rilvostam_write_number(number, out, room, &at);
+    show(status, at, room);
+}
+
+/* The bytes that hex says go to line; their count. */
+static size_t unhex(void) {
     size_t len = 0;
     for (unsigned byte; hex[0] != '-' && sscanf(hex + 2 * len, "%2x", &byte) == 1; len++) line[len] = (uint8_t)byte;
+    return len;
+}
+
+static void weigh_digits(size_t room) {
+    size_t len = unhex();
+    uint64_t at = 77;
+    memset(out, 0xa5, sizeof out);
+    uint32_t status = rilvostam_weights(line, len, out, room, &at);
+    show(status, at, room);
+}
+
+static void read_field(void) {
+    size_t len = unhex();
     uint64_t at = 77;
     uint8_t is_number = 77;
     uint32_t status = rilvostam_read_field(line, len, &is_number, &at);
@@ -39,6 +58,8 @@ int main(void) {
             write_number(number, room);
         else if (kind == 'f' && scanf("%8192s", hex) == 1)
             read_field();
+        else if (kind == 'd' && scanf("%8192s %zu", hex, &room) == 2 && room + GUARD <= sizeof out)
+            weigh_digits(room);
         else
             return 2;
     }

@@ -1,12 +1,14 @@
 #!/usr/bin/env python3
-"""Numerals by document 02, S-1 and S-4, written once more in Python from its sentences and held against the library's C calls.
+"""Numerals by document 02, S-1, S-4 and S-9, written once more in Python from its sentences and held against the library's C calls.
 
 usage: numerals.py run DRIVER COUNT SEED     tools/compare/numerals builds the driver (tools/compare/numerals.c) and calls this
        numerals.py vectors S-1               what the program writing_vectors must write
        numerals.py vectors S-4 [answers]     the fields that the program field_vectors reads; what it must write
+       numerals.py vectors S-9 [answers]     the lines that the program weights_vectors reads; what it must write
 
 It shares nothing with the definitions in crates/ but the documents. It proves nothing: it looks for a definition that says something else than 02 does.
 """
+import functools
 import random
 import subprocess
 import sys
@@ -121,6 +123,29 @@ def read_field(line):
     return (0, 0, 0) if value is None else (7, 0, 0) if value > TOP else (0, 1, value)
 
 
+# ---- S-9: how far one wrong digit goes
+def weight(text, i):
+    """By trying all nine digits: each keeps the numeral a numeral, and each step from one digit to the next moves the value as far."""
+    values = [numeral(text[:i] + d + text[i + 1 :]) for d in DIGITS[1:]]
+    steps = {b - a for a, b in zip(values, values[1:])}
+    (step,) = steps
+    return step
+
+
+@functools.lru_cache(maxsize=4)
+def weights(text):
+    return [weight(text, i) for i, c in enumerate(text) if c in DIGITS[1:]]
+
+
+def weigh_digits(line, room):
+    """The status, what *at says, and the weights at the front of the output."""
+    status, yes, at = read_field(line)
+    if status or not yes:
+        return status, at, []
+    found = weights(line.decode())
+    return (0, len(found), found) if 8 * len(found) <= room else (8, 0, [])
+
+
 # ---- the program writing_vectors
 def row(number, room=93):
     status, _, numeral = write_number(number, room)
@@ -163,6 +188,32 @@ def encoded(field):
 def told(field):
     status, yes, at = read_field(encoded(field))
     return f"refused {status} {at}" if status else f"yes {at}" if yes else "no"
+
+
+# ---- the program weights_vectors
+def weighed_lines():
+    """All lines of up to two characters, 01's marked lines, 02's lone digit after each block, both sides of TOP and of 256 characters, leading zeros, and faults."""
+    yield from ["", *SIXTEEN, *(a + b for a in SIXTEEN for b in SIXTEEN), *MARKED]
+    yield from (f"{small}{large}{last}" for small in ("", "零", "三", "二百三十一") for large in LARGES for last in ("七", "零七", "十七", "千零七", "七十"))
+    yield from (writing(n) for n in (TOP, TOP + 1, 10**15, 10005, 100005000, 1111111111111111))
+    yield from ("九千零七兆一千九百九十二億五千四百七十四万九", "九零零七一九九二五四七四零九九一", "九零零七一九九二五四七四零九九二", "九千兆九億九万九")
+    yield from ("零" * 256, "零" * 257, "零" * 255 + "七", "零" * 254 + "五万", "零" * 20 + "一二三百万五", "零" * 240 + "一二三四五六七八九一二三四五六", "九" * 256, "九" * 257)
+    yield from ("一" + "零" * 254 + "兆", "x", "五x", "京", "一〇", "一 万", "五" + "x" * 255, "五" + "x" * 256)
+    yield from (b"\xff", "五".encode() + b"\xe4\xb8", b"\xe4", b"x" * 300 + b"\xff", b"\xed\xa0\x80")
+    r = random.Random(9)
+    yield from (edited(r) for _ in range(120))
+
+
+def weights_told(line, room):
+    status, at, found = weigh_digits(line, room)
+    return f"refused {status} {at}" if status else f"weights {at}", found
+
+
+def weights_row(line):
+    line = encoded(line)
+    words, found = weights_told(line, 2064)
+    rooms = [8 * len(found)] + ([8 * len(found) - 1] if found else [])
+    return "".join([words, *(f" {k}" for k in found), *(f"; in {room}: {weights_told(line, room)[0]}" for room in rooms)])
 
 
 # ---- the library against the model
@@ -218,7 +269,17 @@ def case_s4(r):
     return f"f {line.hex() or '-'}", f"{status} {yes} {at}"
 
 
-CASES = {"S-1": case_s1, "S-4": case_s4}
+def case_s9(r):
+    line = encoded(random_field(r))
+    need = 8 * len(weigh_digits(line, 2048)[2])
+    room = r.choice((0, 2048, need, need, max(need - 1, 0), need + r.randrange(20), r.randrange(300)))
+    status, at, found = weigh_digits(line, room)
+    out = b"".join(k.to_bytes(8, "little") for k in found)
+    out += b"\xa5" * (room + 8 - len(out))
+    return f"d {line.hex() or '-'} {room}", f"{status} {at} {out.hex()}"
+
+
+CASES = {"S-1": case_s1, "S-4": case_s4, "S-9": case_s9}
 
 
 def run(driver, count, seed):
@@ -241,6 +302,10 @@ if __name__ == "__main__":
         sys.stdout.buffer.write(b"".join(encoded(field) + b"\n" for field in fields()))
     elif sys.argv[1:] == ["vectors", "S-4", "answers"]:
         print(*map(told, fields()), sep="\n")
+    elif sys.argv[1:] == ["vectors", "S-9"]:
+        sys.stdout.buffer.write(b"".join(encoded(line) + b"\n" for line in weighed_lines()))
+    elif sys.argv[1:] == ["vectors", "S-9", "answers"]:
+        print(*map(weights_row, weighed_lines()), sep="\n")
     elif sys.argv[1:2] == ["run"] and len(sys.argv) == 5:
         run(sys.argv[2], int(sys.argv[3]), int(sys.argv[4]))
     else:

@@ -30,6 +30,9 @@ pub const OUT: usize = 32_768;
 /// Bytes of output that suffice for every numeral.
 pub const NUMERAL: usize = 93;
 
+/// Bytes of output that suffice for the weights of every line.
+pub const WEIGHTS: usize = 2_048;
+
 /// The edge list without an edge.
 pub const NO_EDGES: &[u8] = &[0, 0];
 
@@ -68,6 +71,7 @@ mod c {
         ) -> u32;
         pub fn rilvostam_write_number(number: u64, out: *mut u8, out_len: usize, at: *mut u64) -> u32;
         pub fn rilvostam_read_field(line: *const u8, line_len: usize, is_number: *mut u8, at: *mut u64) -> u32;
+        pub fn rilvostam_weights(line: *const u8, line_len: usize, out: *mut u8, out_len: usize, at: *mut u64) -> u32;
         #[rustfmt::skip]
         pub fn rilvostam_pool_shares(
             line: *const u8, line_len: usize, listing: *const u8, listing_len: usize,
@@ -301,4 +305,19 @@ pub fn read_field(line: &[u8]) -> Result<Option<u64>, Refusal> {
     let status = unsafe { c::rilvostam_read_field(line.as_ptr(), line.len(), &mut is_number, &mut at) };
     answer(status, at)?;
     Ok((is_number == 1).then_some(at))
+}
+
+/// How far one wrong digit goes: the weight of each 一 to 九 of a line that is one numeral of the plain table, in line order; none for any other line.
+pub fn weights(line: &[u8]) -> Result<Vec<u64>, Refusal> {
+    let mut out = [0; WEIGHTS];
+    let count = weights_into(line, &mut out)?;
+    Ok(out.chunks_exact(8).take(count).map(|bytes| u64::from_le_bytes(bytes.try_into().expect("eight bytes"))).collect())
+}
+
+/// The same at the front of `out`, eight bytes each, little-endian; answers their count. On a refusal `out` is as it was.
+pub fn weights_into(line: &[u8], out: &mut [u8]) -> Result<usize, Refusal> {
+    let mut at = 0;
+    // SAFETY: as above.
+    let status = unsafe { c::rilvostam_weights(line.as_ptr(), line.len(), out.as_mut_ptr(), out.len(), &mut at) };
+    answer(status, at)
 }

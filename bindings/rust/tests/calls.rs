@@ -243,3 +243,37 @@ fn which_numbers() {
     }
     assert_eq!(which_number("九九九九九九九九九九九九九九九九九", &plain_table()).unwrap_err().number(), 7);
 }
+
+#[test]
+fn weights_of_digits() {
+    for (line, expected) in [
+        ("一万五", &[10_000, 1_000][..]),
+        ("一万零五", &[10_000, 1]),
+        ("二百万五", &[1_000_000, 1_000]),
+        ("一二百", &[1_000, 100]),
+        ("百零十", &[]),
+        ("一百一百", &[]),
+        ("", &[]),
+        ("五x", &[]),
+    ] {
+        assert_eq!(weights(line.as_bytes()).unwrap(), expected, "{line}");
+    }
+    // the wrong digit 七 for 五 moves the value by two weights
+    assert_eq!(read_field("一万七".as_bytes()).unwrap(), read_field("一万五".as_bytes()).unwrap().map(|value| value + 2 * 1_000));
+    let zeros = format!("{}七", "零".repeat(255));
+    assert_eq!(weights(zeros.as_bytes()).unwrap(), [1]);
+    let nines = "九".repeat(257);
+    let mut out = [7; 16];
+    for (line, room, number, at) in [
+        (&nines.as_bytes()[..768], 0, 7, 0),
+        (nines.as_bytes(), 0, 3, 768),
+        (b"\xE4\xB8\x80\xFF", 0, 2, 3),
+        ("一万五".as_bytes(), 15, 8, 0),
+    ] {
+        let refused = weights_into(line, &mut out[..room]).unwrap_err();
+        assert_eq!((refused.number(), refused.at), (number, at));
+        assert_eq!(out, [7; 16]);
+    }
+    assert_eq!(weights_into("一万五".as_bytes(), &mut out).unwrap(), 2);
+    assert_eq!(out[8..], 1_000_u64.to_le_bytes());
+}

@@ -70,7 +70,7 @@ no-glyph n h = go (byNumber sixteen n) refl
     go none e = refl
     go (some k) e = absurd (h k (number-of sixteen n k e))
 
-of-bytes : (k : Char) → byBytes sixteen (first (codePoint k)) (second (codePoint k)) (third (codePoint k)) ≡ some k
+pub of-bytes : (k : Char) → byBytes sixteen (first (codePoint k)) (second (codePoint k)) (third (codePoint k)) ≡ some k
 unfolding byBytes
 of-bytes = each (λ k. byBytes sixteen (first (codePoint k)) (second (codePoint k)) (third (codePoint k)) ≡ some k) (refl, refl, refl, refl, refl, refl, refl, refl, refl, refl, refl, refl, refl, refl, refl, refl)
 

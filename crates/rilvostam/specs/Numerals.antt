@@ -1,11 +1,14 @@
--- What the calls on single numerals tell C (02, S-1 and S-4). Definitions only.
+-- What the calls on single numerals tell C (02, S-1, S-4 and S-9). Definitions only.
 --     writtenTold w     a number written out: 0 and the bytes of its numeral, or the number of 02's refusal and its place
 --     fieldTold f       a field: 0 and whether it is a number, with its value; or the number of the refusal, and its offset (2, 3) or place (7)
+--     weightsTold w     the weights of a line: 0 and their count; or the number of the refusal, and its offset (2, 3) or place (7, 8)
 --     Assumes nothing.
 use Prim.Native.Nat.{ℕ}
 use Rattle.answers.specs.declared.CStatus.{CStatus}
 use Rattle.numeral.specs.declared.Field.{Field}
 use Rattle.numeral.specs.declared.Field.the-variants as Field
+use Rattle.weights.specs.declared.Weighed.{Weighed}
+use Rattle.weights.specs.declared.Weighed.the-variants as Weighed
 use Rattle.writing.specs.declared.Written.{Written}
 use Rattle.writing.specs.declared.Written.the-variants.{Bytes, AboveTop, TooShort}
 use Rattle.rilvostam.specs.declared.numerals.CField.{CField}
@@ -23,3 +26,11 @@ fieldTold Field.NotANumber = record { status = 0; number = 0; at = 0 }
 fieldTold Field.AboveTop = record { status = 7; number = 0; at = 0 }
 fieldTold (Field.IllFormed at) = record { status = 2; number = 0; at = at .0 }
 fieldTold (Field.TooLong at) = record { status = 3; number = 0; at = at .0 }
+
+-- "the answer is their count ..; a numeral above TOP is 7 at place 0, and an output too short is 8, after it."
+abbrev pub weightsTold : Weighed → CStatus
+weightsTold (Weighed.Count n) = record { status = 0; at = n }
+weightsTold Weighed.AboveTop = record { status = 7; at = 0 }
+weightsTold Weighed.TooShort = record { status = 8; at = 0 }
+weightsTold (Weighed.IllFormed at) = record { status = 2; at = at .0 }
+weightsTold (Weighed.TooLong at) = record { status = 3; at = at .0 }

@@ -1,11 +1,13 @@
-// The calls on single numerals (02, S-1 and S-4) for C. They are thin, as those of lib.rt.
+// The calls on single numerals (02, S-1, S-4 and S-9) for C. They are thin, as those of lib.rt.
 ghost use mathlib.Core.Path.{_≡_};
 ghost use lib.ListN.{length};
 ghost use Rattle.numeral.specs.Field.{fieldOf};
 ghost use Rattle.writing.specs.Written.{written, output};
-ghost use Rattle.rilvostam.specs.Numerals.{writtenTold, fieldTold};
+ghost use Rattle.weights.specs.Weighed as weighed;
+ghost use Rattle.rilvostam.specs.Numerals.{writtenTold, fieldTold, weightsTold};
 use answers::CStatus;
 use numeral::Field;
+use weights::Weighed;
 use writing::Written;
 
 // 0 and the bytes of the numeral, or the refusal.
@@ -71,4 +73,40 @@ pub extern "C" fn rilvostam_read_field(line: &[u8], is_number: &mut u8, at: &mut
     *is_number = told.number;
     *at = told.at;
     told.status
+}
+
+// 0 and the count of the weights, or the refusal.
+fn weights_told(w: Weighed) -> CStatus
+    ensures { λ t. ⌜ t ≡ weightsTold w ⌝ }
+{
+    match w {
+        Weighed::Count(n) => CStatus {
+            status: 0,
+            at: n as u64,
+        },
+        Weighed::AboveTop => CStatus { status: 7, at: 0 },
+        Weighed::TooShort => CStatus { status: 8, at: 0 },
+        Weighed::IllFormed(at) => CStatus {
+            status: 2,
+            at: at.0 as u64,
+        },
+        Weighed::TooLong(at) => CStatus {
+            status: 3,
+            at: at.0 as u64,
+        },
+    }
+}
+
+// The weight of each 一 to 九 of a line, at the front of the output.
+#[no_mangle]
+pub extern "C" fn rilvostam_weights(line: &[u8], out: &mut [u8], at: &mut u64) -> u32
+    ensures status { λ r. ⌜ r
+        ≡ weightsTold (weighed.weigh (now (line .entry)) (length (now (out .entry)))) .status ⌝ }
+    ensures count { λ _. ⌜ now (at .exit)
+        ≡ weightsTold (weighed.weigh (now (line .entry)) (length (now (out .entry)))) .at ⌝ }
+    ensures output { λ _. ⌜ now (out .exit) ≡ weighed.output (now (line .entry)) (now (out .entry)) ⌝ }
+{
+    let answer = weights_told(weights::weigh_digits(line, out));
+    *at = answer.at;
+    answer.status
 }
