@@ -257,6 +257,15 @@ uint32_t rilvostam_read_field(const uint8_t *line, size_t line_len, uint8_t *is_
  * 0: *at is the count of the weights, 0 for a line that is no numeral. */
 uint32_t rilvostam_weights(const uint8_t *line, size_t line_len, uint8_t *out, size_t out_len, uint64_t *at);
 
+/* A page of the proof sheet: every numeral of one to four characters of the plain table whose value is at most TOP, shortest first, then character by character in the order 零 to 九,
+ * 十百千, 万億兆, with its value. A row is the numeral in UTF-8, a tab, the value in decimal and a newline. The sheet has RILVOSTAM_SHEET_ROWS rows, counted from 0; the page begins with the
+ * one at `position` and holds as many whole rows as out has room for: none if the first does not fit, and none from RILVOSTAM_SHEET_ROWS on. RILVOSTAM_ROW bytes hold any row.
+ * next overlaps no other argument and has the alignment of a uint64_t. Nothing is refused.
+ * 0: *at is the length of the page in out, *next the position after its last row, or without rows `position`. */
+#define RILVOSTAM_SHEET_ROWS 50577
+#define RILVOSTAM_ROW 30
+uint32_t rilvostam_proof_sheet(uint64_t position, uint8_t *out, size_t out_len, uint64_t *at, uint64_t *next);
+
 /* The shares of a listing: the fractions of its active edges, each added to the sum of those before, in lowest terms. Without any the sum is 0/1. It is refused 11
  * at the first edge with which numerator or denominator is above 9,007,199,254,740,991. numerator and denominator overlap no other argument and have the
  * alignment of a uint64_t.

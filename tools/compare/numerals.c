@@ -2,7 +2,9 @@
  *     w NUMBER ROOM    rilvostam_write_number with an output of ROOM bytes
  *     f HEX            rilvostam_read_field on these bytes; - is the empty line
  *     d HEX ROOM       rilvostam_weights on these bytes with an output of ROOM bytes
- * Each answer is a row. For w and d: the status, *at, and the output in hexadecimal with eight bytes behind it; outputs are filled with A5 before. For f: the status, *is_number, *at. */
+ *     p POSITION ROOM  rilvostam_proof_sheet with an output of ROOM bytes
+ * Each answer is a row. For w and d: the status, *at, and the output in hexadecimal with eight bytes behind it; outputs are filled with A5 before. For f: the status, *is_number, *at.
+ * For p: the status, *at, *next, and the output as for w. */
 #include <inttypes.h>
 #include <stdio.h>
 #include <string.h>
@@ -49,6 +51,15 @@ static void read_field(void) {
     printf("%" PRIu32 " %d %" PRIu64 "\n", status, is_number, at);
 }
 
+static void proof_sheet(uint64_t position, size_t room) {
+    uint64_t at = 77, next = 77;
+    memset(out, 0xa5, room + GUARD);
+    uint32_t status = rilvostam_proof_sheet(position, out, room, &at, &next);
+    printf("%" PRIu32 " %" PRIu64 " %" PRIu64 " ", status, at, next);
+    for (size_t i = 0; i < room + GUARD; i++) printf("%02x", out[i]);
+    printf("\n");
+}
+
 int main(void) {
     uint64_t number;
     size_t room;
@@ -56,6 +67,8 @@ int main(void) {
     while (scanf(" %c", &kind) == 1) {
         if (kind == 'w' && scanf("%" SCNu64 " %zu", &number, &room) == 2 && room + GUARD <= sizeof out)
             write_number(number, room);
+        else if (kind == 'p' && scanf("%" SCNu64 " %zu", &number, &room) == 2 && room + GUARD <= sizeof out)
+            proof_sheet(number, room);
         else if (kind == 'f' && scanf("%8192s", hex) == 1)
             read_field();
         else if (kind == 'd' && scanf("%8192s %zu", hex, &room) == 2 && room + GUARD <= sizeof out)

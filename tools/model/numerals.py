@@ -1,14 +1,17 @@
 #!/usr/bin/env python3
-"""Numerals by document 02, S-1, S-4 and S-9, written once more in Python from its sentences and held against the library's C calls.
+"""Numerals by document 02, S-1, S-4, S-8 and S-9, written once more in Python from its sentences and held against the library's C calls.
 
 usage: numerals.py run DRIVER COUNT SEED     tools/compare/numerals builds the driver (tools/compare/numerals.c) and calls this
        numerals.py vectors S-1               what the program writing_vectors must write
        numerals.py vectors S-4 [answers]     the fields that the program field_vectors reads; what it must write
        numerals.py vectors S-9 [answers]     the lines that the program weights_vectors reads; what it must write
+       numerals.py vectors S-8               what the program sheet_vectors must write
+       numerals.py sheet                     the whole proof sheet
 
 It shares nothing with the definitions in crates/ but the documents. It proves nothing: it looks for a definition that says something else than 02 does.
 """
 import functools
+import itertools
 import random
 import subprocess
 import sys
@@ -146,6 +149,25 @@ def weigh_digits(line, room):
     return (0, len(found), found) if 8 * len(found) <= room else (8, 0, [])
 
 
+# ---- S-8: a proof sheet of short numerals
+@functools.cache
+def sheet():
+    """The rows of all numerals of one to four characters whose value is at most TOP, shortest first, then character by character in SIXTEEN's order."""
+    words = ("".join(word) for length in range(1, 5) for word in itertools.product(SIXTEEN, repeat=length))
+    values = ((word, numeral(word)) for word in words)
+    return [f"{word}\t{value}\n".encode() for word, value in values if value is not None and value <= TOP]
+
+
+def proof_sheet(position, room):
+    """The page's bytes, and the position after it."""
+    page = b""
+    for row in sheet()[position:]:
+        if len(page) + len(row) > room:
+            break
+        page, position = page + row, position + 1
+    return page, position
+
+
 # ---- the program writing_vectors
 def row(number, room=93):
     status, _, numeral = write_number(number, room)
@@ -216,6 +238,17 @@ def weights_row(line):
     return "".join([words, *(f" {k}" for k in found), *(f"; in {room}: {weights_told(line, room)[0]}" for room in rooms)])
 
 
+# ---- the program sheet_vectors
+def vectors_s8():
+    asked = [(0, 200), (0, 0), (0, 5), (0, 6), (0, 7), (0, 11), (0, 12)]
+    asked += [(10, 200), (250, 200), (257, 200), (3700, 200), (3707, 200)]
+    asked += [(4107, 30), (4107, 29), (6861, 200), (37358, 200)]
+    asked += [(50570, 200), (50576, 200), (50576, 27), (50576, 26), (50577, 200), (50577, 0), (50578, 200), (69904, 200), (2**64 - 1, 200)]
+    for position, room in asked:
+        page, after = proof_sheet(position, room)
+        yield f"{position} {room} {len(page)} {after}\n".encode() + page + b"." * (room - len(page)) + b"\n"
+
+
 # ---- the library against the model
 def edited(r):
     """A numeral with a few characters changed, left out or added."""
@@ -279,7 +312,18 @@ def case_s9(r):
     return f"d {line.hex() or '-'} {room}", f"{status} {at} {out.hex()}"
 
 
-CASES = {"S-1": case_s1, "S-4": case_s4, "S-9": case_s9}
+def case_s8(r):
+    """Positions anywhere, about the changes of length and the end, and far past it; outputs of a few rows, or of just some whole rows and a byte more or less."""
+    kind = r.randrange(8)
+    near = r.choice((0, 16, 257, 3707, len(sheet()))) + r.randrange(-8, 9)
+    position = r.randrange(2**64) if kind == 0 else max(near, 0) if kind < 3 else r.randrange(len(sheet()))
+    rows = sum(map(len, sheet()[position : position + r.randrange(1, 12)]))
+    room = r.choice((0, rows, max(rows - 1, 0), rows + 1, r.randrange(60), r.randrange(400)))
+    page, after = proof_sheet(position, room)
+    return f"p {position} {room}", f"0 {len(page)} {after} {(page + bytes([0xA5]) * (room + 8 - len(page))).hex()}"
+
+
+CASES = {"S-1": case_s1, "S-4": case_s4, "S-8": case_s8, "S-9": case_s9}
 
 
 def run(driver, count, seed):
@@ -306,6 +350,10 @@ if __name__ == "__main__":
         sys.stdout.buffer.write(b"".join(encoded(line) + b"\n" for line in weighed_lines()))
     elif sys.argv[1:] == ["vectors", "S-9", "answers"]:
         print(*map(weights_row, weighed_lines()), sep="\n")
+    elif sys.argv[1:] == ["vectors", "S-8"]:
+        sys.stdout.buffer.write(b"".join(vectors_s8()))
+    elif sys.argv[1:] == ["sheet"]:
+        sys.stdout.buffer.write(b"".join(sheet()))
     elif sys.argv[1:2] == ["run"] and len(sys.argv) == 5:
         run(sys.argv[2], int(sys.argv[3]), int(sys.argv[4]))
     else:

@@ -1,6 +1,7 @@
 // The C interface, declared in include/rilvostam.h. Each function is thin: it calls the proved function underneath and tells its answer.
 // A skip other than 0 is set; places are 64-bit numbers.
 pub mod numerals; // numerals.rt: the calls on single numerals
+pub mod sheets; // sheets.rt: the proof sheet of short numerals (02, S-8)
 pub mod pooling; // pooling.rt: what a listing's shares come to
 pub mod nearest; // nearest.rt: the number nearest to a place (02, S-14)
 pub mod edges; // edges.rt: the edge at an offset of a listing

@@ -1,0 +1,4 @@
+-- The definitions of the proof sheet.
+pub mod Sheet
+pub mod Answer
+pub mod Walk

@@ -1,0 +1,2 @@
+-- What is shown of the table.
+pub mod CountLaws

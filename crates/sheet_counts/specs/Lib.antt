@@ -1,0 +1,2 @@
+-- The definitions of numbered candidates and of their rows.
+pub mod Numbered

@@ -1,0 +1,2 @@
+-- The definitions of rows.
+pub mod Rows
