@@ -1,0 +1,3 @@
+-- The definitions of regular tables and of the grammar over the characters of any table.
+pub mod Kinds
+pub mod TableGrammar
