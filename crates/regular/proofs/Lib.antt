@@ -8,3 +8,6 @@ pub mod Others
 pub mod Settled
 pub mod RegularDemand3
 pub mod PlainInstance
+pub mod Makers
+pub mod Without
+pub mod PlainDemand3
