@@ -283,6 +283,12 @@ uint32_t rilvostam_formal_table(uint8_t *out, size_t out_len, uint64_t *at);
  * 0: *at is the count of its records. */
 uint32_t rilvostam_check_table(const uint8_t *table, size_t table_len, uint64_t *at);
 
+/* Is this table regular? Then its lines are read by its own grammar of numerals, as proved (docs/PROVED.md, "For makers"): each record is a digit (type "digit", value 0 to 9, base 1,
+ * no large power), a unit (value 10 or more, base from 2 up to the value, no large power, not 零 or 〇), a large power (value 10 or more, base 2 or more), or any other (no value, no base
+ * above 1 unless it is a large power, not 零 or 〇).
+ * 0: *at is RILVOSTAM_NONE where it is, else the offset of its first record of none of the four kinds. RILVOSTAM_TABLE_LAYOUT or RILVOSTAM_TABLE_CONTENT as from rilvostam_add_numbers. */
+uint32_t rilvostam_regular_table(const uint8_t *table, size_t table_len, uint64_t *at);
+
 #ifdef __cplusplus
 }
 #endif

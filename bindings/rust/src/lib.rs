@@ -20,7 +20,7 @@ mod which;
 pub use edges::{Edge, Edges, NumData, edge_at, edges};
 pub use refusal::{Cause, Refusal};
 pub use sheet::{ROW, SHEET_ROWS, proof_sheet};
-pub use tables::{TABLE, check_table, formal_table, formal_table_into, plain_table, plain_table_into};
+pub use tables::{TABLE, check_table, formal_table, formal_table_into, irregular_record, plain_table, plain_table_into};
 pub use which::{Number, Which, which_number};
 
 /// Bytes of work space that a call needs.

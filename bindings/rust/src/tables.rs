@@ -1,6 +1,6 @@
-//! The tables that the library has, and the check of a table.
+//! The tables that the library has, the check of a table, and whether a table is regular.
 
-use crate::{Refusal, answer};
+use crate::{Refusal, answer, found};
 
 /// Bytes of each of the library's tables.
 pub const TABLE: usize = 582;
@@ -10,6 +10,7 @@ mod c {
         pub fn rilvostam_plain_table(out: *mut u8, out_len: usize, at: *mut u64) -> u32;
         pub fn rilvostam_formal_table(out: *mut u8, out_len: usize, at: *mut u64) -> u32;
         pub fn rilvostam_check_table(table: *const u8, table_len: usize, at: *mut u64) -> u32;
+        pub fn rilvostam_regular_table(table: *const u8, table_len: usize, at: *mut u64) -> u32;
     }
 }
 
@@ -53,4 +54,12 @@ pub fn check_table(table: &[u8]) -> Result<usize, Refusal> {
     let mut at = 0;
     // SAFETY: as above.
     answer(unsafe { c::rilvostam_check_table(table.as_ptr(), table.len(), &mut at) }, at)
+}
+
+/// The offset of the first record of a table that is of none of the four kinds: `None` where the table is regular, so that its lines are read by its own grammar of numerals.
+/// Refused where the bytes are no table.
+pub fn irregular_record(table: &[u8]) -> Result<Option<usize>, Refusal> {
+    let mut at = 0;
+    // SAFETY: the pointer is that of a slice with its length, and `at` is a local.
+    found(unsafe { c::rilvostam_regular_table(table.as_ptr(), table.len(), &mut at) }, at)
 }

@@ -1,6 +1,6 @@
-//! The library's own tables (02, S-11).
+//! The library's own tables (02, S-11), and regular ones.
 
-use rilvostam::{Cause, NO_EDGES, TABLE, add_numbers, edges, formal_table, formal_table_into, plain_table, plain_table_into};
+use rilvostam::{Cause, NO_EDGES, TABLE, add_numbers, edges, formal_table, formal_table_into, irregular_record, plain_table, plain_table_into};
 
 fn rows(line: &str, table: &[u8]) -> Vec<String> {
     edges(&add_numbers(line, table, NO_EDGES).unwrap()).map(|e| format!("{} {} {}", e.start, e.end, e.txt)).collect()
@@ -25,4 +25,19 @@ fn room() {
         assert_eq!(call(&mut out), Ok(TABLE));
         assert_eq!(out[TABLE], 7);
     }
+}
+
+#[test]
+fn regular() {
+    assert_eq!(irregular_record(&plain_table()), Ok(None));
+    assert_eq!(irregular_record(&formal_table()), Ok(None));
+    // 一 begins the records, at offset 27: without its base it is of none of the four kinds.
+    let mut table = plain_table().to_vec();
+    assert_eq!(table[31], 0x2B);
+    table[31] = 0x23;
+    table.drain(48..56);
+    assert_eq!(irregular_record(&table), Ok(Some(27)));
+    table.push(0);
+    let refusal = irregular_record(&table).unwrap_err();
+    assert_eq!((refusal.cause, refusal.at), (Cause::TableLayout, table.len() as u64 - 1));
 }

@@ -1,3 +1,4 @@
--- The definitions of regular tables and of the grammar over the characters of any table.
+-- The definitions of regular tables, of the grammar over the characters of any table, and of the check.
 pub mod Kinds
 pub mod TableGrammar
+pub mod CheckRegular
