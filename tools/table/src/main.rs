@@ -3,8 +3,10 @@
 //! table encode < TEXT > BYTES      the table's bytes, or a refusal in words with the line of the text where it stands
 //! table decode < BYTES > TEXT      the text of a table's bytes, or the library's refusal of them
 //! table explain OFFSET < TEXT      the line of the text that stands at an offset of its bytes, as the library's refusals 4 and 5 name it
+//! table regular < TEXT             whether the table is regular, and if not which record is of none of the four kinds, and which field of it
 
 mod read;
+mod regular;
 mod table;
 mod text;
 
@@ -23,8 +25,9 @@ fn main() -> ExitCode {
         ["encode"] => encode(&input),
         ["decode"] => decode(&input),
         ["explain", offset] => explain(&input, offset),
+        ["regular"] => regular(&input),
         _ => {
-            eprintln!("usage: table encode | decode | explain OFFSET");
+            eprintln!("usage: table encode | decode | explain OFFSET | regular");
             return ExitCode::from(2);
         }
     };
@@ -41,15 +44,30 @@ fn parse(input: &[u8]) -> Result<table::Table, String> {
     text::read(std::str::from_utf8(input).map_err(|e| format!("the text is not UTF-8: offset {}", e.valid_up_to()))?)
 }
 
-fn encode(input: &[u8]) -> Result<Vec<u8>, String> {
+fn legal(input: &[u8]) -> Result<table::Table, String> {
     let table = parse(input)?;
-    let table = table.bytes()?;
-    table.refusal().map_or(Ok(table.bytes), Err)
+    let refusal = table.bytes()?.refusal();
+    refusal.map_or(Ok(table), Err)
+}
+
+fn encode(input: &[u8]) -> Result<Vec<u8>, String> {
+    Ok(legal(input)?.bytes()?.bytes)
 }
 
 fn decode(input: &[u8]) -> Result<Vec<u8>, String> {
     rilvostam::check_table(input).map_err(|refusal| refusal.to_string())?;
     Ok(text::write(&read::table(input)).into_bytes())
+}
+
+fn regular(input: &[u8]) -> Result<Vec<u8>, String> {
+    let table = legal(input)?;
+    match table.irregular() {
+        None => Ok("regular: each record is a digit, a unit, a large power or has no value\n".into()),
+        Some((record, why)) => {
+            let character = char::from_u32(record.code_point).unwrap_or('?');
+            Err(format!("line {}: the record of {character} is of none of the four kinds. Its {why}", record.line))
+        }
+    }
 }
 
 fn explain(input: &[u8], offset: &str) -> Result<Vec<u8>, String> {
