@@ -37,8 +37,8 @@ enum {
     RILVOSTAM_BAD_PLACE = 9,     /* a place, start or end above the line's length, or start after end: 0 */
     RILVOSTAM_NUMBER_ABOVE_TOP = 10, /* a number above 9,007,199,254,740,991 that is to be written: 0 */
     RILVOSTAM_SUM_ABOVE_TOP = 11, /* a sum whose numerator or denominator, in lowest terms, is above 9,007,199,254,740,991: index of the edge in the listing, from 0 */
-    RILVOSTAM_NOT_ONE_WORN = 12, /* a line without just one □, or with another character outside the plain table: 0 */
-    RILVOSTAM_NONE_SERVES = 13   /* none of the sixteen characters in the place of □ makes the line a numeral up to 9,007,199,254,740,991: 0 */
+    RILVOSTAM_NOT_ONE_MARK = 12, /* a worn line without just one □, or with another character outside the plain table: 0 */
+    RILVOSTAM_NONE_SERVES = 13   /* a worn line that none of the sixteen characters makes a numeral up to 9,007,199,254,740,991: 0 */
 };
 
 /* A refusal in words: its name, as above without RILVOSTAM_; a sentence; and what *at says with it, "" where it is 0. */
@@ -61,7 +61,7 @@ static inline rilvostam_words rilvostam_in_words(uint32_t answer) {
         {"BAD_PLACE", "a place is past the end of the line, or start is after end", ""},
         {"NUMBER_ABOVE_TOP", "the number to be written is above 9,007,199,254,740,991", ""},
         {"SUM_ABOVE_TOP", "the sum's numerator or denominator, in lowest terms, is above 9,007,199,254,740,991", "index of the edge in the listing"},
-        {"NOT_ONE_WORN", "the line has not just one □, or it has another character outside the plain table", ""},
+        {"NOT_ONE_MARK", "the line has not just one □, or it has another character outside the plain table", ""},
         {"NONE_SERVES", "none of the sixteen characters makes the line a numeral up to 9,007,199,254,740,991", ""},
     };
     static const rilvostam_words unknown = {"UNKNOWN", "the library has no such answer", ""};
@@ -77,6 +77,9 @@ static inline rilvostam_words rilvostam_in_words(uint32_t answer) {
 
 /* Bytes of output that suffice for the weights of every line. */
 #define RILVOSTAM_WEIGHTS 2048
+
+/* Bytes of output that suffice for the rows of every worn line. */
+#define RILVOSTAM_WORN 336
 
 /* No edge. */
 #define RILVOSTAM_NONE UINT64_MAX
@@ -265,6 +268,12 @@ uint32_t rilvostam_weights(const uint8_t *line, size_t line_len, uint8_t *out, s
 #define RILVOSTAM_SHEET_ROWS 50577
 #define RILVOSTAM_ROW 30
 uint32_t rilvostam_proof_sheet(uint64_t position, uint8_t *out, size_t out_len, uint64_t *at, uint64_t *next);
+
+/* One character of the line is worn off and marked □ (U+25A1): which of the sixteen of the plain table may have stood there? Each that makes the line a numeral up to
+ * 9,007,199,254,740,991 has a row in out: the character, a tab, the line's value in decimal and a newline, in the order 零 to 九, 十百千, 万億兆. A line without just one
+ * □ or with another character outside the table is refused 12, one for which none serves 13.
+ * 0: *at is the length of the rows, at most RILVOSTAM_WORN. */
+uint32_t rilvostam_worn_character(const uint8_t *line, size_t line_len, uint8_t *out, size_t out_len, uint64_t *at);
 
 /* The shares of a listing: the fractions of its active edges, each added to the sum of those before, in lowest terms. Without any the sum is 0/1. It is refused 11
  * at the first edge with which numerator or denominator is above 9,007,199,254,740,991. numerator and denominator overlap no other argument and have the

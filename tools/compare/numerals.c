@@ -3,7 +3,8 @@
  *     f HEX            rilvostam_read_field on these bytes; - is the empty line
  *     d HEX ROOM       rilvostam_weights on these bytes with an output of ROOM bytes
  *     p POSITION ROOM  rilvostam_proof_sheet with an output of ROOM bytes
- * Each answer is a row. For w and d: the status, *at, and the output in hexadecimal with eight bytes behind it; outputs are filled with A5 before. For f: the status, *is_number, *at.
+ *     c HEX ROOM       rilvostam_worn_character on these bytes, with an output of ROOM bytes
+ * Each answer is a row. For w, d and c: the status, *at, and the output in hexadecimal with eight bytes behind it; outputs are filled with A5 before. For f: the status, *is_number, *at.
  * For p: the status, *at, *next, and the output as for w. */
 #include <inttypes.h>
 #include <stdio.h>
@@ -43,6 +44,14 @@ static void weigh_digits(size_t room) {
     show(status, at, room);
 }
 
+static void worn_character(size_t room) {
+    size_t len = unhex();
+    uint64_t at = 77;
+    memset(out, 0xa5, sizeof out);
+    uint32_t status = rilvostam_worn_character(line, len, out, room, &at);
+    show(status, at, room);
+}
+
 static void read_field(void) {
     size_t len = unhex();
     uint64_t at = 77;
@@ -73,6 +82,8 @@ int main(void) {
             read_field();
         else if (kind == 'd' && scanf("%8192s %zu", hex, &room) == 2 && room + GUARD <= sizeof out)
             weigh_digits(room);
+        else if (kind == 'c' && scanf("%8192s %zu", hex, &room) == 2 && room + GUARD <= sizeof out)
+            worn_character(room);
         else
             return 2;
     }

@@ -1,5 +1,5 @@
 #!/usr/bin/env python3
-"""Numerals by document 02, S-1, S-4, S-8 and S-9, written once more in Python from its sentences and held against the library's C calls.
+"""Numerals by document 02, S-1, S-4, S-8, S-9 and S-10, written once more in Python from its sentences and held against the library's C calls.
 
 usage: numerals.py run DRIVER COUNT SEED     tools/compare/numerals builds the driver (tools/compare/numerals.c) and calls this
        numerals.py vectors S-1               what the program writing_vectors must write
@@ -7,6 +7,7 @@ usage: numerals.py run DRIVER COUNT SEED     tools/compare/numerals builds the d
        numerals.py vectors S-9 [answers]     the lines that the program weights_vectors reads; what it must write
        numerals.py vectors S-8               what the program sheet_vectors must write
        numerals.py sheet                     the whole proof sheet
+       numerals.py vectors S-10 [answers]    the lines that the program worn_vectors reads; what it must write
 
 It shares nothing with the definitions in crates/ but the documents. It proves nothing: it looks for a definition that says something else than 02 does.
 """
@@ -168,6 +169,30 @@ def proof_sheet(position, room):
     return page, position
 
 
+# ---- S-10: one character worn off the stone
+MARK = "□"
+
+
+def worn_rows(text):
+    """The rows of a line with one □; None for any other line."""
+    if text.count(MARK) != 1 or any(c not in SIXTEEN for c in text.replace(MARK, "")):
+        return None
+    values = ((c, numeral(text.replace(MARK, c))) for c in SIXTEEN)
+    return [f"{c}\t{v}\n" for c, v in values if v is not None and v <= TOP]
+
+
+def worn_character(line, room):
+    """The status, what *at says, and the bytes at the front of the output."""
+    status, _, at = read_field(line)
+    if status in (2, 3):
+        return status, at, b""
+    rows = worn_rows(line.decode())
+    if rows is None:
+        return 12, 0, b""
+    text = "".join(rows).encode()
+    return (8, 0, b"") if len(text) > room else (0, len(text), text) if rows else (13, 0, b"")
+
+
 # ---- the program writing_vectors
 def row(number, room=93):
     status, _, numeral = write_number(number, room)
@@ -249,7 +274,31 @@ def vectors_s8():
         yield f"{position} {room} {len(page)} {after}\n".encode() + page + b"." * (room - len(page)) + b"\n"
 
 
+# ---- the program worn_vectors
+def worn_lines():
+    """□ alone and beside each character, between them, at both sides of TOP and of 256 characters; lines without just one □ or with other characters; and faults."""
+    yield from [MARK, *(c + MARK for c in SIXTEEN), *(MARK + c for c in SIXTEEN), "十□十", "一□五", "一万□", "一万零□", "二千□", "千□百", "零□百", "億□万", "百□十", "十十□", "□十十"]
+    yield from ("九零零七一九九二五四七四零九九□", "九零零七一九九二五四七四零九□一", "九千零七兆一千九百九十二億五千四百七十四万零九百九十□", "□九九九九九九九九九九九九九九九", "九□千兆")
+    yield from ("零" * 255 + MARK, MARK + "零" * 255, "零" * 256 + MARK, "九" * 255 + MARK, "零" * 128 + MARK + "零" * 127, MARK * 256, MARK * 257)
+    yield from ("", "五", "一万五", "□□", "□一□", "x", "□x", "x□", "五x□", "□京", "一〇□", "□ ", "■", "□■", "一百\u25a0", "-□")
+    yield from (b"\xff", MARK.encode() + b"\xff", b"\xe2\x96", MARK.encode()[:2] + "一".encode(), "五".encode() + b"\xe2\x96", b"\xed\xa0\x80", b"x" * 300 + b"\xff")
+    r = random.Random(10)
+    yield from (worn(r) for _ in range(60))
+
+
+def worn_told(line):
+    status, at, rows = worn_character(encoded(line), 336)
+    return f"refused {status} {at}" if status else f"rows {at}\n{rows.decode()}refused 8 0"
+
+
 # ---- the library against the model
+def worn(r):
+    """A numeral, or nearly one, with one of its characters worn off."""
+    text = edited(r)
+    at = r.randrange(len(text) + 1)
+    return text[:at] + MARK + text[at + 1 :]
+
+
 def edited(r):
     """A numeral with a few characters changed, left out or added."""
     text = list(writing(numbers(r) % (TOP + 1)))
@@ -323,7 +372,35 @@ def case_s8(r):
     return f"p {position} {room}", f"0 {len(page)} {after} {(page + bytes([0xA5]) * (room + 8 - len(page))).hex()}"
 
 
-CASES = {"S-1": case_s1, "S-4": case_s4, "S-8": case_s8, "S-9": case_s9}
+def random_worn(r):
+    kind = r.randrange(8)
+    if kind < 4:
+        return worn(r)
+    if kind == 4:
+        text = "".join(r.choices(SIXTEEN, k=r.randrange(8)))
+        at = r.randrange(len(text) + 1)
+        return text[:at] + MARK + text[at:]
+    if kind == 5:
+        digits = "".join(r.choices(DIGITS, k=r.randrange(258)))
+        at = r.randrange(len(digits) + 1)
+        return digits[:at] + MARK + digits[at:]
+    if kind == 6:
+        return "".join(r.choices(SIXTEEN + MARK * 4 + "■x京", k=r.randrange(7)))
+    line = bytearray(worn(r).encode() * r.choice((1, 1, 1, 20)))
+    for _ in range(r.randrange(3)):
+        line[r.randrange(len(line))] = r.randrange(256)
+    return bytes(line[: r.choice((len(line), r.randrange(len(line) + 1)))])
+
+
+def case_s10(r):
+    line = encoded(random_worn(r))
+    need = worn_character(line, 336)[1]
+    room = r.choice((0, 336, 336, 400, need, max(need - 1, 0), need + 1, r.randrange(100)))
+    status, at, rows = worn_character(line, room)
+    return f"c {line.hex() or '-'} {room}", f"{status} {at} {(rows + bytes([0xA5]) * (room + 8 - len(rows))).hex()}"
+
+
+CASES = {"S-1": case_s1, "S-4": case_s4, "S-8": case_s8, "S-9": case_s9, "S-10": case_s10}
 
 
 def run(driver, count, seed):
@@ -354,6 +431,10 @@ if __name__ == "__main__":
         sys.stdout.buffer.write(b"".join(vectors_s8()))
     elif sys.argv[1:] == ["sheet"]:
         sys.stdout.buffer.write(b"".join(sheet()))
+    elif sys.argv[1:] == ["vectors", "S-10"]:
+        sys.stdout.buffer.write(b"".join(encoded(line) + b"\n" for line in worn_lines()))
+    elif sys.argv[1:] == ["vectors", "S-10", "answers"]:
+        print(*map(worn_told, worn_lines()), sep="\n")
     elif sys.argv[1:2] == ["run"] and len(sys.argv) == 5:
         run(sys.argv[2], int(sys.argv[3]), int(sys.argv[4]))
     else:

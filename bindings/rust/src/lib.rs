@@ -35,6 +35,9 @@ pub const NUMERAL: usize = 93;
 /// Bytes of output that suffice for the weights of every line.
 pub const WEIGHTS: usize = 2_048;
 
+/// Bytes of output that suffice for the rows of every worn line.
+pub const WORN: usize = 336;
+
 /// The edge list without an edge.
 pub const NO_EDGES: &[u8] = &[0, 0];
 
@@ -74,6 +77,7 @@ mod c {
         pub fn rilvostam_write_number(number: u64, out: *mut u8, out_len: usize, at: *mut u64) -> u32;
         pub fn rilvostam_read_field(line: *const u8, line_len: usize, is_number: *mut u8, at: *mut u64) -> u32;
         pub fn rilvostam_weights(line: *const u8, line_len: usize, out: *mut u8, out_len: usize, at: *mut u64) -> u32;
+        pub fn rilvostam_worn_character(line: *const u8, line_len: usize, out: *mut u8, out_len: usize, at: *mut u64) -> u32;
         #[rustfmt::skip]
         pub fn rilvostam_pool_shares(
             line: *const u8, line_len: usize, listing: *const u8, listing_len: usize,
@@ -322,4 +326,14 @@ pub fn weights_into(line: &[u8], out: &mut [u8]) -> Result<usize, Refusal> {
     // SAFETY: as above.
     let status = unsafe { c::rilvostam_weights(line.as_ptr(), line.len(), out.as_mut_ptr(), out.len(), &mut at) };
     answer(status, at)
+}
+
+/// The characters that may have stood where a line has □ (U+25A1), each in a row with the line's value, at the front of `out`: the character, a tab, the value in decimal
+/// and a newline. On a refusal `out` is as it was.
+pub fn worn_character<'o>(line: &[u8], out: &'o mut [u8]) -> Result<&'o str, Refusal> {
+    let mut at = 0;
+    // SAFETY: as above.
+    let status = unsafe { c::rilvostam_worn_character(line.as_ptr(), line.len(), out.as_mut_ptr(), out.len(), &mut at) };
+    let length = answer(status, at)?;
+    Ok(std::str::from_utf8(&out[..length]).expect("rows are UTF-8"))
 }

@@ -47,7 +47,7 @@ causes! {
     BadPlace = 9, "BAD_PLACE", "a place is past the end of the line, or start is after end", "";
     NumberAboveTop = 10, "NUMBER_ABOVE_TOP", "the number to be written is above 9,007,199,254,740,991", "";
     SumAboveTop = 11, "SUM_ABOVE_TOP", "the sum's numerator or denominator, in lowest terms, is above 9,007,199,254,740,991", "index of the edge in the listing";
-    NotOneWorn = 12, "NOT_ONE_WORN", "the line has not just one □, or it has another character outside the plain table", "";
+    NotOneMark = 12, "NOT_ONE_MARK", "the line has not just one □, or it has another character outside the plain table", "";
     NoneServes = 13, "NONE_SERVES", "none of the sixteen characters makes the line a numeral up to 9,007,199,254,740,991", "";
 }
 

@@ -277,3 +277,27 @@ fn weights_of_digits() {
     assert_eq!(weights_into("一万五".as_bytes(), &mut out).unwrap(), 2);
     assert_eq!(out[8..], 1_000_u64.to_le_bytes());
 }
+
+#[test]
+fn worn_characters() {
+    let mut out = [7; WORN];
+    assert_eq!(worn_character("十□十".as_bytes(), &mut out).unwrap(), "万\t100010\n億\t1000000010\n兆\t10000000000010\n");
+    let top = "九零零七一九九二五四七四零九九□";
+    let rows = "零\t9007199254740990\n一\t9007199254740991\n十\t9007199254740990\n";
+    assert_eq!(worn_character(top.as_bytes(), &mut out[..63]).unwrap(), rows);
+    let mut out = [7; WORN];
+    for (line, room, number, at) in [
+        (top.as_bytes(), 62, 8, 0),
+        ("十十□".as_bytes(), 0, 13, 0),
+        ("□□".as_bytes(), WORN, 12, 0),
+        ("一万五".as_bytes(), 0, 12, 0),
+        ("□x".as_bytes(), WORN, 12, 0),
+        (b"", WORN, 12, 0),
+        ("□".repeat(257).as_bytes(), WORN, 3, 768),
+        (b"\xE2\x96\xA1\xFF", WORN, 2, 3),
+    ] {
+        let refused = worn_character(line, &mut out[..room]).unwrap_err();
+        assert_eq!((refused.number(), refused.at), (number, at), "{refused}");
+    }
+    assert_eq!(out, [7; WORN]);
+}

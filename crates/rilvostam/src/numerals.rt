@@ -1,13 +1,15 @@
-// The calls on single numerals (02, S-1, S-4 and S-9) for C. They are thin, as those of lib.rt.
+// The calls on single numerals (02, S-1, S-4, S-9 and S-10) for C. They are thin, as those of lib.rt.
 ghost use mathlib.Core.Path.{_≡_};
 ghost use lib.ListN.{length};
 ghost use Rattle.numeral.specs.Field.{fieldOf};
+ghost use Rattle.worn.specs.Worn as worn;
 ghost use Rattle.writing.specs.Written.{written, output};
 ghost use Rattle.weights.specs.Weighed as weighed;
-ghost use Rattle.rilvostam.specs.Numerals.{writtenTold, fieldTold, weightsTold};
+ghost use Rattle.rilvostam.specs.Numerals.{writtenTold, fieldTold, weightsTold, wornTold};
 use answers::CStatus;
 use numeral::Field;
 use weights::Weighed;
+use worn::Worn;
 use writing::Written;
 
 // 0 and the bytes of the numeral, or the refusal.
@@ -109,4 +111,39 @@ pub extern "C" fn rilvostam_weights(line: &[u8], out: &mut [u8], at: &mut u64) -
     let answer = weights_told(weights::weigh_digits(line, out));
     *at = answer.at;
     answer.status
+}
+
+// 0 and the bytes of the rows, or the refusal.
+fn worn_told(w: Worn) -> CStatus
+    ensures { λ t. ⌜ t ≡ wornTold w ⌝ }
+{
+    match w {
+        Worn::Rows(len) => CStatus {
+            status: 0,
+            at: len as u64,
+        },
+        Worn::IllFormed(at) => CStatus {
+            status: 2,
+            at: at.0 as u64,
+        },
+        Worn::TooLong(at) => CStatus {
+            status: 3,
+            at: at.0 as u64,
+        },
+        Worn::NotOneMark => CStatus { status: 12, at: 0 },
+        Worn::TooShort => CStatus { status: 8, at: 0 },
+        Worn::NoneServes => CStatus { status: 13, at: 0 },
+    }
+}
+
+// The characters that may have stood at the line's □, each in a row with the line's value, at the front of the output.
+#[no_mangle]
+pub extern "C" fn rilvostam_worn_character(line: &[u8], out: &mut [u8], at: &mut u64) -> u32
+    ensures status { λ r. ⌜ r ≡ wornTold (worn.worn (now (line .entry)) (length (now (out .entry)))) .status ⌝ }
+    ensures place { λ _. ⌜ now (at .exit) ≡ wornTold (worn.worn (now (line .entry)) (length (now (out .entry)))) .at ⌝ }
+    ensures output { λ _. ⌜ now (out .exit) ≡ worn.output (now (line .entry)) (now (out .entry)) ⌝ }
+{
+    let rows = worn_told(worn::worn_character(line, out));
+    *at = rows.at;
+    rows.status
 }
