@@ -24,13 +24,14 @@ use Rattle.table.specs.declared.shape.Shape.{Shape}
 use Rattle.table.specs.declared.shape.TableCheck.{TableCheck}
 use Rattle.table.specs.declared.shape.TableCheck.the-variants as TableCheck
 use Rattle.table.proofs.LayoutLaws.{number-is, number-cut, many-cons}
-use Rattle.table.proofs.LookupLaws.{then-fine}
+use Rattle.table.proofs.LookupLaws.{item-fine, then-fine}
 use Rattle.table.proofs.CheckLaws.{records-end}
 use Rattle.table.proofs.index.IndexLaws.{full-stands}
 use Rattle.table_check.specs.Shape.{shapeOf, ShapeIs, TableIs}
 use Rattle.table_check.proofs.ShapeLaws.{shape-is}
 use Rattle.passes.specs.NumEdge.{orZero, has}
 use Rattle.passes.specs.Renaming.{gapChar}
+use Rattle.passes.proofs.ChainsAlike.{Each}
 use Rattle.regular.specs.Kinds.{exactly, atMost, atLeast, regularRecord}
 use Rattle.regular.specs.CheckRegular.{ofFourKinds, irregularAt, irregular, regularAnswer, checkRegular}
 use Rattle.regular.specs.declared.RegularCheck.{RegularCheck}
@@ -105,16 +106,21 @@ module _ {s : List ℕ} {n from at left : ℕ} (w : Walk s n from at left) where
 
 -- ---- the answer for a table
 
--- as many records were read as were asked for
-records-count : (n least : ℕ) (s : List ℕ) (at : ℕ) {rs : List Record} {end : ℕ} → readRecords n least s at ≡ Fine rs end → length rs ≡ n
+-- the record may stand in a table, where its code point must be no lower than some number
+abbrev pub Legal : Record → Type 0
+Legal r = (least : ℕ) × (legalRecord least r ≡ true)
+
+-- as many records were read as were asked for, and each may stand
+records-told : (n least : ℕ) (s : List ℕ) (at : ℕ) {rs : List Record} {end : ℕ} → readRecords n least s at ≡ Fine rs end → (length rs ≡ n) × Each Legal rs
 unfolding readRecords
-records-count zero least s at {rs} e = let q : [] ≡ rs = cc in rw (← q)
-records-count (suc n) least s at {rs} e =
+records-told zero least s at {rs} e = let q : [] ≡ rs = cc in rw (← q) (refl, tt)
+records-told (suc n) least s at {rs} e =
     let one = then-fine (item at (legalRecord least) (readRecord s at)) _ e in
     let r = one .value in
     let more = then-fine (readRecords n (r .code-point + 1) s (one .next)) _ (one .rest) in
     let q : r ∷ more .value ≡ rs = cc in
-    rw (← q) (ap suc (records-count n (r .code-point + 1) s (one .next) (more .first)))
+    let told = records-told n (r .code-point + 1) s (one .next) (more .first) in
+    rw (← q) (ap suc (told .0), ((least, item-fine at (legalRecord least) (readRecord s at) (one .first) .1), told .1))
 
 head-count : (s : List ℕ) {n next : ℕ} → item 0 (λ n. true) (number 2 s 0) ≡ Fine n next → n ≡ leAt s 0 2
 unfolding item
@@ -132,10 +138,11 @@ head-next s {n} {next} e = go (decLe 2 (length s))
     go (yes h) = let q = rw (number-is s 0 2 h) at e in cc
     go (no h) = let q = rw (number-cut s 0 2 (omega arith)) at e in let z : _≡_ {A = ℕ} 0 1 = cc in absurd (omega arith)
 
--- the records stand where the table's shape says, and there are as many as the table begins with
+-- the records stand where the table's shape says, there are as many as the table begins with, and each may stand
 pub record Standing (s : List ℕ) (rs : List Record) : Type 0 where
   pub these : rs ≡ recordsAt (shapeOf s .count) s (shapeOf s .records)
   pub counted : length rs ≡ leAt s 0 2
+  pub legal : Each Legal rs
 
 shape-records : (s : List ℕ) {n k a b c d : ℕ} {p f u m : List Text} {rs : List Record} {end : ℕ} → n ≡ leAt s 0 2 → k ≡ 2
     → readList s k ≡ Fine p a → readList s a ≡ Fine f b → readList s b ≡ Fine u c → readList s c ≡ Fine m d → readRecords n 0 s d ≡ Fine rs end → Standing s rs
@@ -143,7 +150,7 @@ shape-records s {n} {k} {a} {b} {c} {d} {p} {f} {u} {m} {rs} {end} n-is two firs
     let here : Fine rs end ≡ Fine (recordsAt n s d) end = sym e ∙ records-end n s d refl (ap endOf e) in
     let same : rs ≡ recordsAt n s d = cc in
     let shape = shape-is s n-is (subst (λ (k : ℕ). readList s k ≡ Fine p a) two first) second third fourth in
-    record { these = same ∙ ap (λ (h : Shape). recordsAt (h .count) s (h .records)) shape; counted = records-count n 0 s d e ∙ n-is }
+    record { these = same ∙ ap (λ (h : Shape). recordsAt (h .count) s (h .records)) shape; counted = records-told n 0 s d e .0 ∙ n-is; legal = records-told n 0 s d e .1 }
 
 pub table-records : (s : List ℕ) {t : Table} {end : ℕ} → readTable s ≡ Fine t end → Standing s (t .records)
 unfolding readTable

@@ -13,3 +13,4 @@ pub mod Makers
 pub mod Without
 pub mod CheckTheorems
 pub mod PlainDemand3
+pub mod NotRefused
