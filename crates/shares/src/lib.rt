@@ -9,6 +9,7 @@ ghost use Rattle.edge.specs.Layout.{nextAt, edgeAt, edgesAt};
 ghost use Rattle.paths.specs.Reading.{Spanned, Spans};
 ghost use Rattle.shares.specs.Answers.{Reduced, fractionOf, pooled, said};
 ghost use Rattle.shares.specs.Listing.{share, join, poolEdges, poolShares};
+use edge::bits;
 use passes::ratio::Ratio;
 use paths::ReadCheck;
 use paths::ReadRefusal;
@@ -32,26 +33,19 @@ pub enum Shares {
     Refused(ReadRefusal),
 }
 
-// The bits of a map: numeric, with a fraction, active.
-const NUMERIC: u16 = 1;
-
-const FRACTION: u16 = 4;
-
-const ACTIVE: u16 = 128;
-
 // What the edge at an offset has to add.
 fn share_at(s: &[u8], at: usize) -> Share
     requires { ⌜ nextAt (now s) at ≤ length (now s) ⌝ }
     ensures { λ r. ⌜ r ≡ said (share (edgeAt (now (s .entry)) at)) ⌝ }
 {
     let e = edge::head::edge_at(s, at);
-    if !edge::bit(e.map, NUMERIC) {
+    if !edge::bit(e.map, bits::NUMERIC) {
         return Share::Nothing;
     }
-    if !edge::bit(e.map, ACTIVE) {
+    if !edge::bit(e.map, bits::ACTIVE) {
         return Share::Nothing;
     }
-    if !edge::bit(e.map, FRACTION) {
+    if !edge::bit(e.map, bits::FRACTION) {
         return Share::Nothing;
     }
     let d = edge::numeric::fields_at(e.map, s, e.fields.0);

@@ -5,9 +5,7 @@ ghost use Prim.Native.Nat.{_+_, _*_, _≤_, _<_};
 ghost use lib.Dec.{leb};
 ghost use Rattle.whole.specs.Whole.{TOP};
 ghost use Rattle.wide.specs.Numbers.{Parts, wideOf, wide, divided, exactQuotient};
-
-// The largest number that is not wide.
-const TOP: u64 = 9007199254740991;
+use whole::TOP;
 
 // 2 ^ 55: where the upper part begins.
 const RADIX: u64 = 36028797018963968;

@@ -8,6 +8,7 @@ ghost use Rattle.grammar.specs.Plain.{Char, digit, utf8};
 ghost use Rattle.writing.specs.Writing.{zeroIf, digitOf, digitPart, group, groupPart, writing};
 ghost use Rattle.writing.specs.Before.{Mark, Before};
 ghost use Rattle.writing.specs.Written.{written, output};
+use whole::TOP;
 
 // What writing a number answers: so many bytes; refusal 10, a number above TOP; refusal 8, an output too short.
 pub enum Written {
@@ -126,7 +127,7 @@ pub fn write_number(n: u64, out: &mut [u8]) -> Written
     ensures answer { λ r. ⌜ r ≡ written n (length (now (out .entry))) ⌝ }
     ensures after { λ _. ⌜ now (out .exit) ≡ output n (now (out .entry)) ⌝ }
 {
-    if n > 9007199254740991 {
+    if n > TOP {
         return Written::AboveTop;
     }
     let mut buf = [0u8; 192];
