@@ -1,7 +1,8 @@
-// Walks listings edge by edge with `walker::nth`, past their end, and prints what it meets: places, map and the length of the txt of each edge, or the end. Then reads edges by their offsets
-// as C does, and prints all their numbers. `stdout` has the expected answers, worked out by hand from the scope.
+// Walks listings past their end, by the number of the edge with `walker::nth`, and from edge to edge with `walker::steps`, and prints what it meets: places, map and the length of the txt of
+// each edge, or the end. Then reads edges by their offsets as C does, and prints all their numbers. `stdout` has the expected answers, worked out by hand from the scope.
 use rilvostam::edges::EDGE_NUMBERS;
 use rilvostam::edges::rilvostam_edge_at;
+use text::Offset;
 use walker::steps::Here;
 
 // What stands at a step.
@@ -20,13 +21,33 @@ fn show(here: Here) {
     }
 }
 
-// The first n steps.
-fn walk(s: &[u8], n: usize) {
+// The first n edges, each looked for from the front.
+fn number(s: &[u8], n: usize) {
     let mut i = 0;
     while i < n {
         show(walker::nth(s, i));
         i += 1;
     }
+}
+
+// The first n steps, from edge to edge.
+fn step(s: &[u8], n: usize) {
+    let mut at = Offset(walker::steps::FIRST);
+    let mut left = n;
+    while 0 < left {
+        show(walker::steps::here_at(s, at));
+        at = walker::steps::behind(s, at);
+        left -= 1;
+    }
+}
+
+// One listing: by number, and then from edge to edge. Behind so many steps the walk stands where the last line says.
+fn walk(s: &[u8], n: usize) {
+    number(s, n);
+    step(s, n);
+    let at = walker::steps::onward(s, n);
+    vectors::say(b"at ", at.0 as u64);
+    io::write_all(1, b"\n");
 }
 
 // Numbers in a row.

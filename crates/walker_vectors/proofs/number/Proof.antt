@@ -1,8 +1,8 @@
--- `walker_vectors::walk` is safe and ends. The measure is how many steps are left.
+-- `walker_vectors::number` is safe and ends. The measure is how many steps are left.
 use Prim.Native.Nat.{_-_}
 use borrow.Author.Needs.{needs}
-use Rattle.walker_vectors.proofs.walk.Statement.{statement}
-use Rattle.walker_vectors.proofs.walk.Tie as tie
+use Rattle.walker_vectors.proofs.number.Statement.{statement}
+use Rattle.walker_vectors.proofs.number.Tie as tie
 
 abbrev Inv-loop : tie.InvT-loop
 Inv-loop s n i₀ i = Unit {0}
@@ -31,7 +31,7 @@ loop-again c = search needs
 returns : tie.Need-returns Inv-loop μ-loop
 returns c = search needs
 
-pub walk-spec : {M : Type 1} → statement M
-walk-spec =
+pub number-spec : {M : Type 1} → statement M
+number-spec =
     tie.close
     (tie.spec Inv-loop μ-loop loop-holds nth-requires show-requires add-i loop-less loop-again returns)
