@@ -1,22 +1,31 @@
 // Replays a list of listings against `nearest_number::nearest_number`: a row of standard input is a line, a listing and a place, a little-endian u64, in hexadecimal, and
 // what is to be seen, with a space before each. What C is told goes to standard output with the same words, one row each.
 use text::Place;
+use vectors::ROWS;
 
-fn say(word: &[u8], n: u64) {
-    io::write_all(1, word);
-    io::print_decimal(1, n);
+fn main() {
+    let mut input = io::large_buffer();
+    let mut ends = [0usize; ROWS];
+    let rows = vectors::read_rows(&mut input, &mut ends);
+    replay(&input, &ends, rows);
 }
 
 fn report(line: &[u8], listing: &[u8], place: u64) {
     let p = Place(place as usize);
     let told = answers::reading::answer_told(nearest_number::nearest_number(line, listing, p));
     if told.status > 0 {
-        say(b"refused ", told.status as u64);
-        say(b" ", told.at);
+        vectors::say(b"refused ", told.status as u64);
+        vectors::say(b" ", told.at);
     } else if told.at == 18446744073709551615 {
         io::write_all(1, b"none");
     } else {
-        say(b"at ", told.at);
+        vectors::say(b"at ", told.at);
+    }
+}
+
+fn replay(input: &[u8], ends: &[usize; ROWS], rows: usize) {
+    for i in 0..rows {
+        answer(vectors::row(input, ends, i));
     }
 }
 
@@ -44,10 +53,7 @@ fn after_listing(line: &[u8], digits: &[u8], row: &[u8]) {
 
 // The rest of a row behind its line.
 fn after_line(line: &[u8], row: &[u8]) {
-    let space = vectors::until(row, 0, b' ');
-    if space < row.len() {
-        after_listing(line, &row[0..space], &row[space + 1..]);
-    }
+    after_listing(line, vectors::word(row), vectors::rest(row));
 }
 
 // Takes a line's digits apart into its buffer, and goes on behind them.
@@ -58,23 +64,5 @@ fn with_line(digits: &[u8], row: &[u8], line: &mut [u8]) {
 
 fn answer(row: &[u8]) {
     let mut line = io::buffer();
-    let space = vectors::until(row, 0, b' ');
-    if space < row.len() {
-        with_line(&row[0..space], &row[space + 1..], &mut line);
-    }
-}
-
-fn replay(s: &[u8]) {
-    let mut at = 0;
-    while at < s.len() {
-        let end = vectors::until(s, at, b'\n');
-        answer(&s[at..end]);
-        at = end + 1;
-    }
-}
-
-fn main() {
-    let mut input = io::large_buffer();
-    let got = io::read_full(0, &mut input);
-    replay(&input[..got]);
+    with_line(vectors::word(row), vectors::rest(row), &mut line);
 }

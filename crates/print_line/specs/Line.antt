@@ -6,19 +6,17 @@
 --     LineIs s r       the line that was read into the buffer s: up to its first newline, or all of it; or bytes on a line, behind which the input ended
 --     Assumes nothing.
 use mathlib.Core.Path.{_≡_}
-use mathlib.Core.Bool.{cond}
-use mathlib.Core.List.{List, [], _∷_}
+use mathlib.Core.List.{List}
 use Prim.Native.Nat.{ℕ, _≤_, _<_}
-use lib.Dec.{eqb}
 use lib.ListN.{length, take}
+use Rattle.vectors.specs.Until.{untilByte}
 use Rattle.print_line.specs.declared.read.Got.{Got}
 use Rattle.print_line.specs.declared.read.Got.the-variants as Got
 use Rattle.print_line.specs.declared.read.Step.{Step}
 use Rattle.print_line.specs.declared.read.Step.the-variants as Step
 
-unfoldable pub untilNewline : List ℕ → List ℕ
-untilNewline [] = []
-untilNewline (b ∷ s) = cond (eqb b 10) [] (b ∷ untilNewline s)
+abbrev pub untilNewline : List ℕ → List ℕ
+untilNewline = untilByte 10
 
 abbrev pub OnALine : List ℕ → Type 0
 OnALine s = untilNewline s ≡ s

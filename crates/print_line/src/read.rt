@@ -25,14 +25,7 @@ pub fn line_end(s: &[u8], from: usize) -> usize
     requires { ⌜ from ≤ length (now s) ⌝ }
     ensures { λ r. ⌜ (r ≡ from + length (untilNewline (drop from (now (s .entry))))) × (r ≤ length (now (s .entry))) ⌝ }
 {
-    let mut at = from;
-    while at < s.len() {
-        if s[at] == b'\n' {
-            return at;
-        }
-        at += 1;
-    }
-    at
+    vectors::until(s, from, b'\n')
 }
 
 // The same within the first bytes of a buffer.

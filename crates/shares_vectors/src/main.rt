@@ -1,18 +1,22 @@
 // Replays a list of listings against `shares::pool_shares`: a row of standard input is a line and a listing in hexadecimal, and what is to be seen,
 // with a space before each. What C is told goes to standard output with the same words, one row each.
-fn say(word: &[u8], n: u64) {
-    io::write_all(1, word);
-    io::print_decimal(1, n);
+use vectors::ROWS;
+
+fn main() {
+    let mut input = io::large_buffer();
+    let mut ends = [0usize; ROWS];
+    let rows = vectors::read_rows(&mut input, &mut ends);
+    replay(&input, &ends, rows);
 }
 
 fn report(line: &[u8], listing: &[u8]) {
     let told = shares::told::shares_told(shares::pool_shares(line, listing));
     if told.status == 0 {
-        say(b"sum ", told.numerator);
-        say(b"/", told.denominator);
+        vectors::say(b"sum ", told.numerator);
+        vectors::say(b"/", told.denominator);
     } else {
-        say(b"refused ", told.status as u64);
-        say(b" ", told.at);
+        vectors::say(b"refused ", told.status as u64);
+        vectors::say(b" ", told.at);
     }
 }
 
@@ -39,23 +43,11 @@ fn with_line(digits: &[u8], row: &[u8], line: &mut [u8]) {
 
 fn answer(row: &[u8]) {
     let mut line = io::buffer();
-    let space = vectors::until(row, 0, b' ');
-    if space < row.len() {
-        with_line(&row[0..space], &row[space + 1..], &mut line);
-    }
+    with_line(vectors::word(row), vectors::rest(row), &mut line);
 }
 
-fn replay(s: &[u8]) {
-    let mut at = 0;
-    while at < s.len() {
-        let end = vectors::until(s, at, b'\n');
-        answer(&s[at..end]);
-        at = end + 1;
+fn replay(input: &[u8], ends: &[usize; ROWS], rows: usize) {
+    for i in 0..rows {
+        answer(vectors::row(input, ends, i));
     }
-}
-
-fn main() {
-    let mut input = io::large_buffer();
-    let got = io::read_full(0, &mut input);
-    replay(&input[..got]);
 }

@@ -2,6 +2,14 @@
 // hexadecimal, a space, and what is wrong with it. The answer goes to standard output with the same words, one line each.
 use table::index::INDEX_SIZE;
 use table::shape::TableCheck;
+use vectors::ROWS;
+
+fn main() {
+    let mut input = io::large_buffer();
+    let mut ends = [0usize; ROWS];
+    let rows = vectors::read_rows(&mut input, &mut ends);
+    replay(&input, &ends, rows);
+}
 
 fn report(table: &[u8]) {
     let mut offs = [0u32; INDEX_SIZE];
@@ -29,17 +37,8 @@ fn answer(line: &[u8]) {
     io::write_all(1, b"\n");
 }
 
-fn replay(s: &[u8]) {
-    let mut at = 0;
-    while at < s.len() {
-        let end = vectors::until(s, at, b'\n');
-        answer(&s[at..end]);
-        at = end + 1;
+fn replay(input: &[u8], ends: &[usize; ROWS], rows: usize) {
+    for i in 0..rows {
+        answer(vectors::row(input, ends, i));
     }
-}
-
-fn main() {
-    let mut input = io::large_buffer();
-    let got = io::read_full(0, &mut input);
-    replay(&input[..got]);
 }

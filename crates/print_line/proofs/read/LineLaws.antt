@@ -1,4 +1,4 @@
--- Laws of `untilNewline` (`specs/Line.antt`): where the line ends seen from an offset, for the loop that looks for a newline; parts of a line; what a read leaves.
+-- Laws of `untilNewline` (`specs/Line.antt`): parts of a line; what a read leaves.
 -- No contract cites this file.
 use mathlib.Core.Path.{_≡_, refl, sym, ap, _∙_}
 use mathlib.Core.Bool.{Bool, true, false, cond}
@@ -10,29 +10,14 @@ use lib.Dec.{eqb}
 use lib.ListN.{length, take, drop, getD, drop-of-length-le, take-append-drop, length-append}
 use lib.Seq.{drop-cons, take-all, take-take, length-take-le}
 use borrow.Author.Tests.{eq-eqb, ne-eqb}
+use Rattle.vectors.specs.Until.{untilByte}
 use Rattle.print_line.specs.declared.read.Got.{Got}
 use Rattle.print_line.specs.declared.read.Got.the-variants as Got
 use Rattle.print_line.specs.Line.{untilNewline, OnALine, LineIs}
 
-abbrev pub endFrom : List ℕ → ℕ → ℕ
-endFrom s at = at + length (untilNewline (drop at s))
-
-module _ (s : List ℕ) (at : ℕ) where
-  pub end-here : at < length s → getD s at 0 ≡ 10 → at ≡ endFrom s at
-  unfolding untilNewline
-  end-here h e = rw (drop-cons s at 0 h, eq-eqb (getD s at 0) 10 e) (omega arith)
-
-  pub end-later : at < length s → (getD s at 0 ≡ 10 → ⊥) → endFrom s at ≡ endFrom s (at + 1)
-  unfolding untilNewline
-  end-later h e = rw (drop-cons s at 0 h, ne-eqb (getD s at 0) 10 e, add-one at) (omega arith)
-
-  pub end-none : length s ≤ at → at ≡ endFrom s at
-  unfolding untilNewline
-  end-none h = rw (drop-of-length-le s h) (omega arith)
-
 -- ---- parts of a line
 pub until-short : (s : List ℕ) → length (untilNewline s) ≤ length s
-unfolding untilNewline
+unfolding untilByte
 until-short [] = omega arith
 until-short (b ∷ s) = go (eqb b 10) (until-short s)
   where
@@ -42,7 +27,7 @@ until-short (b ∷ s) = go (eqb b 10) (until-short s)
 
 -- a part without a newline is passed
 until-behind : (a b : List ℕ) → OnALine a → untilNewline (a ++ b) ≡ a ++ untilNewline b
-unfolding untilNewline
+unfolding untilByte
 until-behind [] b h = refl
 until-behind (x ∷ a) b h = go (eqb x 10) h (until-behind a b)
   where
@@ -52,7 +37,7 @@ until-behind (x ∷ a) b h = go (eqb x 10) h (until-behind a b)
 
 -- a part with a newline decides
 until-within : (a b : List ℕ) → length (untilNewline a) < length a → untilNewline (a ++ b) ≡ untilNewline a
-unfolding untilNewline
+unfolding untilByte
 until-within [] b h = absurd (omega arith)
 until-within (x ∷ a) b h = go (eqb x 10) h (until-within a b)
   where
@@ -63,7 +48,7 @@ until-within (x ∷ a) b h = go (eqb x 10) h (until-within a b)
 
 -- where the line takes all, there is none
 until-all : (a : List ℕ) → length a ≤ length (untilNewline a) → OnALine a
-unfolding untilNewline
+unfolding untilByte
 until-all [] h = refl
 until-all (x ∷ a) h = go (eqb x 10) h (until-all a)
   where
@@ -72,7 +57,7 @@ until-all (x ∷ a) h = go (eqb x 10) h (until-all a)
     go false h more = ap (λ (l : List ℕ). x ∷ l) (more (omega arith))
 
 pub no-byte : (s : List ℕ) → OnALine (take 0 s)
-unfolding untilNewline
+unfolding untilByte
 no-byte s = refl
 
 -- ---- the buffer s has n bytes of the line, and then those up to to; the line ends at end, seen from n
