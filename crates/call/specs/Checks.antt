@@ -13,7 +13,7 @@ use lib.ListN.{length}
 use lib.Dec.{eqb}
 use Rattle.text.specs.Line.{lineCheck}
 use Rattle.text.specs.declared.Offset.{Offset}
-use Rattle.table.specs.Check.{Fine, readTable}
+use Rattle.table.specs.Check.{Fine, badLayout, readTable}
 use Rattle.table.specs.Answers.{tableOf}
 use Rattle.table.specs.declared.shape.Shape.{Shape}
 use Rattle.edge.specs.Check.{checkListing}
@@ -28,7 +28,7 @@ use Rattle.call.specs.declared.checks.CallCheck.the-variants as CallChec
 use Rattle.answers.specs.Answers.{number, place}
 
 unfoldable pub tableRefusal : ℕ → Offset → Refusal
-tableRefusal n at = cond (eqb n 4) (BadTable at) (BadContent at)
+tableRefusal n at = cond (eqb n badLayout) (BadTable at) (BadContent at)
 
 pub record Accepted (line table given : List ℕ) (n : ℕ) (h : Shape) (count : ℕ) : Type 0 where
   pub ready : Ready line table h n

@@ -4,6 +4,7 @@ ghost use Rattle.call.specs.Checks.{tableRefusal, RestIs, CallCheckIs, C
 use answers::Refusal;
 use edge::ListingCheck;
 use table::index::INDEX_SIZE;
+use table::shape::BAD_LAYOUT;
 use table::shape::Shape;
 use table::shape::TableCheck;
 use text::LineCheck;
@@ -19,7 +20,7 @@ pub enum CallCheck {
 fn table_refusal(number: u8, at: Offset) -> Refusal
     ensures { λ r. ⌜ r ≡ tableRefusal number at ⌝ }
 {
-    if number == 4 {
+    if number == BAD_LAYOUT {
         return Refusal::BadTable(at);
     }
     Refusal::BadContent(at)

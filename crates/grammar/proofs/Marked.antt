@@ -52,7 +52,9 @@ two m u n v = Edges ((0, m, some u) ∷ (m, n, some v) ∷ [])
 unfoldable pub nines : ℕ → List ℕ
 nines n = replicate n 0x4E5D
 
-pub marked :
+-- the marked lines and the empty one, for any way to read a line of characters
+abbrev pub Examples : (List Char → Answer) → Type 0
+Examples read =
     (read (digit 一 ∷ ten 百 ∷ digit 零 ∷ digit 五 ∷ []) ≡ one 4 105)
     × (read (digit 二 ∷ ten 千 ∷ digit 五 ∷ []) ≡ one 3 2005)
     × (read (digit 一 ∷ large 万 ∷ digit 五 ∷ []) ≡ one 3 15000)
@@ -67,10 +69,13 @@ pub marked :
     × (read (digit 零 ∷ ten 百 ∷ []) ≡ two 1 0 2 100)
     × (read (ten 十 ∷ ten 十 ∷ []) ≡ two 1 10 2 10)
     × (read [] ≡ Edges [])
+
+pub marked :
+    Examples read
     × (read (digit 九 ∷ digit 零 ∷ digit 零 ∷ digit 七 ∷ digit 一 ∷ digit 九 ∷ digit 九 ∷ digit 二 ∷ digit 五 ∷ digit 四 ∷ digit 七 ∷ digit 四 ∷ digit 零 ∷ digit 九 ∷ digit 九 ∷ digit 一 ∷ []) ≡ one 16 9007199254740991)
     × (read (digit 九 ∷ digit 零 ∷ digit 零 ∷ digit 七 ∷ digit 一 ∷ digit 九 ∷ digit 九 ∷ digit 二 ∷ digit 五 ∷ digit 四 ∷ digit 七 ∷ digit 四 ∷ digit 零 ∷ digit 九 ∷ digit 九 ∷ digit 二 ∷ []) ≡ Refused7 0)
 unfolding read
-marked = (refl, refl, refl, refl, refl, refl, refl, refl, refl, refl, refl, refl, refl, refl, refl, refl)
+marked = ((refl, refl, refl, refl, refl, refl, refl, refl, refl, refl, refl, refl, refl, refl), refl, refl)
 
 -- "in pass order": 九 × 15, 千, x, 九 × 17 is refused at 17, where D1 makes the first value above TOP, though G1 makes one that starts before it
 pub pass-order : answer (encodes (nines 15 ++ (0x5343 ∷ 0x78 ∷ nines 17))) ≡ Refused7 17

@@ -4,7 +4,7 @@ use Prim.Native.Char.{code}
 use mathlib.Core.Path.{_≡_, refl}
 use mathlib.Core.List.{List, [], _∷_, map}
 use Rattle.grammar.specs.Plain.{Char, digit, ten, large, 零, 一, 二, 三, 四, 五, 六, 七, 八, 九, 十, 百, 千, 万, 億, 兆, plain, plainRecord}
-use Rattle.grammar.proofs.Marked.{Answer, Edges, answerWith, one, two}
+use Rattle.grammar.proofs.Marked.{Answer, answerWith, Examples}
 use Rattle.grammar.specs.OtherCharacters.{recordOf, tableOf}
 use Rattle.grammar.specs.Formal.{formalCode, formal}
 
@@ -19,20 +19,6 @@ characters = (refl, refl, refl)
 abbrev pub read : List Char → Answer
 read w = answerWith formal (map formalCode w)
 
-pub marked :
-    (read (digit 一 ∷ ten 百 ∷ digit 零 ∷ digit 五 ∷ []) ≡ one 4 105)
-    × (read (digit 二 ∷ ten 千 ∷ digit 五 ∷ []) ≡ one 3 2005)
-    × (read (digit 一 ∷ large 万 ∷ digit 五 ∷ []) ≡ one 3 15000)
-    × (read (digit 一 ∷ large 万 ∷ digit 零 ∷ digit 五 ∷ []) ≡ one 4 10005)
-    × (read (digit 零 ∷ large 万 ∷ digit 五 ∷ []) ≡ one 3 5000)
-    × (read (ten 百 ∷ digit 零 ∷ ten 十 ∷ []) ≡ one 3 110)
-    × (read (large 億 ∷ large 万 ∷ []) ≡ one 2 100010000)
-    × (read (digit 二 ∷ ten 百 ∷ large 万 ∷ []) ≡ one 3 2000000)
-    × (read (digit 一 ∷ digit 二 ∷ ten 百 ∷ []) ≡ one 3 1200)
-    × (read (digit 一 ∷ ten 百 ∷ digit 一 ∷ ten 百 ∷ []) ≡ two 2 100 4 100)
-    × (read (large 万 ∷ large 億 ∷ []) ≡ two 1 10000 2 100000000)
-    × (read (digit 零 ∷ ten 百 ∷ []) ≡ two 1 0 2 100)
-    × (read (ten 十 ∷ ten 十 ∷ []) ≡ two 1 10 2 10)
-    × (read [] ≡ Edges [])
+pub marked : Examples read
 unfolding answerWith formal tableOf recordOf plain plainRecord
 marked = (refl, refl, refl, refl, refl, refl, refl, refl, refl, refl, refl, refl, refl, refl)

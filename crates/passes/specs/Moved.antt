@@ -6,27 +6,11 @@ use Prim.Native.Nat.{ℕ, _+_}
 use Rattle.table.specs.Table.{Text}
 use Rattle.passes.specs.NumEdge.{NumEdge}
 
-abbrev pub moved : ℕ → NumEdge → NumEdge
-moved n e = record {
-  start = n + e .start;
-  end = n + e .end;
-  type = e .type;
-  txt = e .txt;
-  orig-txt = e .orig-txt;
-  value = e .value;
-  fraction = e .fraction;
-  base = e .base;
-  mult = e .mult;
-  script = e .script;
-  large-power = e .large-power;
-  active = e .active;
-  value-s = e .value-s;
-}
-
-abbrev pub withText : Text → NumEdge → NumEdge
-withText x e = record {
-  start = e .start;
-  end = e .end;
+-- the edge e from start to end, over the characters x
+abbrev pub placed : ℕ → ℕ → Text → NumEdge → NumEdge
+placed start end x e = record {
+  start = start;
+  end = end;
   type = e .type;
   txt = e .txt;
   orig-txt = x;
@@ -39,3 +23,9 @@ withText x e = record {
   active = e .active;
   value-s = e .value-s;
 }
+
+abbrev pub moved : ℕ → NumEdge → NumEdge
+moved n e = placed (n + e .start) (n + e .end) (e .orig-txt) e
+
+abbrev pub withText : Text → NumEdge → NumEdge
+withText x e = placed (e .start) (e .end) x e

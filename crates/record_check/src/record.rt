@@ -21,6 +21,8 @@ use table::bits;
 use table::digit::legal_digit;
 use table::layout::TextAt;
 use table::layout::text_at;
+use table::shape::BAD_CONTENT;
+use table::shape::BAD_LAYOUT;
 use text::Offset;
 
 // What checking a record gives: its code point and the offset behind it, or the refusal's number.
@@ -114,24 +116,24 @@ pub fn check_record(s: &[u8], at: usize, least: u64) -> RecordCheck
     ensures { λ r. ⌜ RecordCheckIs (now (s .entry)) at least r ⌝ }
 {
     if s.len() < 5 {
-        return RecordCheck::Refused(4);
+        return RecordCheck::Refused(BAD_LAYOUT);
     }
     if s.len() - 5 < at {
-        return RecordCheck::Refused(4);
+        return RecordCheck::Refused(BAD_LAYOUT);
     }
     let code = fields::u32_at(s, at);
     let map = s[at + 4];
     if 128 <= map {
-        return RecordCheck::Refused(4);
+        return RecordCheck::Refused(BAD_LAYOUT);
     }
     match fields_look(s, code, map, at + 5, least) {
         Look::Field(legal, next) => {
             if legal {
                 RecordCheck::Next(code, next)
             } else {
-                RecordCheck::Refused(5)
+                RecordCheck::Refused(BAD_CONTENT)
             }
         }
-        Look::Fault => RecordCheck::Refused(4),
+        Look::Fault => RecordCheck::Refused(BAD_LAYOUT),
     }
 }

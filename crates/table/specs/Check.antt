@@ -1,6 +1,7 @@
 -- Which bytes are a table (01, causes 4 and 5): the items in order, the first faulty one decides. Definitions only.
 --     Checked A     what checking items gives: their value with the offset behind them, or the refusal's number and offset
---     item          one item: its layout (4) before its content (5), at the offset where it begins
+--     badLayout, badContent    the numbers of the two refusals
+--     item          one item: its layout before its content, at the offset where it begins
 --     legalMark, legalRecord   the content of a string of a list, and of a record whose code point must be at least `least`
 --     readTable s   the table whose bytes are s, or the refusal
 use Prim.Native.Nat.{ℕ, zero, suc, _+_}
@@ -21,6 +22,13 @@ abbrev pub digit : Text
 digit = 100 ∷ 105 ∷ 103 ∷ 105 ∷ 116 ∷ []
 
 -- ---- items
+-- 01's numbers of a table's refusals: its layout, or bytes left over; its content
+abbrev pub badLayout : ℕ
+badLayout = 4
+
+abbrev pub badContent : ℕ
+badContent = 5
+
 pub data Checked (A : Type 0) : Type 0 where
   Fine : A → ℕ → Checked A
   Refused : ℕ → ℕ → Checked A
@@ -30,8 +38,8 @@ thenItem (Fine a next) k = k a next
 thenItem (Refused number at) k = Refused number at
 
 unfoldable pub item : {A : Type 0} → ℕ → (A → Bool) → Field A → Checked A
-item at legal (Is a next) = cond (legal a) (Fine a next) (Refused 5 at)
-item at legal Fault = Refused 4 at
+item at legal (Is a next) = cond (legal a) (Fine a next) (Refused badContent at)
+item at legal Fault = Refused badLayout at
 
 -- ---- content
 -- of a field that may be absent
@@ -113,4 +121,4 @@ readTable s =
     thenItem (readRecords n 0 s at) (λ records at.
     cond (eqb at (length s))
     (Fine (record { percentage-markers = percentage; fraction-connectors = connector; plus-signs = plus; minus-signs = minus; records = records }) at)
-    (Refused 4 at)))))))
+    (Refused badLayout at)))))))

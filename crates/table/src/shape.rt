@@ -1,6 +1,11 @@
 // What the check of a table answers (crate `table_check`): the table's shape, or a refusal.
 use text::Offset;
 
+// 01's numbers of a table's refusals: by its layout, by its content.
+pub const BAD_LAYOUT: u8 = 4;
+
+pub const BAD_CONTENT: u8 = 5;
+
 // What checking items gives: the offset behind them, or the refusal's number and offset.
 pub enum ItemsCheck {
     End(usize),

@@ -16,6 +16,8 @@ use table::index::RecordRun;
 use table::index::index_record;
 use table::layout::TextAt;
 use table::layout::text_at;
+use table::shape::BAD_CONTENT;
+use table::shape::BAD_LAYOUT;
 use table::shape::ItemsCheck;
 
 fn mark_item(s: &[u8], at: usize) -> ItemsCheck
@@ -26,10 +28,10 @@ fn mark_item(s: &[u8], at: usize) -> ItemsCheck
             if legal_mark(s, p) {
                 ItemsCheck::End(next)
             } else {
-                ItemsCheck::Refused(5, at)
+                ItemsCheck::Refused(BAD_CONTENT, at)
             }
         }
-        TextAt::Fault => ItemsCheck::Refused(4, at),
+        TextAt::Fault => ItemsCheck::Refused(BAD_LAYOUT, at),
     }
 }
 
@@ -58,7 +60,7 @@ pub fn list_end(s: &[u8], at: usize) -> ItemsCheck
     ensures { λ r. ⌜ r ≡ endOf (readList (now (s .entry)) at) ⌝ }
 {
     if s.len() <= at {
-        return ItemsCheck::Refused(4, at);
+        return ItemsCheck::Refused(BAD_LAYOUT, at);
     }
     let n = s[at] as usize;
     texts_end(s, at + 1, n)

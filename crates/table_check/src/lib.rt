@@ -6,6 +6,7 @@ ghost use Rattle.table_check.specs.Shape.{TableIs};
 use crate::items::list_end;
 use crate::items::records_end;
 use table::index::INDEX_SIZE;
+use table::shape::BAD_LAYOUT;
 use table::shape::ItemsCheck;
 use table::shape::Shape;
 use table::shape::TableCheck;
@@ -17,7 +18,7 @@ pub fn check_table(s: &[u8], offs: &mut [u32; INDEX_SIZE], entries: &mut usize) 
     ensures indexed { λ r. ⌜ TableIndexed (now (s .entry)) (now (offs .exit)) (now (entries .exit)) r ⌝ }
 {
     if s.len() < 2 {
-        return TableCheck::Refused(4, Offset(0));
+        return TableCheck::Refused(BAD_LAYOUT, Offset(0));
     }
     let count = fields::u16_at(s, 0) as usize;
     match list_end(s, 2) {
@@ -38,7 +39,7 @@ pub fn check_table(s: &[u8], offs: &mut [u32; INDEX_SIZE], entries: &mut usize) 
                         ItemsCheck::Refused(number, at) => TableCheck::Refused(number, Offset(at)),
                         ItemsCheck::End(end) => {
                             if end != s.len() {
-                                return TableCheck::Refused(4, Offset(end));
+                                return TableCheck::Refused(BAD_LAYOUT, Offset(end));
                             }
                             TableCheck::Table(Shape {
                                 percentages: 2,
