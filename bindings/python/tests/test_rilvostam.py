@@ -1,0 +1,131 @@
+"""Each call of the binding once, with an answer that is known, and each kind of refusal that it can meet."""
+
+import unittest
+from fractions import Fraction
+
+import rilvostam
+from rilvostam import Number, Refused
+
+
+class Lines(unittest.TestCase):
+    def test_the_marked_lines(self):
+        self.assertEqual(rilvostam.numbers_of("一万五"), [Number(15000, 0, 3)])
+        self.assertEqual(rilvostam.numbers_of("一万零五"), [Number(10005, 0, 4)])
+
+    def test_a_percentage(self):
+        edges = rilvostam.add_numbers("百分之五")
+        self.assertEqual([(e.start, e.end, e.txt) for e in edges if not e.numeric], [(0, 4, "5%")])
+        self.assertEqual([e.active for e in edges if e.numeric], [False, False])
+
+    def test_numbers_in_a_line_longest_first(self):
+        self.assertEqual(rilvostam.numbers_of("甲三十二乙五"), [Number(32, 1, 4), Number(5, 5, 6)])
+        self.assertEqual(rilvostam.numbers_of("甲乙"), [])
+
+    def test_the_formal_table(self):
+        self.assertEqual(rilvostam.numbers_of("壹萬伍", rilvostam.formal_table()), [Number(15000, 0, 3)])
+
+    def test_fields_of_an_edge(self):
+        edge = rilvostam.add_numbers("五")[0]
+        self.assertEqual((edge.type, edge.txt, edge.orig_txt), ("digit", "5", "五"))
+        self.assertEqual((edge.value, edge.base, edge.script, edge.active), (5.0, 1, "CJK", True))
+
+    def test_given_edges_stand_first(self):
+        given = bytes.fromhex("0100" "0000" "0000" "0100" "0100" "7a" "0100" "71")
+        edge = rilvostam.add_numbers("五", edges=given)[0]
+        self.assertEqual((edge.type, edge.txt, edge.numeric), ("z", "q", False))
+
+    def test_singles(self):
+        self.assertEqual([e.active for e in rilvostam.add_numbers_without_singles("万")], [False])
+        self.assertEqual([e.active for e in rilvostam.add_numbers_without_singles("千")], [True])
+
+    def test_refusals(self):
+        cases = [
+            (2, 3, lambda: rilvostam.add_numbers("五".encode() + b"\xff")),
+            (3, 768, lambda: rilvostam.add_numbers("五" * 257)),
+            (4, 0, lambda: rilvostam.add_numbers("五", b"")),
+            (6, 0, lambda: rilvostam.add_numbers("五", edges=b"")),
+            (7, 0, lambda: rilvostam.add_numbers("九" * 17)),
+        ]
+        for number, at, call in cases:
+            with self.assertRaises(Refused) as refused:
+                call()
+            self.assertEqual((refused.exception.number, refused.exception.at), (number, at))
+            self.assertTrue(refused.exception.name)
+            self.assertIn(" ", str(refused.exception))
+
+
+class Reading(unittest.TestCase):
+    def setUp(self):
+        self.listing = rilvostam.add_numbers("三分之一と六分之一")
+
+    def test_best_edge_and_neighbors(self):
+        whole = self.listing.best_edge(0, 4)
+        self.assertEqual((whole.start, whole.end, whole.fraction), (0, 4, (1, 3)))
+        self.assertEqual(self.listing.right_neighbor(0), whole)
+        self.assertEqual(self.listing.left_neighbor(4), whole)
+        self.assertIsNone(self.listing.best_edge(4, 5))
+
+    def test_nearest(self):
+        self.assertEqual(self.listing.nearest_number(4).end, 4)
+        self.assertIsNone(rilvostam.add_numbers("と").nearest_number(0))
+
+    def test_path_and_shown_text(self):
+        self.assertEqual([e.txt for e in self.listing.path()], ["1/3", "1/6"])
+        self.assertEqual(self.listing.shown_text(0), "1/3")
+        self.assertEqual(self.listing.shown_text(4), "と")
+
+    def test_shares(self):
+        self.assertEqual(self.listing.shares(), Fraction(1, 2))
+        self.assertEqual(rilvostam.add_numbers("").shares(), 0)
+
+    def test_refusals(self):
+        with self.assertRaises(Refused) as refused:
+            self.listing.best_edge(0, 10)
+        self.assertEqual((refused.exception.number, refused.exception.name), (9, "BAD_PLACE"))
+        with self.assertRaises(Refused):
+            rilvostam.Listing("五", b"\x01\x00").nearest_number(0)
+        with self.assertRaises(OverflowError):
+            self.listing.best_edge(-1, 1)
+
+
+class Numerals(unittest.TestCase):
+    def test_write_and_read(self):
+        self.assertEqual(rilvostam.write_number(10010000), "一千零一万")
+        for n in (0, 10, 10005, 15000, rilvostam.TOP):
+            self.assertEqual(rilvostam.read_field(rilvostam.write_number(n)), n)
+        self.assertIsNone(rilvostam.read_field("十十"))
+        with self.assertRaises(Refused) as refused:
+            rilvostam.write_number(rilvostam.TOP + 1)
+        self.assertEqual(refused.exception.number, 10)
+
+    def test_weights(self):
+        self.assertEqual(rilvostam.weights("一万五"), [10000, 1000])
+        self.assertEqual(rilvostam.weights("一一一一"), [1000, 100, 10, 1])
+        self.assertEqual(rilvostam.weights("と"), [])
+
+    def test_worn(self):
+        self.assertEqual(rilvostam.worn_character("□十")[0], ("一", 10))
+        for line in ("十", "□□", "□と"):
+            with self.assertRaises(Refused) as refused:
+                rilvostam.worn_character(line)
+            self.assertEqual(refused.exception.number, 12)
+
+    def test_proof_sheet(self):
+        rows = list(rilvostam.proof_sheet())
+        self.assertEqual(len(rows), 50577)
+        self.assertEqual(rows[:2], [("零", 0), ("一", 1)])
+        self.assertEqual(list(rilvostam.proof_sheet(50576)), rows[-1:])
+
+
+class Tables(unittest.TestCase):
+    def test_tables(self):
+        for table in (rilvostam.plain_table(), rilvostam.formal_table()):
+            self.assertEqual(rilvostam.check_table(table), 16)
+            self.assertIsNone(rilvostam.regular_table(table))
+        with self.assertRaises(Refused) as refused:
+            rilvostam.check_table(rilvostam.plain_table() + b"\0")
+        self.assertEqual((refused.exception.number, refused.exception.at), (4, 582))
+
+
+if __name__ == "__main__":
+    unittest.main()
