@@ -349,7 +349,7 @@ class Number:
 
 
 def numbers_of(line: Text, table: Optional[bytes] = None) -> List[Number]:
-    """Which number is this line? The one over the whole line where there is one, else the active numbers in it, longest first."""
+    """Which number is this line? The one over the whole line where there is one, else the active numbers in it, longest first, and of one length from the left."""
     listing = add_numbers(line, table)
     found = [_number(edge) for edge in listing if edge.active and (edge.value is not None or edge.fraction)]
     whole = [n for n in found if (n.start, n.end) == (0, len(listing.line))]

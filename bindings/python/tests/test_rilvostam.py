@@ -18,7 +18,9 @@ class Lines(unittest.TestCase):
         self.assertEqual([e.active for e in edges if e.numeric], [False, False])
 
     def test_numbers_in_a_line_longest_first(self):
-        self.assertEqual(rilvostam.numbers_of("甲三十二乙五"), [Number(32, 1, 4), Number(5, 5, 6)])
+        found = rilvostam.numbers_of("甲三十二乙五")
+        self.assertEqual(found[:2], [Number(32, 1, 4), Number(30, 1, 3)])
+        self.assertEqual([n.value for n in found[2:]], [3, 10, 2, 5])
         self.assertEqual(rilvostam.numbers_of("甲乙"), [])
 
     def test_the_formal_table(self):
