@@ -21,7 +21,10 @@
 extern "C" {
 #endif
 
+/* The version of this header; as one number 10000 * major + 100 * minor + patch. rilvostam_version() is that of the library that is linked. */
 #define RILVOSTAM_VERSION "0.1.0"
+#define RILVOSTAM_VERSION_NUMBER 100
+uint32_t rilvostam_version(void);
 
 /* Refusals, with what *at says then. */
 enum {

@@ -21,6 +21,13 @@ static size_t list(const char *line) {
     return (size_t)at;
 }
 
+static void version(void) {
+    unsigned major, minor, patch;
+    CHECK(sscanf(RILVOSTAM_VERSION, "%u.%u.%u", &major, &minor, &patch) == 3);
+    CHECK(RILVOSTAM_VERSION_NUMBER == 10000 * major + 100 * minor + patch);
+    CHECK(rilvostam_version() == RILVOSTAM_VERSION_NUMBER);
+}
+
 static void words(void) {
     CHECK(strcmp(rilvostam_in_words(0).name, "OK") == 0);
     CHECK(strcmp(rilvostam_in_words(RILVOSTAM_NOT_UTF8).name, "NOT_UTF8") == 0);
@@ -119,6 +126,7 @@ static void numerals(void) {
 }
 
 int main(void) {
+    version();
     words();
     edges();
     numbers();

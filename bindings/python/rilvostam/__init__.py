@@ -37,6 +37,7 @@ __all__ = [
     "proof_sheet",
     "read_field",
     "regular_table",
+    "version",
     "weights",
     "worn_character",
     "write_number",
@@ -78,6 +79,11 @@ class Refused(ValueError):
         self.number = number
         self.name = name
         self.at = at
+
+
+def version() -> int:
+    """The version of the library that is loaded, as one number: 10000 * major + 100 * minor + patch."""
+    return function("version")()
 
 
 Text = Union[str, bytes]

@@ -20,6 +20,7 @@ EDGE_NUMBERS = 19
 _CALL = _BYTES * 3 + _OUT * 2 + [_AT]
 _READ = _BYTES * 2
 _FUNCTIONS: Dict[str, List[Any]] = {
+    "version": [],
     "add_numbers": _CALL,
     "add_numbers_without_singles": _CALL,
     "best_edge": _READ + [_U64, _U64, _U8, _AT],

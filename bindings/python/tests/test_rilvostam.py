@@ -7,6 +7,12 @@ import rilvostam
 from rilvostam import Number, Refused
 
 
+class Version(unittest.TestCase):
+    def test_the_modules_is_the_librarys(self):
+        major, minor, patch = map(int, rilvostam.__version__.split("."))
+        self.assertEqual(rilvostam.version(), 10000 * major + 100 * minor + patch)
+
+
 class Lines(unittest.TestCase):
     def test_the_marked_lines(self):
         self.assertEqual(rilvostam.numbers_of("一万五"), [Number(15000, 0, 3)])

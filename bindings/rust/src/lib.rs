@@ -23,6 +23,12 @@ pub use sheet::{ROW, SHEET_ROWS, proof_sheet};
 pub use tables::{TABLE, check_table, formal_table, formal_table_into, irregular_record, plain_table, plain_table_into};
 pub use which::{Number, Which, which_number};
 
+/// The version of the library that is linked, as one number: 10000 * major + 100 * minor + patch. It is that of this crate where both are of one release.
+pub fn version() -> u32 {
+    // SAFETY: it takes nothing, and reads nothing.
+    unsafe { c::rilvostam_version() }
+}
+
 /// Bytes of work space that a call needs.
 pub const WORK: usize = 65_536;
 
@@ -43,6 +49,7 @@ pub const NO_EDGES: &[u8] = &[0, 0];
 
 mod c {
     unsafe extern "C" {
+        pub fn rilvostam_version() -> u32;
         #[rustfmt::skip]
         pub fn rilvostam_add_numbers(
             line: *const u8, line_len: usize, table: *const u8, table_len: usize, edges: *const u8, edges_len: usize,

@@ -301,3 +301,9 @@ fn worn_characters() {
     }
     assert_eq!(out, [7; WORN]);
 }
+
+#[test]
+fn version_is_the_crates() {
+    let parts: Vec<u32> = env!("CARGO_PKG_VERSION").split('.').map(|part| part.parse().unwrap()).collect();
+    assert_eq!(rilvostam::version(), parts[0] * 10000 + parts[1] * 100 + parts[2]);
+}

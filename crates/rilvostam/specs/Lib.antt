@@ -4,3 +4,4 @@ pub mod EdgeNumbers
 pub mod Numerals
 pub mod TableTold
 pub mod Tables
+pub mod Version

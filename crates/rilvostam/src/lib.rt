@@ -7,6 +7,7 @@ pub mod nearest; // nearest.rt: the number nearest to a place (02, S-14)
 pub mod edges; // edges.rt: the edge at an offset of a listing
 pub mod checks; // checks.rt: the check of a table
 pub mod tables; // tables.rt: the plain and the formal table
+pub mod version; // version.rt: the version of the library
 
 ghost use mathlib.Core.Path.{_≡_};
 ghost use lib.ListN.{length};
