@@ -87,8 +87,9 @@ static inline rilvostam_words rilvostam_in_words(uint32_t answer) {
 /* No edge. */
 #define RILVOSTAM_NONE UINT64_MAX
 
-/* The edges of a line as a listing: the given ones, then those of its numbers. `table` says which characters count; `edges` is a listing of regular edges
- * (no edges: the two bytes 00 00). What `work` held before has no influence, and what it holds afterwards means nothing.
+/* The edges of a line as a listing: the given ones, then those of its numbers. `table` says which characters count; its markers and signs stand in the line in either
+ * width (U+FF01 to U+FF5E count as U+0021 to U+007E there). `edges` is a listing of regular edges (no edges: the two bytes 00 00).
+ * What `work` held before has no influence, and what it holds afterwards means nothing.
  * 0: *at is the length of the listing in out. */
 uint32_t rilvostam_add_numbers(const uint8_t *line, size_t line_len, const uint8_t *table, size_t table_len,
                                const uint8_t *edges, size_t edges_len, uint8_t *work, size_t work_len,

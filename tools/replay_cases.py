@@ -1,5 +1,6 @@
 #!/usr/bin/env python3
-"""Writes the cases that the program `replay` of the gate runs, and the old program's answers: crates/replay/stdin and crates/replay/stdout.
+"""Writes the cases that the program `replay` of the gate runs, and their answers: crates/replay/stdin and crates/replay/stdout. First the old program's, for lines and tables
+without wide characters (02, S-3), then tools/model's for cases with them: 02's own and WIDE_COUNT random ones.
 
 usage: tools/replay_cases.py [COUNT of cases a family, default 500] [SEED, default 7]
        tools/replay_cases.py differ ANSWERS    says which case is the first (from 0) whose answer in this file, as `replay` wrote it, is not the stored one
@@ -17,6 +18,7 @@ import sys
 here = pathlib.Path(__file__).parent
 sys.path.insert(0, str(here / "model"))
 import model  # noqa: E402
+import wide  # noqa: E402
 
 # the characters of 02's formal table (S-11) for those of the plain one
 FORMAL = dict(zip(map(ord, "一二三四五六七八九十百千万"), map(ord, "壹貳參肆伍陸柒捌玖拾佰仟萬")))
@@ -24,6 +26,7 @@ FORMAL_LINES = "壹萬伍 壹萬零伍 佰分之伍 百分之伍 零 捌佰零�
 GATE = here.parent / "crates/replay"
 ORACLE = here / "oracle/target/release/oracle"
 MOST = 900
+WIDE_COUNT = 60
 
 
 def frames(data):
@@ -73,11 +76,8 @@ def record_size(data, at):
     return reader.at - at
 
 
-def main():
-    if sys.argv[1:2] == ["differ"]:
-        return differ(sys.argv[2])
-    count, seed = [int(a) for a in sys.argv[1:]] + [500, 7][len(sys.argv) - 1 :]
-    stdin, stdout, last, written = bytearray(), bytearray(), None, 0
+def old_answers(count, seed):
+    """Cases of every family without wide characters, with the old program's answers in 01's order."""
     for family in ("limits", "plain", "numerals", "marks", "tables", "given", "faults", "formal"):
         name = "numerals" if family == "formal" else family
         cases = subprocess.run([ORACLE, "gen", "--family", name, "--seed", str(seed), "--count", str(count)], check=True, capture_output=True).stdout
@@ -85,15 +85,31 @@ def main():
         answers = subprocess.run([ORACLE, "answer"], input=cases, check=True, capture_output=True).stdout
         parts = frames(cases)
         for line, table, edges, answer in zip(parts, parts, parts, frames(answers)):
-            if not table or len(answer) > MOST or len(table) + len(edges) + len(line) > 3000:
+            if not table or len(answer) > MOST or len(table) + len(edges) + len(line) > 3000 or wide.holds_wide(line, table):
                 continue
             if len(answer) != 5:
                 assert model.add_numbers(line, table, edges, False) == answer, line
                 answer = model.add_numbers(line, table, edges, True)
-            new = b"" if table == last else table
-            stdin += struct.pack("<HHH", len(line), len(new), len(edges)) + line + new + edges
-            stdout += struct.pack("<I", len(answer)) + answer
-            last, written = table, written + 1
+            yield line, table, edges, answer
+
+
+def wide_answers(seed):
+    for case in wide.cases(WIDE_COUNT, seed):
+        answer = model.add_numbers(*case, True)
+        if len(answer) <= MOST:
+            yield *case, answer
+
+
+def main():
+    if sys.argv[1:2] == ["differ"]:
+        return differ(sys.argv[2])
+    count, seed = [int(a) for a in sys.argv[1:]] + [500, 7][len(sys.argv) - 1 :]
+    stdin, stdout, last, written = bytearray(), bytearray(), None, 0
+    for line, table, edges, answer in itertools.chain(old_answers(count, seed), wide_answers(seed)):
+        new = b"" if table == last else table
+        stdin += struct.pack("<HHH", len(line), len(new), len(edges)) + line + new + edges
+        stdout += struct.pack("<I", len(answer)) + answer
+        last, written = table, written + 1
     (GATE / "stdin").write_bytes(stdin)
     (GATE / "stdout").write_bytes(stdout)
     print(written, "cases", file=sys.stderr)

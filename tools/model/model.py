@@ -6,7 +6,8 @@ usage: model.py CASES ANSWERS             the files that `oracle gen` and `oracl
 
 Names are those of crates/passes, paths, lattice and numbers, specs/: a reader can hold each function against its definition.
 It answers what `oracle answer` answers: the listing sorted by start, end, type and txt, or 5 bytes for refusal 7 or 8. Cases that the oracle refuses
-2 to 6 are passed over. It proves nothing: it looks for a definition that says something else than the Rust does.
+2 to 6 are passed over. It proves nothing: it looks for a definition that says something else than the Rust does. Wide characters are folded as 02's S-3 says, and the Rust
+doesn't: `wide.py --without` leaves cases with them out.
 """
 import struct
 import sys
@@ -226,9 +227,14 @@ def best(edges, asked):
 
 
 # ---- crates/numbers/specs
+def fold(c):
+    """02, S-3: what a character counts as where a marker or sign is compared with the line."""
+    return c - 0xFEE0 if 0xFF01 <= c <= 0xFF5E else c
+
+
 def stands_at(w, place, mark):
-    mark = chars(mark)
-    return w[place : place + len(mark)] == mark
+    mark = [fold(c) for c in chars(mark)]
+    return [fold(c) for c in w[place : place + len(mark)]] == mark
 
 
 def longest(w, place, marks):

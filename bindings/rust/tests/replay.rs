@@ -61,5 +61,5 @@ fn replay() {
         }
         count += 1;
     }
-    assert_eq!((count, answers), (2186, &[][..]));
+    assert_eq!((count, answers), (2177, &[][..]));
 }

@@ -1,37 +1,25 @@
 -- A marker that stands at a place ends within the line. No contract cites this file. Assumes nothing.
-use mathlib.Core.Path.{_≡_, ap, _∙_}
-use mathlib.Core.Bool.{true, cond}
-use mathlib.Core.List.{List, [], _∷_, _++_}
+use mathlib.Core.Bool.{cond}
+use mathlib.Core.List.{List, [], _∷_}
 use Prim.Native.Nat.{ℕ, _+_, _≤_}
 use native.Mathlib.Omega.{arith}
-use lib.ListN.{length, take, drop, length-append, length-drop, take-append-drop}
+use lib.ListN.{length}
 use lib.Dec.{eqb, leb}
 use Rattle.text.specs.Text.{chars}
-use Rattle.text.proofs.BytesLaws.{same-true}
 use Rattle.text.proofs.RowLaws.{cond-cases}
 use Rattle.table.specs.Table.{Text, Table}
 use Rattle.numbers.specs.Fractions.{standsAt, longest, larger, Marker, markerAt}
+use Rattle.numbers.proofs.FoldLaws.{stands-fits}
 use Rattle.fraction_choices.specs.Decision.{sizeOf}
 
-length-of-take : (k : ℕ) (l : List ℕ) → length (take k l) ≤ length l
-length-of-take k l = let a = ap length (take-append-drop k l) in let b = length-append (take k l) (drop k l) in omega arith
-
 module _ (w : List ℕ) (p : ℕ) (h : p ≤ length w) where
-  stands-fits : (m : Text) → standsAt w p m ≡ true → p + length (chars m) ≤ length w
-  unfolding standsAt
-  stands-fits m e =
-      let a = ap length (same-true (take (length (chars m)) (drop p w)) (chars m) e) in
-      let b = length-of-take (length (chars m)) (drop p w) in
-      let c = length-drop p w in
-      omega arith
-
   longest-fits : (ms : List Text) → p + longest w p ms ≤ length w
   unfolding longest
   longest-fits [] = omega arith
   longest-fits (m ∷ ms) =
       let i = longest-fits ms in
       cond-cases (λ (z : ℕ). p + z ≤ length w) (leb (cond (standsAt w p m) (length (chars m)) 0) (longest w p ms)) (λ e. i)
-      (λ e. cond-cases (λ (z : ℕ). p + z ≤ length w) (standsAt w p m) (stands-fits m) (λ t. omega arith))
+      (λ e. cond-cases (λ (z : ℕ). p + z ≤ length w) (standsAt w p m) (stands-fits w p m h) (λ t. omega arith))
 
   pub marker-fits : (t : Table) → p + sizeOf (markerAt t w p) ≤ length w
   unfolding markerAt

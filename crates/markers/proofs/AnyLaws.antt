@@ -1,5 +1,5 @@
 -- Laws of texts that are looked for at all places of a line (`specs/Marks.antt`), for this crate's proofs and its callers'.
--- In order: a text's last byte; one text, place by place; the texts of a list, one at a time; both lists of markers; well-formed lists.
+-- In order: one text, place by place; the texts of a list, one at a time; both lists of markers; well-formed lists.
 use mathlib.Core.Path.{_≡_, refl, sym, ap, _∙_}
 use mathlib.Core.Bool.{Bool, true, false, not, _||_}
 use mathlib.Core.List.{List, _∷_}
@@ -20,18 +20,7 @@ use Rattle.table.specs.declared.shape.Shape.{Shape}
 use Rattle.table.proofs.LayoutLaws.{many-nil, many-fault, many-cons, list-texts, number-cut}
 use Rattle.pass_list.specs.StoredEdge.{cons}
 use Rattle.numbers.specs.Fractions.{standsAt}
-use Rattle.markers.specs.Marks.{bytesAt, NotBefore, standsFrom, anyStands, marked, Formed}
-
--- ---- a text whose last byte is not the line's before an offset does not stand before it
-pub last-other : (s : List ℕ) (end : ℕ) (m : Text) → 0 < length m → not (eqb (getD s (end - 1) 0) (getD m (length m - 1) 0)) ≡ true → NotBefore s end m
-last-other s end m h d at e = go (bytesAt s at m) refl
-  where
-    go : (b : Bool) → bytesAt s at m ≡ b → bytesAt s at m ≡ false
-    go false q = q
-    go true q =
-        let z : at + (length m - 1) ≡ end - 1 = omega arith in
-        let last = ap (λ (x : List ℕ). getD x (length m - 1) 0) (same-true _ m q) in
-        absurd (eqb-false _ _ (not-true _ d) (sym (ap (λ (i : ℕ). getD s i 0) z) ∙ sym (getD-drop at s (length m - 1) 0) ∙ sym (getD-take (length m) _ (length m - 1) 0 (omega arith)) ∙ last))
+use Rattle.markers.specs.Marks.{bytesAt, standsFrom, anyStands, marked, Formed}
 
 -- ---- one text: what the places from p on say is what all n say
 module _ (w : List ℕ) (n : ℕ) (m : Text) where

@@ -3,11 +3,11 @@
 use mathlib.Core.Path.{_≡_, refl, sym, ap, _∙_}
 use mathlib.Core.Bool.{Bool, true, false, cond, true≢false}
 use mathlib.Core.List.{List, [], _∷_, _++_, append-assoc}
-use Prim.Native.Nat.{ℕ, zero, suc, _+_, _-_, _≤_, _<_}
+use Prim.Native.Nat.{ℕ, zero, suc, _+_, _-_, _%_, _≤_, _<_}
 use native.Mathlib.Omega.{arith}
 use native.Mathlib.Decide.{decLe}
-use lib.ListN.{length, take, drop, getD, take-append-drop, length-take, length-drop}
-use lib.Seq.{take-append-seam}
+use lib.ListN.{length, take, drop, getD, take-append-drop, length-append, length-map}
+use lib.Seq.{take-append-seam, drop-append-seam, getD-drop, getD-take}
 use lib.Dec.{leb, ltb, eqb}
 use borrow.Author.Tests.{le-leb, lt-leb, eq-eqb, ne-eqb, leb-true, ltb-true}
 use Rattle.fields.specs.Part.{part}
@@ -15,11 +15,13 @@ use Rattle.text.specs.Bytes.{same}
 use Rattle.text.specs.Line.{walked}
 use Rattle.text.specs.declared.Walked.{Walked}
 use Rattle.text.proofs.line.LineLaws.{count-whole}
-use Rattle.text.specs.Text.{chars, left, wellFormed, encodes, offsetOf}
-use Rattle.text.proofs.BytesLaws.{same-refl, same-true, same-lengths}
+use Rattle.text.specs.Sequence.{encode}
+use Rattle.text.specs.Text.{chars, left, wellFormed, encodes, offsetOf, partOf}
+use Rattle.text.proofs.BytesLaws.{same-refl, same-true}
+use Rattle.text.proofs.EncodeLaws.{encode-pos}
 use Rattle.text.proofs.RowLaws.{and-true}
-use Rattle.text.proofs.TextLaws.{text-split, well-formed-split, chars-append, encodes-append}
-use Rattle.text.proofs.PlaceLaws.{offset-part, reached-place}
+use Rattle.text.proofs.TextLaws.{text-split, well-formed-split, chars-append, chars-scalars, encodes-append, encodes-chars, encodes-well-formed, scalars-drop}
+use Rattle.text.proofs.PlaceLaws.{offset-part, part-bytes}
 use Rattle.table.specs.Table.{Text, Table}
 use Rattle.table.specs.Layout.{Field, Is, Fault, number, text, textsAt, listAt}
 use Rattle.table.specs.Check.{Fine, Refused, item, legalMark, readTexts, readList, readRecords, readTable}
@@ -32,7 +34,10 @@ use Rattle.numbers.specs.Ready.{Ready}
 use Rattle.numbers.specs.Fractions.{standsAt, larger, longest, longer, markerAt}
 use Rattle.numbers.specs.Fractions as numbers
 use Rattle.numbers.specs.Signs.{endsAt}
-use Rattle.markers.specs.Marks.{bytesAt, NotBefore, sizeAt, longestAt, signOf, Formed}
+use Rattle.numbers.specs.Folded.{fold, folded}
+use Rattle.numbers.proofs.FoldLaws.{folded-scalars, folded-drop, stands-counts}
+use Rattle.markers.specs.Marks.{foldedBytes, bytesAt, LastDiffers, sizeAt, longestAt, signOf, Formed}
+use Rattle.markers.proofs.FoldedBytesLaws.{folded-encodes, lastOf, last-at, low-counts}
 use Rattle.markers.specs.declared.Sign.the-variants as Sign
 
 -- ---- a test and another that say the same
@@ -63,19 +68,34 @@ module _ (t m : List ℕ) (h : wellFormed m ≡ true) where
       (λ e. rw (by-chars (same-true _ _ e)) (same-refl (chars m)))
       (λ e. rw (by-bytes (same-true _ _ e)) (same-refl m))
 
--- it stands at the offset of a place as at the place
-pub stands-place : (s : List ℕ) (p : ℕ) (m : List ℕ) → p ≤ length (chars s) → wellFormed m ≡ true → bytesAt s (offsetOf s p) m ≡ standsAt (chars s) p m
-unfolding standsAt
-stands-place s p m h f = stands-front (drop (offsetOf s p) s) m f ∙ ap (λ (x : List ℕ). same (take (length (chars m)) x) (chars m)) (sym (reached-place s p h .behind))
+-- it stands at the offset of a place of a well-formed line as at the place: the bytes of both count as those of the characters that they count as
+module _ (s : List ℕ) (w : wellFormed s ≡ true) (p : ℕ) (m : List ℕ) where
+  behind-place : drop (offsetOf s p) s ≡ encodes (drop p (chars s))
+  behind-place =
+      ap (drop (offsetOf s p)) (well-formed-split s w ∙ ap encodes (sym (take-append-drop p (chars s))) ∙ encodes-append (take p (chars s)) (drop p (chars s)))
+      ∙ drop-append-seam (encodes (take p (chars s))) (encodes (drop p (chars s)))
 
-pub stands-told : (s : List ℕ) (p : ℕ) (m : List ℕ) → p ≤ length (chars s) → wellFormed m ≡ true → {b : Bool} {at : ℕ} → at ≡ offsetOf s p → b ≡ bytesAt s at m → b ≡ standsAt (chars s) p m
-stands-told s p m h f q e = e ∙ ap (λ (x : ℕ). bytesAt s x m) q ∙ stands-place s p m h f
+  pub stands-place : wellFormed m ≡ true → bytesAt s (offsetOf s p) m ≡ standsAt (chars s) p m
+  unfolding standsAt
+  stands-place f =
+      let rest = folded (drop p (chars s)) in
+      let mark = folded (chars m) in
+      let rest-scalars = folded-scalars (drop p (chars s)) (scalars-drop p (chars s) (chars-scalars s)) in
+      let mark-scalars = folded-scalars (chars m) (chars-scalars m) in
+      let rest-is : foldedBytes (drop (offsetOf s p) s) ≡ encodes rest = ap foldedBytes behind-place ∙ folded-encodes (drop p (chars s)) (scalars-drop p (chars s) (chars-scalars s)) in
+      let mark-is : foldedBytes m ≡ encodes mark = ap foldedBytes (well-formed-split m f) ∙ folded-encodes (chars m) (chars-scalars m) in
+      rw (rest-is, mark-is)
+      (stands-front (encodes rest) (encodes mark) (encodes-well-formed mark mark-scalars)
+      ∙ rw (encodes-chars rest rest-scalars, encodes-chars mark mark-scalars, length-map (chars m) fold, folded-drop p (chars s)))
+
+  pub stands-told : wellFormed m ≡ true → {b : Bool} {at : ℕ} → at ≡ offsetOf s p → b ≡ bytesAt s at m → b ≡ standsAt (chars s) p m
+  stands-told f q e = e ∙ ap (λ (x : ℕ). bytesAt s x m) q ∙ stands-place f
 
 -- ---- the longest of a list
-pub longest-place : (s : List ℕ) (p : ℕ) → p ≤ length (chars s) → (ms : List Text) → Formed ms → longestAt s (offsetOf s p) ms ≡ longest (chars s) p ms
+pub longest-place : (s : List ℕ) → wellFormed s ≡ true → (p : ℕ) (ms : List Text) → Formed ms → longestAt s (offsetOf s p) ms ≡ longest (chars s) p ms
 unfolding longestAt longest sizeAt
-longest-place s p h [] nil = refl
-longest-place s p h (m ∷ ms) (cons f fs) = rw (stands-place s p m h f, longest-place s p h ms fs)
+longest-place s w p [] nil = refl
+longest-place s w p (m ∷ ms) (cons f fs) = rw (stands-place s w p m f, longest-place s w p ms fs)
 
 -- ---- the larger of two lengths
 module _ (a b : ℕ) where
@@ -99,14 +119,6 @@ larger-assoc a b c = go (decLe a b) (decLe b c)
     go (no h) (no k) =
         ap (λ (x : ℕ). larger x c) (larger-lt a b (omega arith)) ∙ larger-lt a c (omega arith)
         ∙ sym (ap (larger a) (larger-lt b c (omega arith)) ∙ larger-lt a b (omega arith))
-
--- ---- one text at an offset
-module _ (s : List ℕ) (at : ℕ) (m : Text) where
-  pub stands-short : length s - at < length m → false ≡ bytesAt s at m
-  stands-short h = same-lengths (take (length m) (drop at s)) m (λ e. omega (arith, simp (length-take, length-drop) at e))
-
-  pub stands-part : {b : Bool} → b ≡ same (take (at + length m - at) (drop at s)) m → b ≡ bytesAt s at m
-  stands-part e = let k : at + length m - at ≡ length m = omega arith in e ∙ rw k
 
 -- a text of the table's bytes, as the code cuts it out
 pub cut-is : (s : List ℕ) (at n : ℕ) → take (at + n - at) (drop at s) ≡ part s at n
@@ -243,7 +255,7 @@ pub marker-is : (line table : List ℕ) (h : Shape) {n : ℕ} → Ready line tab
 unfolding markerAt tableOf
 marker-is line table h r p k e f g =
     let m = table-marks table (r .checked) in
-    rw (f, g, e, longest-place line p k (listAt table (h .percentages)) (all-formed _ (m .percentages)), longest-place line p k (listAt table (h .connectors)) (all-formed _ (m .connectors)))
+    rw (f, g, e, longest-place line (r .formed) p (listAt table (h .percentages)) (all-formed _ (m .percentages)), longest-place line (r .formed) p (listAt table (h .connectors)) (all-formed _ (m .connectors)))
 
 -- ---- a sign before a place
 module _ (w : List ℕ) (p : ℕ) (m : Text) {k : ℕ} (e : k ≡ length (chars m)) where
@@ -260,27 +272,43 @@ module _ (w : List ℕ) (p : ℕ) (m : Text) {k : ℕ} (e : k ≡ length (chars 
     pub sign-other : b ≡ false → Sign.NoSign ≡ signOf w p m
     sign-other t = rw (is-there, t)
 
--- it is none, where the sign's bytes do not stand before the place's offset
-pub short-before : (s : List ℕ) (end : ℕ) (m : Text) → end < length m → NotBefore s end m
-short-before s end m h at e = absurd (omega arith)
+-- it is none, where its last byte and the last before the place differ in their lowest five bits
+some-encodes : (cs : List ℕ) → 0 < length cs → 0 < length (encodes cs)
+unfolding encodes
+some-encodes [] h = absurd (omega arith)
+some-encodes (c ∷ cs) h = omega (arith, encode-pos c, length-append (encode c) (encodes cs))
 
-module _ (s : List ℕ) (p : ℕ) (m : Text) (h : p ≤ length (chars s)) (f : wellFormed m ≡ true) where
-  -- the bytes of a sign that ends at the place
-  sign-bytes : length (chars m) ≤ p → standsAt (chars s) (p - length (chars m)) m ≡ true → offsetOf s (p - length (chars m)) + length m ≡ offsetOf s p
-  unfolding standsAt
-  sign-bytes l t =
+module _ (s : List ℕ) (p : ℕ) (m : Text) (f : wellFormed m ≡ true) where
+  some-chars : 0 < length m → 0 < length (chars m)
+  unfolding encodes
+  some-chars h = go (chars m) (well-formed-split m f)
+    where
+      go : (cs : List ℕ) → m ≡ encodes cs → 0 < length cs
+      go [] e = absurd (omega (arith, ap length e))
+      go (c ∷ cs) e = omega arith
+
+  last-low : 0 < length m → length (chars m) ≤ p → standsAt (chars s) (p - length (chars m)) m ≡ true → getD s (offsetOf s p - 1) 0 % 32 ≡ getD m (length m - 1) 0 % 32
+  last-low n l t =
       let a = p - length (chars m) in
-      let e : p - a ≡ length (chars m) = omega arith in
-      let part : encodes (take (p - a) (drop a (chars s))) ≡ m = rw e (ap encodes (same-true _ _ t) ∙ sym (well-formed-split m f)) in
-      sym (offset-part s a p (omega arith) ∙ ap (λ (x : Text). offsetOf s a + length x) part)
+      let size : p - a ≡ length (chars m) = omega arith in
+      let same-counts : folded (take (p - a) (drop a (chars s))) ≡ folded (chars m) = rw size (stands-counts (chars s) a m t) in
+      let part = partOf s a p in
+      let long = some-encodes (take (p - a) (drop a (chars s))) (omega (arith, some-chars n, sym (length-map (take (p - a) (drop a (chars s))) fold) ∙ ap length same-counts ∙ length-map (chars m) fold)) in
+      let end = offset-part s a p (omega arith) in
+      let between : length part ≡ offsetOf s p - offsetOf s a = omega (arith, end) in
+      let bytes : take (length part) (drop (offsetOf s a) s) ≡ part = ap (λ (k : ℕ). take k (drop (offsetOf s a) s)) between ∙ part-bytes s a p (omega arith) in
+      let place : offsetOf s a + (length part - 1) ≡ offsetOf s p - 1 = omega (arith, end) in
+      let last : getD s (offsetOf s p - 1) 0 ≡ getD part (length part - 1) 0 =
+      ap (λ (i : ℕ). getD s i 0) (sym place) ∙ sym (getD-drop (offsetOf s a) s (length part - 1) 0)
+      ∙ sym (getD-take (length part) (drop (offsetOf s a) s) (length part - 1) 0 (omega arith)) ∙ ap (λ (x : List ℕ). getD x (length part - 1) 0) bytes in
+      let mark : getD m (length m - 1) 0 ≡ lastOf 0 (encodes (chars m)) = last-at m ∙ ap (lastOf 0) (well-formed-split m f) in
+      rw (last, last-at part, mark) (low-counts (take (p - a) (drop a (chars s))) (chars m) same-counts 0 0 refl)
 
-  pub sign-not-before : {end : ℕ} → end ≡ offsetOf s p → NotBefore s end m → Sign.NoSign ≡ signOf (chars s) p m
+  pub sign-not-before : {end : ℕ} → end ≡ offsetOf s p → LastDiffers s end m → Sign.NoSign ≡ signOf (chars s) p m
   sign-not-before {end} e n = go (endsAt (chars s) p m) refl
     where
       go : (b : Bool) → endsAt (chars s) p m ≡ b → Sign.NoSign ≡ signOf (chars s) p m
       go false t = rw t
       go true t =
           let k = and-true (leb (length (chars m)) p) (standsAt (chars s) (p - length (chars m)) m) t in
-          let l = leb-true (length (chars m)) p (k .0) in
-          let there = stands-place s (p - length (chars m)) m (omega arith) f ∙ k .1 in
-          absurd (true≢false (sym there ∙ n (offsetOf s (p - length (chars m))) (sign-bytes l (k .1) ∙ sym e)))
+          absurd (n .1 (ap (λ (x : ℕ). getD s (x - 1) 0 % 32) e ∙ last-low (n .0) (leb-true (length (chars m)) p (k .0)) (k .1)))

@@ -1,4 +1,5 @@
 -- What is shown of the definition of the call.
+pub mod FoldLaws
 pub mod Passed
 pub mod Accepted
 pub mod Demand3

@@ -1,5 +1,5 @@
 -- Fractions and percentages (01, "The rest of the call"). Definitions only. w is the line's code points, es the lattice.
---     standsAt w p m       the marker or sign m stands in the line at place p
+--     standsAt w p m       the marker or sign m stands in the line at place p, wide characters counted as the ASCII that they are of
 --     longest w p ms       how many characters the longest of the markers ms has that stand at place p; 0 where none does
 --     Marker, markerAt     the marker that counts at a place: its kind and its length in characters
 --     Outcome              what a marker leads to: a new edge, with the indices of the edges that it uses
@@ -22,10 +22,11 @@ use Rattle.paths.specs.Best.{Best, leftNeighbor, rightNeighbor}
 use Rattle.lattice.specs.Lattice.{addAll, turnOff}
 use Rattle.edge.specs.Write.{regular}
 use Rattle.numbers.specs.Listed.{wholeValue}
+use Rattle.numbers.specs.Folded.{folded}
 
--- comparing a marker or sign with the line: character by character
+-- comparing a marker or sign with the line, character by character: "U+FF01 to U+FF5E count as U+0021 to U+007E, on either side" (02, S-3)
 unfoldable pub standsAt : List ℕ → ℕ → Text → Bool
-standsAt w p m = same (take (length (chars m)) (drop p w)) (chars m)
+standsAt w p m = same (take (length (chars m)) (drop p (folded w))) (folded (chars m))
 
 abbrev pub larger : ℕ → ℕ → ℕ
 larger a b = cond (leb a b) b a

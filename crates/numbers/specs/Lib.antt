@@ -1,6 +1,7 @@
 -- The definitions of `numbers`.
 -- The crate itself: The definitions of the call, in the order in which they are read.
 pub mod Listed
+pub mod Folded
 pub mod Fractions
 pub mod Signs
 pub mod Separators

@@ -1,26 +1,23 @@
 -- Laws of the decision at one place (`specs/Decision.antt`). No contract cites this file.
--- In order: the indices that the tables keep; what is made; that the choice may stand; the steps of the code; both of a marker; where a marker ends. Assumes nothing.
+-- In order: the indices that the tables keep; what is made; that the choice may stand; the steps of the code; both of a marker. Assumes nothing.
 use mathlib.Core.Path.{_≡_, refl, sym, ap, _∙_}
 use mathlib.Core.Bool.{Bool, true, false, cond, _&&_, not}
 use mathlib.Core.List.{List, [], _∷_}
 use mathlib.Core.Option.{Option, none, some}
 use Prim.Native.Nat.{ℕ, zero, suc, _+_, _-_, _≤_, _<_}
 use native.Mathlib.Omega.{arith}
-use lib.ListN.{length, getD, take, drop, length-take, length-drop}
-use lib.Dec.{eqb, leb}
+use lib.ListN.{length, getD}
+use lib.Dec.{eqb}
 use borrow.Author.Tests.{eqb-false, not-true, not-false}
-use Rattle.text.specs.Text.{chars}
-use Rattle.text.proofs.BytesLaws.{same-true}
 use Rattle.text.proofs.RowLaws.{cond-cases, and-true}
 use Rattle.whole.specs.Decimal.{decimal}
-use Rattle.table.specs.Table.{Text}
 use Rattle.edge.specs.Edge.{Edge}
 use Rattle.lattice.specs.Kept.{noEdge}
 use Rattle.paths.specs.declared.Query.{Query}
 use Rattle.paths.specs.Best.{Best, best, numbered, leftNeighbor, rightNeighbor}
 use Rattle.paths.proofs.BestLaws.{Each, OfBest, best-holds}
 use Rattle.numbers.specs.Listed.{wholeValue}
-use Rattle.numbers.specs.Fractions.{standsAt, larger, longest, Outcome, made, nothing, isNumeric, percentEdge, fractionEdge, otherwise, both, withValues, between, marked}
+use Rattle.numbers.specs.Fractions.{Outcome, made, nothing, isNumeric, percentEdge, fractionEdge, otherwise, both, withValues, between, marked}
 use Rattle.fraction_choices.specs.declared.decision.Form.the-variants.{Percent, Fraction, TxtPercent}
 use Rattle.fraction_choices.specs.declared.decision.Choice.{Choice}
 use Rattle.fraction_choices.specs.Choice.{outcomeOf, Two, Valid}
@@ -164,22 +161,3 @@ module _ (percent : Bool) (es : List Edge) (lefts rights : List ℕ) (p n : ℕ)
 
   pub marked-valid : Valid es r
   marked-valid = rw (r-is, o-is) (valid-between es percent (otherwiseOf percent es y) (valid-otherwise es percent y right-below) x y left-below right-below)
-
--- ---- a marker ends within the line
-standing-within : (w : List ℕ) (p : ℕ) (m : Text) → p ≤ length w → standsAt w p m ≡ true → p + length (chars m) ≤ length w
-unfolding standsAt
-standing-within w p m h t =
-    let e = ap length (same-true (take (length (chars m)) (drop p w)) (chars m) t) in
-    let k = length-take (length (chars m)) (drop p w) in
-    let d = length-drop p w in
-    omega (arith, e, k, d)
-
-longest-within : (w : List ℕ) (p : ℕ) (ms : List Text) → p ≤ length w → p + longest w p ms ≤ length w
-unfolding longest
-longest-within w p [] h = omega arith
-longest-within w p (m ∷ ms) h =
-    larger-within (cond (standsAt w p m) (length (chars m)) 0) (longest w p ms)
-    (cond-cases (λ (n : ℕ). p + n ≤ length w) (standsAt w p m) (standing-within w p m h) (λ t. omega arith)) (longest-within w p ms h)
-  where
-    larger-within : (a b : ℕ) → p + a ≤ length w → p + b ≤ length w → p + larger a b ≤ length w
-    larger-within a b x y = cond-cases (λ (n : ℕ). p + n ≤ length w) (leb a b) (λ t. y) (λ t. x)

@@ -26,7 +26,7 @@ is-offset c = let a = c .before .before .before .before in a .pre .1 .at (a .arg
 
 it-stands : (c : tie.After-stands) → let e = c .before .before in let a = e .before .before .before .before in
     c .stands .result ≡ standsAt (chars (a .args .line .now)) (a .args .here .0 - e .before .walk .result .count) (a .args .sign .now)
-it-stands c = let e = c .before .before in stands-told _ _ _ (back e) (e .before .before .before .before .pre .3) (is-offset e) (c .stands .ensures)
+it-stands c = let e = c .before .before in stands-told _ (e .before .before .before .before .pre .1 .formed) _ _ (e .before .before .before .before .pre .3) (is-offset e) (c .stands .ensures)
 
 walk-requires : tie.Need-walk-requires
 walk-requires c κs = search needs

@@ -1,6 +1,7 @@
 -- Laws of the offsets of places (`numbers/specs/Ready.antt`, `pass_list/specs/Edges.antt`), for this crate's proofs and its callers'.
 -- In order: offsets rise; the part of a line between two places; the table of offsets as a walk fills it.
 use mathlib.Core.Path.{_≡_, sym, ap, _∙_}
+use mathlib.Core.Bool.{true}
 use mathlib.Core.List.{List, []}
 use Prim.Native.Nat.{ℕ, _+_, _-_, _≤_, _<_}
 use native.Mathlib.Omega.{arith}
@@ -8,7 +9,7 @@ use lib.ListN.{length, drop, getD, set}
 use lib.Seq.{getD-set-same, getD-set-other}
 use borrow.Author.Count.{below-more}
 use Rattle.fields.specs.Part.{part}
-use Rattle.text.specs.Text.{chars, offsetOf}
+use Rattle.text.specs.Text.{chars, wellFormed, offsetOf}
 use Rattle.text.proofs.PlaceLaws.{Reached, reached-count, offset-part, part-bytes}
 use Rattle.pass_list.specs.Edges.{between}
 use Rattle.numbers.specs.Ready.{Offsets}
@@ -39,5 +40,5 @@ module _ (s : List ℕ) (n at : ℕ) (r : Reached s n at) (offs : List ℕ) wher
       (getD-set-same offs n at 0 h ∙ sym (r .offset))
 
   -- no character is left: the place is the end
-  pub filled-end : chars (drop at s) ≡ [] → Filled s offs (n + 1) → Offsets s offs
-  filled-end e f = record { at = λ p h. f p (omega (arith, reached-count s n at r, ap length e)) }
+  pub filled-end : wellFormed s ≡ true → chars (drop at s) ≡ [] → Filled s offs (n + 1) → Offsets s offs
+  filled-end w e f = record { formed = w; at = λ p h. f p (omega (arith, reached-count s n at r, ap length e)) }

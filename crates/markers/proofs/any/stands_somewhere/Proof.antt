@@ -27,7 +27,7 @@ is-offset c = c .before .before .before .before .pre .0 .at (c .before .loop .p)
 
 it-stands : (c : tie.After-stands Inv-loop μ-loop) → let i = c .before .before in let a = i .before .before .before .before in
     c .stands .result ≡ standsAt (chars (a .args .line .now)) (i .before .loop .p) (a .args .marker .now)
-it-stands c = let i = c .before .before in stands-told _ _ _ (inside i) (i .before .before .before .before .pre .3) (is-offset i) (c .stands .ensures)
+it-stands c = let i = c .before .before in stands-told _ (i .before .before .before .before .pre .0 .formed) _ _ (i .before .before .before .before .pre .3) (is-offset i) (c .stands .ensures)
 
 loop-holds : tie.Need-loop-holds Inv-loop μ-loop
 loop-holds c = none-start _ _ _

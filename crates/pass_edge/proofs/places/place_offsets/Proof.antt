@@ -68,7 +68,7 @@ element-write-offs-2 c = omega (arith, bound (c .before))
 returns : tie.Need-returns Inv-loop μ-loop
 returns c =
     let l = c .before in
-    filled-end _ _ _ (l .loop .inv .0) _ (reached-end _ (l .before .before .pre .0) _ _ (l .loop .inv .0) (c .loop-test .left)) (filled l)
+    filled-end _ _ _ (l .loop .inv .0) _ (l .before .before .pre .0) (reached-end _ (l .before .before .pre .0) _ _ (l .loop .inv .0) (c .loop-test .left)) (filled l)
 
 pub place-offsets-spec : {M : Type 1} → statement M
 place-offsets-spec =
