@@ -95,6 +95,12 @@ uint32_t rilvostam_add_numbers(const uint8_t *line, size_t line_len, const uint8
                                const uint8_t *edges, size_t edges_len, uint8_t *work, size_t work_len,
                                uint8_t *out, size_t out_len, uint64_t *at);
 
+/* The same, but some singles may not stand: edges one place long that no pass joined are inactive in the listing where they are above 1000 or one of 兩参參伍陆陸什, and so
+ * are their copies with a separator before the txt. The refusals are the same, and so are the bytes of the listing but for those active bits. */
+uint32_t rilvostam_add_numbers_without_singles(const uint8_t *line, size_t line_len, const uint8_t *table, size_t table_len,
+                                               const uint8_t *edges, size_t edges_len, uint8_t *work, size_t work_len,
+                                               uint8_t *out, size_t out_len, uint64_t *at);
+
 /* The best edge from place start to place end: the first of its class in listing order. A skip other than 0: no numeric edge.
  * 0: *at is the offset of the edge in the listing, or RILVOSTAM_NONE. The neighbours, the path and the text shown below take their edges so too. */
 uint32_t rilvostam_best_edge(const uint8_t *line, size_t line_len, const uint8_t *listing, size_t listing_len,

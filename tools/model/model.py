@@ -17,6 +17,7 @@ from math import gcd
 TOP = 2**53 - 1
 FIVE = ("D1", "G1", "G2", "G3", "G4")
 GAPS = ("零".encode(), "〇".encode())
+BARRED = [c.encode() for c in "兩参參伍陆陸什"]
 
 
 # ---- what is lent
@@ -196,8 +197,11 @@ def listed_edge(e):
     return regular(e["start"], e["end"], e["type"], e["txt"]) | {"num": {f: e[f] for f in fields}}
 
 
+def key(e):
+    return e["start"], e["end"], e["txt"], e["type"]
+
+
 def add_all(edges, more):
-    key = lambda e: (e["start"], e["end"], e["txt"], e["type"])
     there = {key(e) for e in edges}
     edges = list(edges)
     for e in more:
@@ -285,11 +289,29 @@ def is_digit(c):
     return unicodedata.category(chr(c)) == "Nd" or 0x11F50 <= c <= 0x11F59 or 0x1E4F0 <= c <= 0x1E4F9
 
 
-def separate(edges):
+def apart(edges, some):
+    """Which of some edges are apart in the lattice."""
     ends = {e["end"] for e in edges if e["txt"] and is_digit(chars(e["txt"])[-1])}
-    apart = [e["num"] and e["txt"] and is_digit(chars(e["txt"])[0]) and e["start"] in ends for e in edges]
-    copies = [e | {"txt": (b" " if e["num"]["fraction"] else "·".encode()) + e["txt"]} for e, a in zip(edges, apart) if a]
-    return add_all([inactive(e) if a else e for e, a in zip(edges, apart)], copies)
+    return [e["num"] and e["txt"] and is_digit(chars(e["txt"])[0]) and e["start"] in ends for e in some]
+
+
+def copies(edges, some):
+    return [e | {"txt": (b" " if e["num"]["fraction"] else "·".encode()) + e["txt"]} for e, a in zip(some, apart(edges, some)) if a]
+
+
+def separate(edges):
+    return add_all([inactive(e) if a else e for e, a in zip(edges, apart(edges, edges))], copies(edges, edges))
+
+
+def barred(e):
+    return one_place(e) and (e["orig"] in BARRED or or_zero(e["value"]) > 1000)
+
+
+def s12_singles(edges, fifth):
+    """The lattice after F1 and the stage of 02, S-12; edges is the lattice before F1."""
+    singles = [listed_edge(e) for e in fifth if barred(e)]
+    silenced = {key(e) for e in singles + copies(edges, singles)}
+    return [inactive(e) if key(e) in silenced else e for e in separate(edges)]
 
 
 def fallback(edges, w):
@@ -332,7 +354,7 @@ def above_at(added):
     return next((e["start"] for e in added if e["value"] > TOP), None)
 
 
-def add_numbers(line, table, given, ordered):
+def add_numbers(line, table, given, ordered, without_singles=False):
     w, (lists, records) = chars(line), read_table(table)
     passed, added = five_lists(records, w)
     first, edges = passed[0], passed[-1]
@@ -340,7 +362,7 @@ def add_numbers(line, table, given, ordered):
         return struct.pack("<BI", 7, above)
     lattice = add_all(add_all([], read_given(given)), map(listed_edge, first + added))
     lattice = add_all(fractions(lists, w, lattice), signs(lists, w, edges))
-    lattice = separate(lattice)
+    lattice = s12_singles(lattice, edges) if without_singles else separate(lattice)
     lattice = add_all(lattice, fallback(lattice, w))
     if not ordered:
         lattice = sorted(lattice, key=lambda e: (e["start"], e["end"], e["type"], e["txt"]))

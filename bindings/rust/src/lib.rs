@@ -56,6 +56,11 @@ mod c {
             work: *mut u8, work_len: usize, out: *mut u8, out_len: usize, at: *mut u64,
         ) -> u32;
         #[rustfmt::skip]
+        pub fn rilvostam_add_numbers_without_singles(
+            line: *const u8, line_len: usize, table: *const u8, table_len: usize, edges: *const u8, edges_len: usize,
+            work: *mut u8, work_len: usize, out: *mut u8, out_len: usize, at: *mut u64,
+        ) -> u32;
+        #[rustfmt::skip]
         pub fn rilvostam_best_edge(
             line: *const u8, line_len: usize, listing: *const u8, listing_len: usize, start: u64, end: u64, skip: u8, at: *mut u64,
         ) -> u32;
@@ -123,6 +128,43 @@ pub fn add_numbers_into(line: &[u8], table: &[u8], edges: &[u8], work: &mut [u8]
     // SAFETY: each pointer is that of a slice with its length, none is null, and the mutable ones overlap nothing.
     let status = unsafe {
         c::rilvostam_add_numbers(
+            line.as_ptr(),
+            line.len(),
+            table.as_ptr(),
+            table.len(),
+            edges.as_ptr(),
+            edges.len(),
+            work.as_mut_ptr(),
+            work.len(),
+            out.as_mut_ptr(),
+            out.len(),
+            &mut at,
+        )
+    };
+    answer(status, at)
+}
+
+/// The listing in which some singles may not stand: the same bytes, but edges one place long that no pass joined are inactive where they are above 1000 or one of
+/// 兩参參伍陆陸什, and so are their copies with a separator. [`add_numbers_without_singles_into`] allocates nothing.
+pub fn add_numbers_without_singles(line: &str, table: &[u8], edges: &[u8]) -> Result<Vec<u8>, Refusal> {
+    let (mut work, mut out) = (vec![0; WORK], vec![0; OUT]);
+    let length = add_numbers_without_singles_into(line.as_bytes(), table, edges, &mut work, &mut out)?;
+    out.truncate(length);
+    Ok(out)
+}
+
+/// The same into lent buffers, as [`add_numbers_into`].
+pub fn add_numbers_without_singles_into(
+    line: &[u8],
+    table: &[u8],
+    edges: &[u8],
+    work: &mut [u8],
+    out: &mut [u8],
+) -> Result<usize, Refusal> {
+    let mut at = 0;
+    // SAFETY: as above.
+    let status = unsafe {
+        c::rilvostam_add_numbers_without_singles(
             line.as_ptr(),
             line.len(),
             table.as_ptr(),

@@ -103,6 +103,26 @@ fn first_of_its_class() {
 }
 
 #[test]
+fn without_singles() {
+    let table = plain_table();
+    let active = |line: &str| -> Vec<Option<bool>> {
+        let listing = add_numbers_without_singles(line, &table, NO_EDGES).unwrap();
+        edges(&listing).map(|e| e.num.map(|n| n.active)).collect()
+    };
+    // 万 alone may not stand, 千 may, and so may 五万; the second 万 of 万万 has a copy behind a separator.
+    assert_eq!(active("万"), [Some(false)]);
+    assert_eq!(active("千"), [Some(true)]);
+    assert_eq!(active("五万")[2], Some(true));
+    assert_eq!(active("万万"), [Some(false), Some(false), Some(false)]);
+    // The first call's bytes but for bit 7 of the map.
+    let (first, second) = (listing("万"), add_numbers_without_singles("万", &table, NO_EDGES).unwrap());
+    let differing: Vec<_> = first.iter().zip(&second).filter(|(a, b)| a != b).map(|(a, b)| a ^ b).collect();
+    assert_eq!((first.len(), differing), (second.len(), vec![128]));
+    let refused = add_numbers_without_singles(&"九".repeat(17), &table, NO_EDGES).unwrap_err();
+    assert_eq!((refused.number(), refused.at), (7, 0));
+}
+
+#[test]
 fn nearest() {
     let line = "墓三号x二十".as_bytes();
     let listing = listing("墓三号x二十");

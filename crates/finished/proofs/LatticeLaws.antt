@@ -16,14 +16,16 @@ use Rattle.passes.specs.Passes.{fifthList, aboveAt}
 use Rattle.pass_list.specs.StoredEdge.{nil, cons}
 use Rattle.edge.specs.Edge.{Edge, listingBytes}
 use Rattle.edge.specs.Legal.{AllLegal, no-edge, one-more}
-use Rattle.lattice.specs.Lattice.{overfull}
+use Rattle.lattice.specs.Lattice.{has, overfull}
 use Rattle.first_stages.proofs.PassedLaws.{fifth-call, after-passes-call}
 use Rattle.fractions.proofs.NewLaws.{fractions-call}
 use Rattle.signs.proofs.CallLaws.{add-signs-call}
 use Rattle.separators.proofs.LegalLaws.{separate-legals}
 use Rattle.fallback.proofs.DigitLaws.{fallback-legals}
 use Rattle.numbers.specs.CallEdge.{Legals, CallEdges}
-use Rattle.numbers.specs.Call.{listing, refused, afterPasses, afterSigns, latticeOf, finished}
+use Rattle.numbers.specs.Singles.{silenced, withoutSingles}
+use Rattle.numbers.proofs.stages.CallLaws.{inactive-legal, every-map-inactive}
+use Rattle.numbers.specs.Call.{listing, refused, afterPasses, afterSigns, separateBy, latticeBy, finished}
 
 -- ---- the edges of the lattice may be listed, over a line of the scalar values w, at most 256
 module _ (s : List ℕ) (t : Table) {end : ℕ} (table : readTable s ≡ Fine t end) (w : List ℕ) (scalars : Scalars w) (few : length w ≤ 256) (below : aboveAt t w ≡ none)
@@ -34,9 +36,14 @@ module _ (s : List ℕ) (t : Table) {end : ℕ} (table : readTable s ≡ Fine t 
       add-signs-call t w (fifthList t w) (fractions-call t w (afterPasses t w given) few (after-passes-call s t table w scalars few below given gives))
       (fifth-call s t table w scalars few below)
 
-  pub lattice-legals : Legals (length w) (latticeOf t w given)
-  unfolding latticeOf
-  lattice-legals = fallback-legals w (omega arith) few (separate-legals (afterSigns t w given) after-signs-call)
+  separated-legals : (b : Bool) → Legals (length w) (separateBy b t w (afterSigns t w given))
+  unfolding withoutSingles
+  separated-legals true = every-map-inactive inactive-legal (has (silenced t w (afterSigns t w given))) _ (separate-legals (afterSigns t w given) after-signs-call)
+  separated-legals false = separate-legals (afterSigns t w given) after-signs-call
+
+  pub lattice-legals : (b : Bool) → Legals (length w) (latticeBy b t w given)
+  unfolding latticeBy
+  lattice-legals b = fallback-legals w (omega arith) few (separated-legals b)
 
 -- ---- a lattice that is finished: it keeps within 01's limits, and its bytes are the answer
 pub record Ended (es : List Edge) (bytes : List ℕ) : Type 0 where

@@ -41,7 +41,7 @@ use Rattle.numbers.specs.Fractions.{percentageType, standsAt, longest, markerAt
 use Rattle.numbers.specs.Signs.{signed, signs}
 use Rattle.numbers.specs.Separators.{endsBefore, apart, copyOf, copies, separate}
 use Rattle.numbers.specs.Fallback.{covered, fallback}
-use Rattle.numbers.specs.Call.{Answer, noEdges, listing, afterPasses, afterSigns, latticeOf, afterChecks, addNumbers}
+use Rattle.numbers.specs.Call.{Answer, noEdges, listing, afterPasses, afterSigns, latticeBy, afterChecks, answerBy, addNumbers}
 use Rattle.finished.specs.Keyed.{keyed, HoldsValue}
 use Rattle.finished.proofs.Readable.{no-edges-bytes}
 use Rattle.finished.proofs.Demand3.{Answered, answered}
@@ -107,7 +107,7 @@ pub marked-listings :
     (answer (map codePoint (digit 一 ∷ large 万 ∷ digit 五 ∷ [])) ≡ listing (listingBytes fifteenThousand))
     × (answer (map codePoint (digit 一 ∷ large 万 ∷ digit 零 ∷ digit 五 ∷ [])) ≡ listing (listingBytes tenThousandFive))
     × (answer (0x767E ∷ 0x5206 ∷ 0x4E4B ∷ 0x4E94 ∷ []) ≡ listing (listingBytes fivePercent))
-unfolding addNumbers afterChecks latticeOf afterPasses afterSigns fractions outcomesFrom outcomeAt marked markerAt longest standsAt fold newEdges usedEdges fractionEdge signs signed separate copies copyOf apart endsBefore fallback covered f64Bits listedEdge wholeValue startsWith regularClass class asked score highest firstOf best numbered sameKey has add addAll inactive turnOffAt turnOff overfull numericMap numericBytes str headBytes edgeBytes edgesBytes listingBytes edgesAt nextAt edgeAt stringEnd checkListing checkEdges good plainBytes tableBytes recordBytes mapOf list inRow string plain plainRecords plainRecord through addedBy after added chainsOf joinedOf next joined over overDigits d1Rule g1Rule g2Rule g3Rule g4Rule digitEdge gap nearest begin longer retags countedValue countedBase powerOfTen powerWithin charEdges charEdge lowest gcd gcdWithin from chains firstAbove firstIsDigit lastIsDigit isDigit inRuns starts decimal decimalWithin ofNat seq encode chars decode left encodes same find toBits ofBits ofInt toUnsigned readTable readRecords readList readTexts legalRecord digitRule legalNumbers legalTexts legalCodePoint legalDigit legalMark allOf item readRecord readFields readNumbers optional fraction text textOf number le leAt part bytesOf
+unfolding answerBy afterChecks latticeBy afterPasses afterSigns fractions outcomesFrom outcomeAt marked markerAt longest standsAt fold newEdges usedEdges fractionEdge signs signed separate copies copyOf apart endsBefore fallback covered f64Bits listedEdge wholeValue startsWith regularClass class asked score highest firstOf best numbered sameKey has add addAll inactive turnOffAt turnOff overfull numericMap numericBytes str headBytes edgeBytes edgesBytes listingBytes edgesAt nextAt edgeAt stringEnd checkListing checkEdges good plainBytes tableBytes recordBytes mapOf list inRow string plain plainRecords plainRecord through addedBy after added chainsOf joinedOf next joined over overDigits d1Rule g1Rule g2Rule g3Rule g4Rule digitEdge gap nearest begin longer retags countedValue countedBase powerOfTen powerWithin charEdges charEdge lowest gcd gcdWithin from chains firstAbove firstIsDigit lastIsDigit isDigit inRuns starts decimal decimalWithin ofNat seq encode chars decode left encodes same find toBits ofBits ofInt toUnsigned readTable readRecords readList readTexts legalRecord digitRule legalNumbers legalTexts legalCodePoint legalDigit legalMark allOf item readRecord readFields readNumbers optional fraction text textOf number le leAt part bytesOf
 marked-listings = (refl, refl, refl)
 
 -- ---- what `Demand3.antt` says of 一万五: an edge of the answered listing over the whole line holds 15000

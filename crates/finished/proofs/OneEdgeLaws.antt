@@ -24,9 +24,10 @@ use Rattle.numbers.specs.Fractions.{outcomesFrom, newEdges, usedEdges, fraction
 use Rattle.numbers.specs.Signs.{signs}
 use Rattle.numbers.specs.Separators.{apart, copies, separate}
 use Rattle.numbers.specs.Fallback.{fallback}
-use Rattle.numbers.specs.Call.{afterPasses, afterSigns, latticeOf}
+use Rattle.numbers.specs.Call.{afterPasses, afterSigns, latticeBy, latticeOf}
 use Rattle.finished.specs.Keyed.{keyed}
-use Rattle.finished.proofs.KeyedLaws.{Picks, key-refl, key-txt, has-picks, picks-add-all, picks-map, picks-turn-off, has-add-all, picks-new}
+use Rattle.singles.proofs.SilenceLaws.{key-refl}
+use Rattle.finished.proofs.KeyedLaws.{Picks, key-txt, has-picks, picks-add-all, picks-map, picks-turn-off, has-add-all, picks-new}
 use Rattle.finished.proofs.SpokenLaws.{Spoken, plain-spoken, last-every}
 
 -- ---- an edge that is added, of those of the passes: the first with the key of e has its value
@@ -73,7 +74,7 @@ each-there (f ∷ l) =
 -- ---- the stages of the call, behind the given edges and those of the passes
 module _ {P : Edge → Type 0} (kept : (x : Edge) → P x → P (inactive x)) (w : List ℕ) (given : List Edge) (e : Edge) where
   pub lattice-picks : Picks P (afterPasses plain w given) e → Picks P (latticeOf plain w given) e
-  unfolding latticeOf afterSigns fractions separate
+  unfolding latticeBy afterSigns fractions separate
   lattice-picks h =
       let es = afterPasses plain w given in
       let ms = outcomesFrom plain w es 0 (length w) in

@@ -28,7 +28,7 @@ use Rattle.numbers.specs.Fractions.{standsAt, longest, markerAt, fractionEdge, 
 use Rattle.numbers.specs.Signs.{signed, signs}
 use Rattle.numbers.specs.Separators.{endsBefore, apart, copyOf, copies, separate}
 use Rattle.numbers.specs.Fallback.{covered, fallback}
-use Rattle.numbers.specs.Call.{afterPasses, afterSigns, latticeOf}
+use Rattle.numbers.specs.Call.{afterPasses, afterSigns, latticeBy, latticeOf}
 
 abbrev row : Edge → ℕ × ℕ × Text × Text × Option Bool
 row e = (e .start, e .end, e .type, e .txt, Option·map (λ (n : Numeric). n .active) (e .num))
@@ -37,7 +37,7 @@ abbrev pub signsTable : List Text → List Text → List Text → List Text → 
 signsTable p c q n = record { percentage-markers = p; fraction-connectors = c; plus-signs = q; minus-signs = n; records = plain .records }
 
 unfoldable pub read : Table → List ℕ → List (ℕ × ℕ × Text × Text × Option Bool)
-unfolding latticeOf afterPasses afterSigns fractions outcomesFrom outcomeAt marked markerAt longest standsAt fold newEdges usedEdges fractionEdge signs signed separate copies copyOf apart endsBefore fallback covered f64Bits listedEdge wholeValue startsWith regularClass class asked score highest firstOf best numbered sameKey has add addAll inactive turnOffAt turnOff through addedBy after added chainsOf joinedOf next joined over overDigits d1Rule g1Rule g2Rule g3Rule g4Rule digitEdge gap nearest begin longer retags countedValue countedBase powerOfTen powerWithin charEdges charEdge lowest gcd gcdWithin from chains firstIsDigit lastIsDigit isDigit inRuns starts decimal decimalWithin ofNat seq encode chars decode encodes same find toBits ofBits ofInt toUnsigned
+unfolding latticeBy afterPasses afterSigns fractions outcomesFrom outcomeAt marked markerAt longest standsAt fold newEdges usedEdges fractionEdge signs signed separate copies copyOf apart endsBefore fallback covered f64Bits listedEdge wholeValue startsWith regularClass class asked score highest firstOf best numbered sameKey has add addAll inactive turnOffAt turnOff through addedBy after added chainsOf joinedOf next joined over overDigits d1Rule g1Rule g2Rule g3Rule g4Rule digitEdge gap nearest begin longer retags countedValue countedBase powerOfTen powerWithin charEdges charEdge lowest gcd gcdWithin from chains firstIsDigit lastIsDigit isDigit inRuns starts decimal decimalWithin ofNat seq encode chars decode encodes same find toBits ofBits ofInt toUnsigned
 read t w = map row (latticeOf t w [])
 
 pub cases :

@@ -2,29 +2,22 @@
 -- are those of `numbers`. In order: agreeing; markers; signs; the lattice; the answer; by `standsAt`. Assumes nothing.
 use mathlib.Core.Path.{_≡_, refl, ap}
 use mathlib.Core.List.{List, [], _∷_}
-use mathlib.Core.Bool.{true, cond}
+use mathlib.Core.Bool.{true, false, cond}
 use Prim.Native.Nat.{ℕ, zero, suc, _-_}
 use lib.ListN.{length}
-use lib.Dec.{ltb}
 use Rattle.text.specs.Text.{chars}
-use Rattle.text.specs.declared.LineCheck.{LineCheck}
-use Rattle.text.specs.declared.LineCheck.the-variants.{Chars, IllFormed, TooLong}
-use Rattle.text.specs.Line.{lineCheck}
 use Rattle.table.specs.Table.{Text, Table}
-use Rattle.table.specs.Check.{Checked, Fine, Refused, readTable}
+use Rattle.table.specs.Check.{Fine, readTable}
 use Rattle.passes.specs.NumEdge.{NumEdge}
 use Rattle.passes.specs.Passes.{fifthList, aboveAt}
 use Rattle.edge.specs.Edge.{Edge}
 use Rattle.edge.specs.Layout.{listed}
-use Rattle.edge.specs.Check.{checkListing}
-use Rattle.edge.specs.declared.ListingCheck.{ListingCheck}
-use Rattle.edge.specs.declared.ListingCheck.the-variants as ListingCheck
 use Rattle.pass_list.specs.StoredEdge.{Every, nil, cons}
-use Rattle.numbers.specs.Ready.{workSize}
 use Rattle.numbers.specs.Fractions.{standsAt, longest, markerAt, outcomeAt, outcomesFrom, fractions}
 use Rattle.numbers.specs.Signs.{signed, signs}
-use Rattle.numbers.specs.Call.{refused, finished, unlessAbove, afterPasses, afterSigns, latticeOf, afterChecks, afterEdgesCheck, afterTableCheck, afterLineCheck, addNumbers}
-use Rattle.folded.specs.ByComparison.{Comparison, longestBy, markerBy, outcomesBy, fractionsBy, signedBy, signsBy, afterSignsWith, latticeWith, checkedWith, edgesWith, tableWith, lineWith, answerWith}
+use Rattle.numbers.specs.Call.{Answer, finished, unlessAbove, afterPasses, afterSigns, latticeBy, latticeOf, afterChecks, addNumbers}
+use Rattle.numbers.proofs.ChecksLaws.{answers-related}
+use Rattle.folded.specs.ByComparison.{Comparison, longestBy, markerBy, outcomesBy, fractionsBy, signedBy, signsBy, afterSignsWith, latticeWith, checkedWith, answerWith}
 
 -- two comparisons agree on a line for each of the texts ms
 abbrev pub Agree : Comparison → Comparison → List ℕ → List Text → Type 0
@@ -65,24 +58,13 @@ module _ (st su : Comparison) (w : List ℕ) where
   lattice-agree t a given = rw (outcomes-agree t a (afterPasses t w given) 0 (length w), signs-agree t a (fifthList t w))
 
 -- ---- the answer: where the comparisons agree on the line for every table that is read
-module _ (st su : Comparison) (line table given : List ℕ) (agree : (t : Table) (at : ℕ) → readTable table ≡ Fine t at → AgreeTable st su (chars line) t) (out : ℕ) where
-  edges-agree : (t : Table) (at : ℕ) → readTable table ≡ Fine t at → (c : ListingCheck) → edgesWith st t (chars line) out given c ≡ edgesWith su t (chars line) out given c
-  unfolding checkedWith
-  edges-agree t at e (ListingCheck.Refused p) = refl
-  edges-agree t at e (ListingCheck.Edges n) = ap (λ (es : List Edge). unlessAbove (aboveAt t (chars line)) (finished out es)) (lattice-agree st su (chars line) t (agree t at e) (listed given))
-
-  table-agree : (c : Checked Table) → readTable table ≡ c → tableWith st (chars line) out given c ≡ tableWith su (chars line) out given c
-  table-agree (Refused number at) e = refl
-  table-agree (Fine t at) e = edges-agree t at e (checkListing true (length (chars line)) given)
-
-  line-agree : (c : LineCheck) → lineWith st line table given out c ≡ lineWith su line table given out c
-  line-agree (IllFormed at) = refl
-  line-agree (TooLong at) = refl
-  line-agree (Chars n) = table-agree (readTable table) refl
-
-  pub answer-agree : (work : ℕ) → answerWith st line table given work out ≡ answerWith su line table given work out
-  unfolding answerWith
-  answer-agree work = ap (cond (ltb work workSize) (refused 1 0)) (line-agree (lineCheck line))
+pub answer-agree : (st su : Comparison) (line table given : List ℕ) → ((t : Table) (at : ℕ) → readTable table ≡ Fine t at → AgreeTable st su (chars line) t)
+    → (out work : ℕ) → answerWith st line table given work out ≡ answerWith su line table given work out
+unfolding checkedWith
+answer-agree st su line table given agree out work =
+    answers-related (λ (a b : Answer). a ≡ b) (λ number at. refl) (checkedWith st) (checkedWith su) line table given out
+    (λ t at n e c. ap (λ (es : List Edge). unlessAbove (aboveAt t (chars line)) (finished out es)) (lattice-agree st su (chars line) t (agree t at e) (listed given)))
+    work
 
 -- ---- by `standsAt`
 longest-now : (w : List ℕ) (p : ℕ) (ms : List Text) → longestBy standsAt w p ms ≡ longest w p ms
@@ -106,24 +88,12 @@ signs-now t w [] = refl
 signs-now t w (e ∷ es) = rw (signed-now w 45 e (t .minus-signs), signed-now w 43 e (t .plus-signs), signs-now t w es)
 
 pub lattice-now : (t : Table) (w : List ℕ) (given : List Edge) → latticeWith standsAt t w given ≡ latticeOf t w given
-unfolding latticeWith afterSignsWith fractionsBy latticeOf afterSigns fractions
+unfolding latticeWith afterSignsWith fractionsBy latticeBy afterSigns fractions
 lattice-now t w given = rw (outcomes-now t w (afterPasses t w given) 0 (length w), signs-now t w (fifthList t w))
 
-module _ (line table given : List ℕ) (out : ℕ) where
-  edges-now : (t : Table) (c : ListingCheck) → edgesWith standsAt t (chars line) out given c ≡ afterEdgesCheck t (chars line) out given c
-  unfolding checkedWith afterChecks
-  edges-now t (ListingCheck.Refused p) = refl
-  edges-now t (ListingCheck.Edges n) = ap (λ (es : List Edge). unlessAbove (aboveAt t (chars line)) (finished out es)) (lattice-now t (chars line) (listed given))
-
-  table-now : (c : Checked Table) → tableWith standsAt (chars line) out given c ≡ afterTableCheck (chars line) out given c
-  table-now (Refused number at) = refl
-  table-now (Fine t at) = edges-now t (checkListing true (length (chars line)) given)
-
-  line-now : (c : LineCheck) → lineWith standsAt line table given out c ≡ afterLineCheck line table given out c
-  line-now (IllFormed at) = refl
-  line-now (TooLong at) = refl
-  line-now (Chars n) = table-now (readTable table)
-
-  pub answer-now : (work : ℕ) → answerWith standsAt line table given work out ≡ addNumbers line table given work out
-  unfolding answerWith addNumbers
-  answer-now work = ap (cond (ltb work workSize) (refused 1 0)) (line-now (lineCheck line))
+pub answer-now : (line table given : List ℕ) (out work : ℕ) → answerWith standsAt line table given work out ≡ addNumbers line table given work out
+unfolding checkedWith afterChecks
+answer-now line table given out work =
+    answers-related (λ (a b : Answer). a ≡ b) (λ number at. refl) (checkedWith standsAt) (afterChecks false) line table given out
+    (λ t at n e c. ap (λ (es : List Edge). unlessAbove (aboveAt t (chars line)) (finished out es)) (lattice-now t (chars line) (listed given)))
+    work

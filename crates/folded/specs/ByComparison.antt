@@ -5,34 +5,25 @@
 --     longestBy, markerBy, outcomesBy, fractionsBy   as in `Fractions`
 --     signedBy, signsBy                              as in `Signs`
 --     latticeWith st t w given                       the finished lattice
---     answerWith st ..                               the answer of the whole call
+--     answerWith st ..                               the answer of the whole call: its checks are those of the call
 --     Assumes nothing.
 use Prim.Native.Nat.{ℕ, zero, suc, _-_}
 use mathlib.Core.Bool.{Bool, true, cond, _&&_}
 use mathlib.Core.List.{List, [], _∷_, _++_}
 use lib.ListN.{length, take, drop}
-use lib.Dec.{leb, ltb}
+use lib.Dec.{leb}
 use Rattle.text.specs.Bytes.{same}
 use Rattle.text.specs.Text.{chars}
-use Rattle.text.specs.declared.LineCheck.{LineCheck}
-use Rattle.text.specs.declared.LineCheck.the-variants.{Chars, IllFormed, TooLong}
-use Rattle.text.specs.Line.{lineCheck, lineRefusal, lineAt}
 use Rattle.table.specs.Table.{Text, Table}
-use Rattle.table.specs.Check.{Checked, Fine, Refused, readTable}
 use Rattle.passes.specs.NumEdge.{NumEdge, has}
 use Rattle.passes.specs.Passes.{fifthList, aboveAt}
 use Rattle.edge.specs.Edge.{Edge}
-use Rattle.edge.specs.Layout.{listed}
-use Rattle.edge.specs.Check.{checkListing, listingRefusal, listingPlace}
-use Rattle.edge.specs.declared.ListingCheck.{ListingCheck}
-use Rattle.edge.specs.declared.ListingCheck.the-variants as ListingCheck
 use Rattle.lattice.specs.Lattice.{addAll, turnOff}
 use Rattle.numbers.specs.Fractions.{larger, longer, Marker, Outcome, byMarker, newEdges, usedEdges}
 use Rattle.numbers.specs.Signs.{signEdge}
 use Rattle.numbers.specs.Separators.{separate}
 use Rattle.numbers.specs.Fallback.{fallback}
-use Rattle.numbers.specs.Ready.{workSize}
-use Rattle.numbers.specs.Call.{Answer, refused, finished, unlessAbove, afterPasses}
+use Rattle.numbers.specs.Call.{Answer, Stages, finished, unlessAbove, afterPasses, answerBy}
 
 abbrev pub Comparison : Type 0
 Comparison = List ℕ → ℕ → Text → Bool
@@ -77,22 +68,8 @@ afterSignsWith st t w given = addAll (fractionsBy st t w (afterPasses t w given)
 unfoldable pub latticeWith : Comparison → Table → List ℕ → List Edge → List Edge
 latticeWith st t w given = let es = separate (afterSignsWith st t w given) in addAll es (fallback es 0 w)
 
--- the checks 8 and 7, 6, 5 and 4, 3 and 2, and 1 before them
-unfoldable pub checkedWith : Comparison → Table → List ℕ → ℕ → List Edge → Answer
+unfoldable pub checkedWith : Comparison → Stages
 checkedWith st t w out given = unlessAbove (aboveAt t w) (finished out (latticeWith st t w given))
 
-abbrev pub edgesWith : Comparison → Table → List ℕ → ℕ → List ℕ → ListingCheck → Answer
-edgesWith st t w out given (ListingCheck.Refused at) = refused (listingRefusal (ListingCheck.Refused at)) (listingPlace (ListingCheck.Refused at))
-edgesWith st t w out given (ListingCheck.Edges n) = checkedWith st t w out (listed given)
-
-abbrev pub tableWith : Comparison → List ℕ → ℕ → List ℕ → Checked Table → Answer
-tableWith st w out given (Refused number at) = refused number at
-tableWith st w out given (Fine t at) = edgesWith st t w out given (checkListing true (length w) given)
-
-abbrev pub lineWith : Comparison → List ℕ → List ℕ → List ℕ → ℕ → LineCheck → Answer
-lineWith st line table given out (IllFormed at) = refused (lineRefusal (IllFormed at)) (lineAt (IllFormed at))
-lineWith st line table given out (TooLong at) = refused (lineRefusal (TooLong at)) (lineAt (TooLong at))
-lineWith st line table given out (Chars n) = tableWith st (chars line) out given (readTable table)
-
-unfoldable pub answerWith : Comparison → List ℕ → List ℕ → List ℕ → ℕ → ℕ → Answer
-answerWith st line table given work out = cond (ltb work workSize) (refused 1 0) (lineWith st line table given out (lineCheck line))
+abbrev pub answerWith : Comparison → List ℕ → List ℕ → List ℕ → ℕ → ℕ → Answer
+answerWith st = answerBy (checkedWith st)

@@ -211,24 +211,26 @@ left-end : (p : Place) (a z : ℕ) → asked (Left p) a z ≡ true → z ≡ p .
 unfolding asked
 left-end p a z t = eqb-true z (p .0) t
 
-module _ {n : ℕ} (es : List Edge) (c : CallEdges n es) (p : ℕ) where
-  right-holds : (q : ℕ) → p ≤ q → OfBest (λ x. CallEdge n (x .1) × (p ≤ x .1 .start)) (rightNeighbor false es q)
+-- what holds of each edge holds of them
+module _ (P : Edge → Type 0) (es : List Edge) (c : Every P es) (p : ℕ) where
+  pub right-holds : (q : ℕ) → p ≤ q → OfBest (λ x. P (x .1) × (p ≤ x .1 .start)) (rightNeighbor false es q)
   right-holds q h =
       let place : Place = record { 0 = q } in
-      hold-both (λ x. CallEdge n (x .1)) (λ x. p ≤ x .1 .start) (rightNeighbor false es q) (best-holds false (Right place) (λ x. CallEdge n (x .1)) (numbered 0 es) (each-numbered (CallEdge n) 0 es c))
+      hold-both (λ x. P (x .1)) (λ x. p ≤ x .1 .start) (rightNeighbor false es q) (best-holds false (Right place) (λ x. P (x .1)) (numbered 0 es) (each-numbered P 0 es c))
       (hold-more (λ x. 0 < score false (Right place) (x .1)) (λ x. p ≤ x .1 .start) (rightNeighbor false es q) (λ x s. let e = right-start place (x .1 .start) (x .1 .end) (score-asks false (Right place) (x .1) s) in omega arith) (best-positive false (Right place) (numbered 0 es)))
 
-  left-holds : OfBest (λ x. CallEdge n (x .1) × (x .1 .end ≡ p)) (leftNeighbor false es p)
+  pub left-holds : OfBest (λ x. P (x .1) × (x .1 .end ≡ p)) (leftNeighbor false es p)
   left-holds =
       let place : Place = record { 0 = p } in
-      hold-both (λ x. CallEdge n (x .1)) (λ x. x .1 .end ≡ p) (leftNeighbor false es p) (best-holds false (Left place) (λ x. CallEdge n (x .1)) (numbered 0 es) (each-numbered (CallEdge n) 0 es c))
+      hold-both (λ x. P (x .1)) (λ x. x .1 .end ≡ p) (leftNeighbor false es p) (best-holds false (Left place) (λ x. P (x .1)) (numbered 0 es) (each-numbered P 0 es c))
       (hold-more (λ x. 0 < score false (Left place) (x .1)) (λ x. x .1 .end ≡ p) (leftNeighbor false es p) (λ x s. left-end place (x .1 .start) (x .1 .end) (score-asks false (Left place) (x .1) s)) (best-positive false (Left place) (numbered 0 es)))
 
+module _ {n : ℕ} (es : List Edge) (c : CallEdges n es) (p : ℕ) where
   marked-call : n ≤ 256 → (percent : Bool) (k : ℕ) → MadeCall n (marked percent es p k)
   unfolding marked
   marked-call few percent k =
-      let r = right-holds (p + k) (omega arith) in
-      between-call few percent (otherwise percent p (rightNeighbor false es (p + k))) (otherwise-call few percent p (rightNeighbor false es (p + k)) r) p k (leftNeighbor false es p) (rightNeighbor false es (p + k)) left-holds r
+      let r = right-holds (CallEdge n) es c p (p + k) (omega arith) in
+      between-call few percent (otherwise percent p (rightNeighbor false es (p + k))) (otherwise-call few percent p (rightNeighbor false es (p + k)) r) p k (leftNeighbor false es p) (rightNeighbor false es (p + k)) (left-holds (CallEdge n) es c p) r
 
   by-marker-call : n ≤ 256 → (m : Marker) → MadeCall n (byMarker es p m)
   by-marker-call few (percentage k) = marked-call few true k

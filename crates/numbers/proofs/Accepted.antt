@@ -20,7 +20,7 @@ use Rattle.edge.specs.Check.{checkListing, checkEdges}
 use Rattle.edge.specs.declared.ListingCheck.the-variants as ListingCheck
 use Rattle.passes.specs.Passes.{aboveAt}
 use Rattle.lattice.specs.Lattice.{overfull}
-use Rattle.numbers.specs.Call.{Answer, listing, refused, addNumbers, afterChecks, unlessAbove, finished, latticeOf, noEdges}
+use Rattle.numbers.specs.Call.{Answer, listing, refused, answerBy, addNumbers, afterChecks, unlessAbove, finished, latticeOf, noEdges}
 use Rattle.numbers.proofs.Passed.{call-passed}
 
 -- the answer is a listing
@@ -57,7 +57,7 @@ module _ (table : List ℕ) (t : Table) (at : ℕ) (reads : readTable table ≡ 
     where
       go : (a : Answer) → addNumbers line table given work out ≡ a → Listed a → (wellFormed line ≡ true) × (aboveAt t (chars line) ≡ none)
       go (listing bytes) e h =
-          let p = call-passed line table given out bytes work e in
+          let p = call-passed false line table given out bytes work e in
           let r = p .reads in
           let is : p .t ≡ t = cc in
           (p .well-formed, subst (λ (x : Table). aboveAt x (chars line) ≡ none) is (p .below))
@@ -66,7 +66,7 @@ module _ (table : List ℕ) (t : Table) (at : ℕ) (reads : readTable table ≡ 
   -- ---- a call that gets past the checks of work space, line and table, with no edges given
   pub checked : (line : List ℕ) (work out : ℕ) → 65536 ≤ work → wellFormed line ≡ true → length (chars line) ≤ maxChars
       → addNumbers line table noEdges work out ≡ unlessAbove (aboveAt t (chars line)) (finished out (latticeOf t (chars line) []))
-  unfolding addNumbers afterChecks
+  unfolding answerBy afterChecks
   checked line work out room ok fits =
       rw (le-ltb work 65536 room, ok, le-leb (length (chars line)) maxChars fits, reads, none-given (length (chars line)), none-listed)
 

@@ -34,7 +34,7 @@ use Rattle.numbers.specs.Fractions.{standsAt, longest, markerAt, fractio
 use Rattle.numbers.specs.Signs.{signed, signs}
 use Rattle.numbers.specs.Separators.{endsBefore, apart, copyOf, copies, separate}
 use Rattle.numbers.specs.Fallback.{covered, fallback}
-use Rattle.numbers.specs.Call.{noEdges, listing, refused, afterPasses, afterSigns, latticeOf, afterChecks, addNumbers}
+use Rattle.numbers.specs.Call.{noEdges, listing, refused, afterPasses, afterSigns, latticeBy, latticeOf, afterChecks, answerBy, addNumbers}
 
 -- what the program prints of an edge: start, end, type, txt, and whether it is active, none for a regular one
 abbrev row : Edge → ℕ × ℕ × Text × Text × Option Bool
@@ -45,7 +45,7 @@ pub example : map row (latticeOf plain (0x767E ∷ 0x5206 ∷ 0x4E4B ∷ 0x4E94 
     ≡ (0, 1, 98 ∷ 97 ∷ 115 ∷ 101 ∷ [], 49 ∷ 48 ∷ 48 ∷ [], some false)
     ∷ (3, 4, 100 ∷ 105 ∷ 103 ∷ 105 ∷ 116 ∷ [], 53 ∷ [], some false)
     ∷ (0, 4, 112 ∷ 101 ∷ 114 ∷ 99 ∷ 101 ∷ 110 ∷ 116 ∷ 97 ∷ 103 ∷ 101 ∷ [], 53 ∷ 37 ∷ [], none) ∷ []
-unfolding latticeOf afterPasses afterSigns fractions outcomesFrom outcomeAt marked markerAt longest standsAt fold newEdges usedEdges fractionEdge signs signed separate copies copyOf apart endsBefore fallback covered f64Bits listedEdge wholeValue startsWith regularClass class asked score highest firstOf best numbered sameKey has add addAll inactive turnOffAt turnOff plain plainRecords plainRecord through addedBy after added chainsOf joinedOf next joined over overDigits d1Rule g1Rule g2Rule g3Rule g4Rule digitEdge gap nearest begin longer retags countedValue countedBase powerOfTen powerWithin charEdges charEdge lowest gcd gcdWithin from chains firstIsDigit lastIsDigit isDigit inRuns starts decimal decimalWithin ofNat seq encode chars decode encodes same find toBits ofBits ofInt toUnsigned
+unfolding latticeBy afterPasses afterSigns fractions outcomesFrom outcomeAt marked markerAt longest standsAt fold newEdges usedEdges fractionEdge signs signed separate copies copyOf apart endsBefore fallback covered f64Bits listedEdge wholeValue startsWith regularClass class asked score highest firstOf best numbered sameKey has add addAll inactive turnOffAt turnOff plain plainRecords plainRecord through addedBy after added chainsOf joinedOf next joined over overDigits d1Rule g1Rule g2Rule g3Rule g4Rule digitEdge gap nearest begin longer retags countedValue countedBase powerOfTen powerWithin charEdges charEdge lowest gcd gcdWithin from chains firstIsDigit lastIsDigit isDigit inRuns starts decimal decimalWithin ofNat seq encode chars decode encodes same find toBits ofBits ofInt toUnsigned
 example = refl
 
 -- ---- the order of the checks
@@ -84,12 +84,12 @@ pub order :
     × ((addNumbers (nines 16) onlyNine [] 65536 0 ≡ refused 6 0) × (addNumbers (nines 16) onlyNine noEdges 65536 0 ≡ refused 7 0))
     -- 7 and 8: no output
     × ((addNumbers (nines 16) onlyNine noEdges 65536 0 ≡ refused 7 0) × (addNumbers (nines 15) onlyNine noEdges 65536 0 ≡ refused 8 0))
-unfolding addNumbers afterChecks latticeOf afterPasses afterSigns fractions outcomesFrom outcomeAt marked markerAt longest standsAt fold newEdges usedEdges fractionEdge signs signed separate copies copyOf apart endsBefore fallback covered f64Bits listedEdge wholeValue startsWith regularClass class asked score highest firstOf best numbered sameKey has add addAll inactive turnOffAt turnOff overfull numericMap numericBytes str headBytes edgeBytes edgesBytes listingBytes edgesAt nextAt edgeAt stringEnd checkListing checkEdges good through addedBy after added chainsOf joinedOf next joined over overDigits d1Rule g1Rule g2Rule g3Rule g4Rule digitEdge gap nearest begin longer retags countedValue countedBase powerOfTen powerWithin charEdges charEdge lowest gcd gcdWithin from chains firstAbove firstIsDigit lastIsDigit isDigit inRuns starts decimal decimalWithin ofNat seq encode chars decode left encodes same find toBits ofBits ofInt toUnsigned readTable readRecords readList readTexts legalRecord digitRule legalNumbers legalTexts legalCodePoint legalDigit legalMark allOf item readRecord readFields readNumbers optional fraction text textOf number le leAt part bytesOf
+unfolding answerBy afterChecks latticeBy afterPasses afterSigns fractions outcomesFrom outcomeAt marked markerAt longest standsAt fold newEdges usedEdges fractionEdge signs signed separate copies copyOf apart endsBefore fallback covered f64Bits listedEdge wholeValue startsWith regularClass class asked score highest firstOf best numbered sameKey has add addAll inactive turnOffAt turnOff overfull numericMap numericBytes str headBytes edgeBytes edgesBytes listingBytes edgesAt nextAt edgeAt stringEnd checkListing checkEdges good through addedBy after added chainsOf joinedOf next joined over overDigits d1Rule g1Rule g2Rule g3Rule g4Rule digitEdge gap nearest begin longer retags countedValue countedBase powerOfTen powerWithin charEdges charEdge lowest gcd gcdWithin from chains firstAbove firstIsDigit lastIsDigit isDigit inRuns starts decimal decimalWithin ofNat seq encode chars decode left encodes same find toBits ofBits ofInt toUnsigned readTable readRecords readList readTexts legalRecord digitRule legalNumbers legalTexts legalCodePoint legalDigit legalMark allOf item readRecord readFields readNumbers optional fraction text textOf number le leAt part bytesOf
 order = ((refl, refl), (refl, refl), (refl, refl), (refl, refl), (refl, refl), (refl, refl), (refl, refl))
 
 -- the fallback's edge of the digit 1: an output that is a byte too short, and one that is long enough
 pub output :
     (addNumbers (49 ∷ []) empty noEdges 65536 15 ≡ refused 8 0)
     × (addNumbers (49 ∷ []) empty noEdges 65536 16 ≡ listing (1 ∷ 0 ∷ 0 ∷ 0 ∷ 0 ∷ 0 ∷ 1 ∷ 0 ∷ 3 ∷ 0 ∷ 110 ∷ 117 ∷ 109 ∷ 1 ∷ 0 ∷ 49 ∷ []))
-unfolding addNumbers afterChecks latticeOf afterPasses afterSigns fractions outcomesFrom outcomeAt markerAt longest newEdges usedEdges signs separate copies fallback covered addAll add has turnOff overfull str headBytes edgeBytes edgesBytes listingBytes through addedBy after added chainsOf joinedOf charEdges from chains firstAbove checkListing checkEdges good nextAt stringEnd edgesAt le leAt bytesOf part readTable readRecords readList readTexts item number seq chars decode left find
+unfolding answerBy afterChecks latticeBy afterPasses afterSigns fractions outcomesFrom outcomeAt markerAt longest newEdges usedEdges signs separate copies fallback covered addAll add has turnOff overfull str headBytes edgeBytes edgesBytes listingBytes through addedBy after added chainsOf joinedOf charEdges from chains firstAbove checkListing checkEdges good nextAt stringEnd edgesAt le leAt bytesOf part readTable readRecords readList readTexts item number seq chars decode left find
 output = (refl, refl)

@@ -1,7 +1,7 @@
 -- What an answered listing says of each check of the call (`specs/Call.antt`): the line and the table were read, the given edges accepted, no joined value is above TOP, and the
 -- bytes are the finished lattice's. Assumes nothing.
---     Passed line table given out bytes   all of this, for a call that answered these bytes
---     call-passed                         it holds where the call answers a listing
+--     Passed b line table given out bytes   all of this, for a call that answered these bytes; b says which of the two calls it is
+--     call-passed                           it holds where the call answers a listing
 use Prim.Native.Nat.{ℕ, _≤_}
 use mathlib.Core.Path.{_≡_, refl}
 use mathlib.Core.Bool.{Bool, true, false, cond}
@@ -22,9 +22,9 @@ use Rattle.edge.specs.Check.{checkListing}
 use Rattle.edge.specs.declared.ListingCheck.{ListingCheck}
 use Rattle.edge.specs.declared.ListingCheck.the-variants as ListingCheck
 use Rattle.passes.specs.Passes.{aboveAt}
-use Rattle.numbers.specs.Call.{listing, refused, latticeOf, finished, unlessAbove, afterChecks, afterEdgesCheck, afterTableCheck, afterLineCheck, addNumbers}
+use Rattle.numbers.specs.Call.{listing, refused, latticeBy, finished, unlessAbove, afterChecks, afterEdgesCheck, afterTableCheck, afterLineCheck, answerBy}
 
-pub record Passed (line table given : List ℕ) (out : ℕ) (bytes : List ℕ) : Type 0 where
+pub record Passed (b : Bool) (line table given : List ℕ) (out : ℕ) (bytes : List ℕ) : Type 0 where
   pub well-formed : wellFormed line ≡ true
   pub few : length (chars line) ≤ 256
   pub t : Table
@@ -33,39 +33,39 @@ pub record Passed (line table given : List ℕ) (out : ℕ) (bytes : List ℕ) :
   pub count : ℕ
   pub gives : checkListing true (length (chars line)) given ≡ ListingCheck.Edges count
   pub below : aboveAt t (chars line) ≡ none
-  pub ends : finished out (latticeOf t (chars line) (listed given)) ≡ listing bytes
+  pub ends : finished out (latticeBy b t (chars line) (listed given)) ≡ listing bytes
 
-module _ (line table given : List ℕ) (out : ℕ) (bytes : List ℕ) where
+module _ (b : Bool) (line table given : List ℕ) (out : ℕ) (bytes : List ℕ) where
   abbrev w : List ℕ
   w = chars line
 
   module _ (well-formed : wellFormed line ≡ true) (few : length (chars line) ≤ 256) where
     module _ (t : Table) (end : ℕ) (reads : readTable table ≡ Fine t end) where
       all-passed : (count : ℕ) → checkListing true (length w) given ≡ ListingCheck.Edges count → (o : Option ℕ) → aboveAt t w ≡ o
-          → unlessAbove o (finished out (latticeOf t w (listed given))) ≡ listing bytes → Passed line table given out bytes
+          → unlessAbove o (finished out (latticeBy b t w (listed given))) ≡ listing bytes → Passed b line table given out bytes
       all-passed count gives none below e =
           record { well-formed = well-formed; few = few; t = t; end = end; reads = reads; count = count; gives = gives; below = below; ends = e }
       all-passed count gives (some p) below e = let z : _≡_ {A = ℕ} 0 1 = cc in absurd (omega arith)
 
-      given-passed : (c : ListingCheck) → checkListing true (length w) given ≡ c → afterEdgesCheck t w out given c ≡ listing bytes → Passed line table given out bytes
+      given-passed : (c : ListingCheck) → checkListing true (length w) given ≡ c → afterEdgesCheck (afterChecks b) t w out given c ≡ listing bytes → Passed b line table given out bytes
       unfolding afterChecks
       given-passed (ListingCheck.Edges count) gives e = all-passed count gives (aboveAt t w) refl e
       given-passed (ListingCheck.Refused at) gives e = let z : _≡_ {A = ℕ} 0 1 = cc in absurd (omega arith)
 
-    table-passed : (c : Checked Table) → readTable table ≡ c → afterTableCheck w out given c ≡ listing bytes → Passed line table given out bytes
+    table-passed : (c : Checked Table) → readTable table ≡ c → afterTableCheck (afterChecks b) w out given c ≡ listing bytes → Passed b line table given out bytes
     table-passed (Fine t end) reads e = given-passed t end reads (checkListing true (length w) given) refl e
     table-passed (Refused number at) reads e = let z : _≡_ {A = ℕ} 0 1 = cc in absurd (omega arith)
 
   line-passed : (n : ℕ) (at long : Offset) (ok fits : Bool) → wellFormed line ≡ ok → leb (length w) maxChars ≡ fits
-      → afterLineCheck line table given out (cond ok (cond fits (Chars n) (TooLong long)) (IllFormed at)) ≡ listing bytes → Passed line table given out bytes
-  line-passed n at long true true a b e = table-passed a (leb-true _ _ b) (readTable table) refl e
-  line-passed n at long true false a b e = let z : _≡_ {A = ℕ} 0 1 = cc in absurd (omega arith)
-  line-passed n at long false fits a b e = let z : _≡_ {A = ℕ} 0 1 = cc in absurd (omega arith)
+      → afterLineCheck (afterChecks b) line table given out (cond ok (cond fits (Chars n) (TooLong long)) (IllFormed at)) ≡ listing bytes → Passed b line table given out bytes
+  line-passed n at long true true a f e = table-passed a (leb-true _ _ f) (readTable table) refl e
+  line-passed n at long true false a f e = let z : _≡_ {A = ℕ} 0 1 = cc in absurd (omega arith)
+  line-passed n at long false fits a f e = let z : _≡_ {A = ℕ} 0 1 = cc in absurd (omega arith)
 
-  pub call-passed : (work : ℕ) → addNumbers line table given work out ≡ listing bytes → Passed line table given out bytes
-  unfolding addNumbers
+  pub call-passed : (work : ℕ) → answerBy (afterChecks b) line table given work out ≡ listing bytes → Passed b line table given out bytes
+  unfolding answerBy
   call-passed work e = go (ltb work 65536) e
     where
-      go : (short : Bool) → cond short (refused 1 0) (afterLineCheck line table given out (lineCheck line)) ≡ listing bytes → Passed line table given out bytes
+      go : (short : Bool) → cond short (refused 1 0) (afterLineCheck (afterChecks b) line table given out (lineCheck line)) ≡ listing bytes → Passed b line table given out bytes
       go true e = let z : _≡_ {A = ℕ} 0 1 = cc in absurd (omega arith)
       go false e = line-passed (length w) (record { 0 = illAt line }) (record { 0 = offsetOf line maxChars }) (wellFormed line) (leb (length w) maxChars) refl refl e

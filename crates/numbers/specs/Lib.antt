@@ -5,6 +5,7 @@ pub mod Folded
 pub mod Fractions
 pub mod Signs
 pub mod Separators
+pub mod Singles
 pub mod Fallback
 pub mod Call
 -- stages: What the stages of the call share.

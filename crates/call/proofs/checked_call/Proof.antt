@@ -17,10 +17,11 @@ use Rattle.numbers.specs.CallEdge.{CallEdges}
 use Rattle.pass_edge.proofs.theorems.Theorems.{stored-edges-call}
 use Rattle.first_stages.specs.Five.{listedStored, behind}
 use Rattle.first_stages.specs.declared.five_passes.PassesAnswer.{PassesAnswer}
-use Rattle.numbers.specs.Call.{afterPasses, latticeOf}
+use Rattle.numbers.specs.Call.{afterPasses, latticeBy}
 use Rattle.call.specs.Rest.{restOf}
 use Rattle.call.proofs.last_stages.RestLaws.{rest-is}
 use Rattle.first_stages.specs.Stages.{CallDone, CallPassed}
+use Rattle.singles.proofs.GivenLaws.{checked-given}
 use Rattle.call.proofs.AnswerLaws.{answer-above, answer-below}
 use Rattle.call.proofs.checked_call.Statement.{statement}
 use Rattle.call.proofs.checked_call.Tie as tie
@@ -51,14 +52,14 @@ in-line m es q = subst (λ (n : ℕ). CallEdges n es) (start (m .before .before 
 
 -- the finished lattice
 final : (a : tie.After-run-last-stages) → let s = start (of-call a .before .before .before .before) in
-    Holds (a .run-last-stages .last .0) (a .run-last-stages .result) (latticeOf (T s) (chars (s .args .line .now)) (listed (s .args .edges .now)))
+    Holds (a .run-last-stages .last .0) (a .run-last-stages .result) (latticeBy (s .args .silencing) (T s) (chars (s .args .line .now)) (listed (s .args .edges .now)))
 final a =
     let m = of-call a in
     let s = start (m .before .before .before .before) in
     let d = done m in
     let es = afterPasses (T s) (chars (s .args .line .now)) (listed (s .args .edges .now)) in
     subst (Holds (a .run-last-stages .last .0) (a .run-last-stages .result))
-    (ap (λ (fs : List NumEdge). restOf (T s) (chars (s .args .line .now)) fs es) (d .fifth) ∙ rest-is (T s) (chars (s .args .line .now)) (listed (s .args .edges .now)))
+    (ap (λ (fs : List NumEdge). restOf (s .args .silencing) (T s) (chars (s .args .line .now)) fs es) (d .fifth) ∙ rest-is (s .args .silencing) (T s) (chars (s .args .line .now)) (listed (s .args .edges .now)) (checked-given _ _ _ (s .pre .2 .edges)))
     (a .run-last-stages .ensures es (d .holds) (in-line m es (d .call)))
 
 run-first-stages-requires : tie.Need-run-first-stages-requires
@@ -85,7 +86,7 @@ same-length c = search needs
 returns : tie.Need-returns
 unfolding CallPassed
 returns c = let p = c .before .before .before .before .before in
-    answer-above _ _ _ _ _ (answered p _ (c .before .p .given .1))
+    answer-above _ _ _ _ _ _ (answered p _ (c .before .p .given .1))
 
 same-length-2 : tie.Need-same-length-2
 same-length-2 c = search needs
@@ -97,7 +98,7 @@ returns-2 : tie.Need-returns-2
 returns-2 c = let e = c .before .before in
     let a = e .before .before .before .before .before in
     let s = start (of-call a .before .before .before .before) in
-    answer-below (T s) (chars (s .args .line .now)) (s .args .out .now) (listed (s .args .edges .now)) (done (of-call a) .above) (e .finish-call .last .1 .1 .0) (e .finish-call .result) (e .finish-call .ensures _ (final a))
+    answer-below (s .args .silencing) (T s) (chars (s .args .line .now)) (s .args .out .now) (listed (s .args .edges .now)) (done (of-call a) .above) (e .finish-call .last .1 .1 .0) (e .finish-call .result) (e .finish-call .ensures _ (final a))
 
 pub checked-call-spec : {M : Type 1} → statement M
 checked-call-spec =

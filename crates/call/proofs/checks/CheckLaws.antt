@@ -27,7 +27,7 @@ use Rattle.edge.specs.Layout.{listed}
 use Rattle.edge.specs.declared.ListingCheck.{ListingCheck}
 use Rattle.edge.specs.declared.ListingCheck.the-variants as ListingCheck
 use Rattle.numbers.specs.Ready.{Ready}
-use Rattle.numbers.specs.Call.{Answer, refused, afterChecks, afterEdgesCheck, afterTableCheck, afterLineCheck}
+use Rattle.numbers.specs.Call.{Answer, refused, Stages, afterEdgesCheck, afterTableCheck, afterLineCheck}
 use Rattle.answers.specs.declared.Refusal.{Refusal}
 use Rattle.answers.specs.declared.Refusal.the-variants.{NotUtf8, OverLong, BadTable, BadContent, BadEdges}
 use Rattle.call.specs.declared.checks.CallCheck.{CallCheck}
@@ -92,7 +92,7 @@ module _ (n : ℕ) (table given : List ℕ) where
   unfolding RestIs
   rest-table {k} {at} e f g =
       let t : readTable table ≡ Refused k (at .0) = sym e ∙ ap (tableAnswer table) f in
-      λ w l out. rw (t, g) (says k at (refused-numbered table k (at .0) t))
+      λ stages w l out. rw (t, g) (says k at (refused-numbered table k (at .0) t))
 
   module _ {h : Shape} {c : TableCheck} (e : tableAnswer table c ≡ readTable table) (f : c ≡ TableCheck.Table h) where
     read : readTable table ≡ Fine (tableOf table h) (length table)
@@ -100,7 +100,7 @@ module _ (n : ℕ) (table given : List ℕ) where
 
     pub rest-edges : {at : _} {l : ListingCheck} → l ≡ checkListing true n given → l ≡ ListingCheck.Refused at → RestIs n table given (CallCheck.Refused (BadEdges at))
     unfolding RestIs
-    rest-edges p q = λ w i out. rw (read, i, sym p ∙ q)
+    rest-edges p q = λ stages w i out. rw (read, i, sym p ∙ q)
 
     pub rest-sound : {k : ℕ} {l : ListingCheck} → l ≡ checkListing true n given → l ≡ ListingCheck.Edges k → RestIs n table given (CallCheck.Accepted n h k)
     unfolding RestIs
@@ -110,22 +110,22 @@ module _ (n : ℕ) (table given : List ℕ) where
 module _ (line table given : List ℕ) {c : LineCheck} (e : c ≡ lineCheck line) where
   pub lent-ill : {at : _} → c ≡ IllFormed at → CallCheckIs line table given (CallCheck.Refused (NotUtf8 at))
   unfolding CallCheckIs
-  lent-ill f = λ out. rw (sym e ∙ f)
+  lent-ill f = λ stages out. rw (sym e ∙ f)
 
   pub lent-long : {at : _} → c ≡ TooLong at → CallCheckIs line table given (CallCheck.Refused (OverLong at))
   unfolding CallCheckIs
-  lent-long f = λ out. rw (sym e ∙ f)
+  lent-long f = λ stages out. rw (sym e ∙ f)
 
   pub lent-chars : {n : ℕ} → c ≡ Chars n → (r : CallCheck) → RestIs n table given r → CallCheckIs line table given r
   unfolding CallCheckIs RestIs
   lent-chars {n} f (CallCheck.Accepted m h k) q =
       let l = checked-line line n (sym e ∙ f) in
       rw (q .0) (record { ready = record { formed = l .2; count = sym (l .0); few = l .1; checked = q .1 }; edges = q .2 })
-  lent-chars {n} f (CallCheck.Refused r) q = λ out. rw (sym e ∙ f) (q (chars line) (sym (checked-line line n (sym e ∙ f) .0)) out)
+  lent-chars {n} f (CallCheck.Refused r) q = λ stages out. rw (sym e ∙ f) (q stages (chars line) (sym (checked-line line n (sym e ∙ f) .0)) out)
 
 -- ---- what is sound is answered by the stages
-pub sound-answer : {line table given : List ℕ} {n : ℕ} {h : Shape} {k : ℕ} → Accepted line table given n h k → (out : ℕ) → afterLineCheck line table given out (lineCheck line) ≡ afterChecks (tableOf table h) (chars line) out (listed given)
-sound-answer {line} {table} {given} {n} {h} {k} s out =
+pub sound-answer : {line table given : List ℕ} {n : ℕ} {h : Shape} {k : ℕ} → Accepted line table given n h k → (stages : Stages) (out : ℕ) → afterLineCheck stages line table given out (lineCheck line) ≡ stages (tableOf table h) (chars line) out (listed given)
+sound-answer {line} {table} {given} {n} {h} {k} s stages out =
     let r = s .ready in
     let l : lineCheck line ≡ Chars n = rw (r .formed, r .count, le-leb n maxChars (r .few)) in
     rw (l, r .checked, r .count, s .edges)

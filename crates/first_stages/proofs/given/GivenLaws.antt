@@ -117,15 +117,15 @@ module _ {w₀ : List ℕ} {l₀ : Lattice} {s w : List ℕ} {l : Lattice} {at k
       rw e at (d .1)
 
 -- ---- they are edges of the call: regular, and legal over the line
-module _ (n : ℕ) (s : List ℕ) (bytes : (i : ℕ) → getD s i 0 < 256) where
-  no-data : (at : ℕ) → mapAt s at ≡ 0 → edgeAt s at .num ≡ none
-  unfolding edgeAt
-  no-data at m = rw m
+pub no-data : (s : List ℕ) (at : ℕ) → mapAt s at ≡ 0 → edgeAt s at .num ≡ none
+unfolding edgeAt
+no-data s at m = rw m
 
+module _ (n : ℕ) (s : List ℕ) (bytes : (i : ℕ) → getD s i 0 < 256) where
   call-edge : (at : ℕ) → Regular n s at → CallEdge n (edgeAt s at)
   unfolding allowed
   call-edge at r =
-      let d = no-data at (r .map) in
+      let d = no-data s at (r .map) in
       let f = given-stands s bytes at (nextAt s at) (r .map) refl (r .whole) .fits in
       let never : (x : Numeric) → edgeAt s at .num ≡ some x → ⊥ = λ x e. Option·some-ne-none x (sym e ∙ d) in
       record {

@@ -91,12 +91,12 @@ module _ {P : Edge → Type 0} (off : (e : Edge) → P e → P (inactive e)) whe
   every-turned (e ∷ es) zero (cons p h) = cons (off e p) h
   every-turned (e ∷ es) (suc i) (cons p h) = cons p (every-turned es i h)
 
-  every-turn-off : (es : List Edge) (is : List ℕ) → Every P es → Every P (turnOff es is)
+  pub every-turn-off : (es : List Edge) (is : List ℕ) → Every P es → Every P (turnOff es is)
   unfolding turnOff
   every-turn-off es [] h = h
   every-turn-off es (i ∷ is) h = every-turn-off (turnOffAt es i) is (every-turned es i h)
 
-  every-map-inactive : (f : Edge → Bool) (es : List Edge) → Every P es → Every P (map (λ (e : Edge). cond (f e) (inactive e) e) es)
+  pub every-map-inactive : (f : Edge → Bool) (es : List Edge) → Every P es → Every P (map (λ (e : Edge). cond (f e) (inactive e) e) es)
   every-map-inactive f [] nil = nil
   every-map-inactive f (e ∷ es) (cons p h) = cons (go (f e)) (every-map-inactive f es h)
     where

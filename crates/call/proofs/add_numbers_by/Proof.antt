@@ -1,4 +1,4 @@
--- `call::add_numbers` meets its contract, by what the checks find. Assumes nothing.
+-- `call::add_numbers_by` meets its contract, by what the checks find. Assumes nothing.
 use borrow.Author.Needs.{needs}
 use mathlib.Core.Path.{_≡_, subst}
 use native.Mathlib.Omega.{arith}
@@ -8,8 +8,8 @@ use Rattle.call.specs.declared.checks.CallCheck.{CallCheck}
 use Rattle.table_check.specs.Indexed.{RecordIndex}
 use Rattle.call.specs.Checks.{Accepted, CallCheckIs, CallCheckIndexed}
 use Rattle.call.proofs.AnswerLaws.{answer-short, answer-refused, answer-sound}
-use Rattle.call.proofs.add_numbers.Statement.{statement}
-use Rattle.call.proofs.add_numbers.Tie as tie
+use Rattle.call.proofs.add_numbers_by.Statement.{statement}
+use Rattle.call.proofs.add_numbers_by.Tie as tie
 
 abbrev start : tie.After-check → tie.Start
 start k = k .before .before .before .before .before .before .before .before .before
@@ -29,7 +29,7 @@ unfolding CallCheckIndexed
 indexed n = let k = n .before .before in subst (CallCheckIndexed _ _ _) (n .n .given .1) (k .check .ensures .1)
 
 returns : tie.Need-returns
-returns c = answer-short _ _ _ _ _ (c .if1 .taken)
+returns c = answer-short _ _ _ _ _ _ (c .if1 .taken)
 
 check-requires : tie.Need-check-requires
 check-requires c κs = search needs
@@ -47,7 +47,7 @@ checked-call-requires : tie.Need-checked-call-requires
 checked-call-requires c κs = let p = c .before .before .before .before in let n = p .before .before .before in (p .place-offsets .ensures, n .before .before .before .before .before .if1 .left, sound n, indexed n)
 
 returns-2 : tie.Need-returns-2
-returns-2 c = let k = c .before .before .before in answer-refused _ _ _ _ _ (k .before .before .before .if1 .left) _ (found k _ (c .before .r .given .1))
+returns-2 c = let k = c .before .before .before in answer-refused _ _ _ _ _ _ (k .before .before .before .if1 .left) _ (found k _ (c .before .r .given .1))
 
 same-length : tie.Need-same-length
 same-length c = search needs
@@ -58,10 +58,10 @@ same-length-2 c = search needs
 returns-3 : tie.Need-returns-3
 returns-3 c = let a = c .before .before .before .before in
     let n = a .before .before .before .before .before .before .before .before in
-    answer-sound _ _ _ _ _ (n .before .before .before .before .before .if1 .left) (sound n) _ _ (a .checked-call .ensures)
+    answer-sound _ _ _ _ _ _ (n .before .before .before .before .before .if1 .left) (sound n) _ _ (a .checked-call .ensures)
 
-pub add-numbers-spec : {M : Type 1} → statement M
-add-numbers-spec =
+pub add-numbers-by-spec : {M : Type 1} → statement M
+add-numbers-by-spec =
     tie.close
     (tie.spec
     returns

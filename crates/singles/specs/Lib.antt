@@ -1,0 +1,2 @@
+-- The definitions that the contracts of `singles` cite.
+pub mod ByPlace
