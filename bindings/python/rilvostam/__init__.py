@@ -16,7 +16,7 @@ import ctypes
 import struct
 from dataclasses import dataclass, field
 from fractions import Fraction
-from typing import Iterator, List, Optional, Sequence, Tuple, Union
+from typing import Iterator, List, Optional, Sequence, Tuple, Union, overload
 
 from ._library import EDGE_NUMBERS, function
 
@@ -53,31 +53,34 @@ _WORK = 65_536
 _OUT = 32_768
 _NONE = 2**64 - 1
 
+# Each refusal in the words of include/rilvostam.h: its name, a sentence, and what `at` says with it, "" where it is 0.
 _REFUSALS = {
-    1: ("SHORT_WORK", "the work space has under 65,536 bytes"),
-    2: ("NOT_UTF8", "the line is not UTF-8: the first ill-formed sequence is at offset {at}"),
-    3: ("OVER_LONG", "the line has over 256 characters: the 257th is at offset {at}"),
-    4: ("TABLE_LAYOUT", "the bytes are no table: the item at offset {at} is cut off, too long, or left over"),
-    5: ("TABLE_CONTENT", "the table's item at offset {at} says what a table may not say"),
-    6: ("BAD_LISTING", "the listing's edge at offset {at} may not stand there"),
-    7: ("ABOVE_TOP", "a number that starts at place {at} is above 9,007,199,254,740,991"),
-    8: ("TOO_LONG", "the listing is over 1,024 edges, over 32,768 bytes, or longer than the output"),
-    9: ("BAD_PLACE", "a place is past the line's end, or start is after end"),
-    10: ("NUMBER_ABOVE_TOP", "a number above 9,007,199,254,740,991 is not written"),
-    11: ("SUM_ABOVE_TOP", "with the edge of index {at} numerator or denominator of the sum is above 9,007,199,254,740,991"),
-    12: ("NOT_ONE_WORN", "the line has not just one □, or another character outside the table"),
-    13: ("NOTHING_SERVES", "no character makes the line a number up to 9,007,199,254,740,991"),
+    1: ("SHORT_WORK", "the work space has under 65,536 bytes", ""),
+    2: ("NOT_UTF8", "the line is not well-formed UTF-8", "offset of the first ill-formed sequence"),
+    3: ("OVER_LONG", "the line has over 256 characters", "offset of the 257th"),
+    4: ("TABLE_LAYOUT", "the bytes are no table: an item is cut off, too long or has a bit that may not stand, or bytes are left over", "offset of the item, or of what is left over"),
+    5: ("TABLE_CONTENT", "the table has a record or a string that may not stand in one", "offset of the record or string"),
+    6: ("BAD_LISTING", "the bytes are no listing, or have an edge that may not stand over the line", "offset of the edge, or of what is left over"),
+    7: ("ABOVE_TOP", "a number of the line is above 9,007,199,254,740,991", "place where the number starts"),
+    8: ("TOO_LONG", "the listing has over 1,024 edges or over 32,768 bytes, or what is to be written is longer than the output", ""),
+    9: ("BAD_PLACE", "a place is past the end of the line, or start is after end", ""),
+    10: ("NUMBER_ABOVE_TOP", "the number to be written is above 9,007,199,254,740,991", ""),
+    11: ("SUM_ABOVE_TOP", "the sum's numerator or denominator, in lowest terms, is above 9,007,199,254,740,991", "index of the edge in the listing"),
+    12: ("NOT_ONE_MARK", "the line has not just one □, or it has another character outside the plain table", ""),
+    13: ("NONE_SERVES", "none of the sixteen characters makes the line a numeral up to 9,007,199,254,740,991", ""),
 }
 
 
 class Refused(ValueError):
-    """A call was refused: the library's `number`, its `name`, and `at`, the offset, place or index that goes with it, or 0."""
+    """A call was refused: the library's `number` for it, its `name`, a `sentence`, and `at`, the offset, place or index that goes with it, as `place` says, or 0."""
 
     def __init__(self, number: int, at: int) -> None:
-        name, sentence = _REFUSALS.get(number, ("OTHER", "refused {number} at {at}"))
-        super().__init__(sentence.format(number=number, at=at))
+        name, sentence, place = _REFUSALS.get(number, ("UNKNOWN", "the library has no such answer", ""))
+        super().__init__(f"refused {number} {name}: {sentence}" + (f" ({place}: {at})" if place else ""))
         self.number = number
         self.name = name
+        self.sentence = sentence
+        self.place = place
         self.at = at
 
 
@@ -147,7 +150,8 @@ def _edge_at(listing: bytes, offset: int) -> Tuple[Edge, int]:
         return listing[rest[i] : rest[i] + rest[i + 1]].decode()
 
     def f64(i: int) -> float:
-        return struct.unpack("<d", struct.pack("<Q", rest[i]))[0]
+        value: float = struct.unpack("<d", struct.pack("<Q", rest[i]))[0]
+        return value
 
     edge = Edge(
         start=start,
@@ -197,7 +201,13 @@ class Listing(Sequence[Edge]):
     def __len__(self) -> int:
         return len(self._all())
 
-    def __getitem__(self, i):  # type: ignore[no-untyped-def, override]
+    @overload
+    def __getitem__(self, i: int) -> Edge: ...
+
+    @overload
+    def __getitem__(self, i: slice) -> List[Edge]: ...
+
+    def __getitem__(self, i: Union[int, slice]) -> Union[Edge, List[Edge]]:
         return self._all()[i]
 
     def __repr__(self) -> str:
@@ -355,16 +365,23 @@ class Number:
 
 
 def numbers_of(line: Text, table: Optional[bytes] = None) -> List[Number]:
-    """Which number is this line? The one over the whole line where there is one, else the active numbers in it, longest first, and of one length from the left."""
-    listing = add_numbers(line, table)
-    found = [_number(edge) for edge in listing if edge.active and (edge.value is not None or edge.fraction)]
-    whole = [n for n in found if (n.start, n.end) == (0, len(listing.line))]
-    return whole[:1] or sorted(found, key=lambda n: (n.start - n.end, n.start))
+    """Which number is this line? Its active numbers that share no character, longest first, and of equally long ones the one that starts first.
+
+    Where the whole line is one number it is the only one. As `rilvostam_which_numbers` of the header, and `which_number` of the Rust crate.
+
+    >>> numbers_of("墓三号x二十")
+    [Number(value=20, start=4, end=6), Number(value=3, start=1, end=2)]
+    """
+    taken: List[Number] = []
+    found = [edge for edge in add_numbers(line, table) if edge.active and (edge.value is not None or edge.fraction is not None)]
+    for edge in sorted(found, key=lambda e: (e.start - e.end, e.start)):
+        if edge.start < edge.end and all(edge.end <= n.start or n.end <= edge.start for n in taken):
+            taken.append(_number(edge))
+    return taken
 
 
 def _number(edge: Edge) -> Number:
     if edge.value is None:
         assert edge.fraction is not None
         return Number(Fraction(*edge.fraction), edge.start, edge.end)
-    value = int(edge.value) if edge.value == int(edge.value) else edge.value
-    return Number(value, edge.start, edge.end)
+    return Number(int(edge.value) if edge.value.is_integer() else edge.value, edge.start, edge.end)

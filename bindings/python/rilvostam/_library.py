@@ -66,9 +66,10 @@ def _library() -> ctypes.CDLL:
 def function(name: str) -> Callable[..., int]:
     """The C function rilvostam_NAME, with its types."""
     try:
-        found = getattr(_library(), "rilvostam_" + name)
+        found: Any = getattr(_library(), "rilvostam_" + name)
     except AttributeError:
         raise OSError(f"this librilvostam.so has no rilvostam_{name}: it is of another version") from None
     found.argtypes = _FUNCTIONS[name]
     found.restype = ctypes.c_uint32
-    return found
+    called: Callable[..., int] = found
+    return called

@@ -1,7 +1,10 @@
 """Each call of the binding once, with an answer that is known, and each kind of refusal that it can meet."""
 
+import doctest
+import re
 import unittest
 from fractions import Fraction
+from pathlib import Path
 
 import rilvostam
 from rilvostam import Number, Refused
@@ -11,6 +14,27 @@ class Version(unittest.TestCase):
     def test_the_modules_is_the_librarys(self):
         major, minor, patch = map(int, rilvostam.__version__.split("."))
         self.assertEqual(rilvostam.version(), 10000 * major + 100 * minor + patch)
+
+
+class Words(unittest.TestCase):
+    def test_those_of_the_header(self):
+        header = (Path(__file__).parents[3] / "include" / "rilvostam.h").read_text(encoding="utf-8")
+        rows = re.findall(r'^ *\{"(.*?)", "(.*?)", "(.*?)"\},$', header, re.M)
+        self.assertEqual(len(rows), 14)
+        for number, words in enumerate(rows):
+            refused = Refused(number, 7)
+            if number:
+                self.assertEqual((refused.name, refused.sentence, refused.place), words)
+                self.assertIn(f"RILVOSTAM_{refused.name} = {number}", header)
+        self.assertEqual(Refused(14, 0).name, "UNKNOWN")
+        self.assertEqual(str(Refused(2, 1)), "refused 2 NOT_UTF8: the line is not well-formed UTF-8 (offset of the first ill-formed sequence: 1)")
+
+
+class Documentation(unittest.TestCase):
+    def test_examples(self):
+        failed, tried = doctest.testmod(rilvostam)
+        self.assertEqual(failed, 0)
+        self.assertGreater(tried, 2)
 
 
 class Lines(unittest.TestCase):
@@ -24,9 +48,10 @@ class Lines(unittest.TestCase):
         self.assertEqual([e.active for e in edges if e.numeric], [False, False])
 
     def test_numbers_in_a_line_longest_first(self):
-        found = rilvostam.numbers_of("甲三十二乙五")
-        self.assertEqual(found[:2], [Number(32, 1, 4), Number(30, 1, 3)])
-        self.assertEqual([n.value for n in found[2:]], [3, 10, 2, 5])
+        self.assertEqual(rilvostam.numbers_of("甲三十二乙五"), [Number(32, 1, 4), Number(5, 5, 6)])
+        self.assertEqual(rilvostam.numbers_of("墓三号x二十"), [Number(20, 4, 6), Number(3, 1, 2)])
+        self.assertEqual(rilvostam.numbers_of("三x五"), [Number(3, 0, 1), Number(5, 2, 3)])
+        self.assertEqual(rilvostam.numbers_of("三分之一"), [Number(Fraction(1, 3), 0, 4)])
         self.assertEqual(rilvostam.numbers_of("甲乙"), [])
 
     def test_the_formal_table(self):
