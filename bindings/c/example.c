@@ -5,7 +5,7 @@
 #include <stdio.h>
 #include <stdlib.h>
 #include <string.h>
-#include "../../include/rilvostam.h"
+#include "rilvostam.h"
 
 static uint8_t table[4 << 20], work[RILVOSTAM_WORK], listing[RILVOSTAM_OUT];
 
