@@ -3,7 +3,6 @@
 use crate::Fault;
 use std::io::Write;
 
-#[cfg(feature = "sheet")]
 pub fn print(out: &mut dyn Write) -> Result<(), Fault> {
     unsafe extern "C" {
         fn rilvostam_proof_sheet(position: u64, out: *mut u8, out_len: usize, at: *mut u64, next: *mut u64) -> u32;
@@ -22,9 +21,4 @@ pub fn print(out: &mut dyn Write) -> Result<(), Fault> {
         out.write_all(&page[..length as usize])?;
         position = next;
     }
-}
-
-#[cfg(not(feature = "sheet"))]
-pub fn print(_: &mut dyn Write) -> Result<(), Fault> {
-    Err(Fault::unusable("this program was built without the feature sheet"))
 }
