@@ -70,6 +70,8 @@ fn example(number: u32) -> Refusal {
         9 => right_neighbor(b"x", &[0, 0], 2, false).unwrap_err(),
         10 => write_number(9_007_199_254_740_992, &mut [0; NUMERAL]).unwrap_err(),
         11 => pool_shares(b"x", &[&[2, 0][..], &share(9_007_199_254_740_991, 1), &share(1, 1)].concat()).unwrap_err(),
+        12 => worn_character("一二".as_bytes(), &mut [0; WORN]).unwrap_err(),
+        13 => worn_character("十十□".as_bytes(), &mut [0; WORN]).unwrap_err(),
         _ => panic!("no example of refusal {number} here"),
     }
 }
@@ -78,7 +80,7 @@ fn example(number: u32) -> Refusal {
 fn refusals_are_the_librarys() {
     let told: Vec<Vec<&str>> = rows(5).filter(|cells| cells[0].parse::<u32>().is_ok()).collect();
     assert_eq!(told.len(), 13);
-    for (cells, number) in told.iter().zip(1..=11) {
+    for (cells, number) in told.iter().zip(1..=13) {
         let refusal = example(number);
         assert_eq!((cells[0], cells[1], cells[4]), (&*refusal.number().to_string(), refusal.name(), &*refusal.at.to_string()));
         assert_eq!(refusal.number(), number);
