@@ -3,7 +3,7 @@
 are held against tools/model/model.py, and the comparisons with the old program leave them out.
 
 usage: wide.py COUNT SEED CASES ANSWERS    writes 02's own cases and COUNT random ones, and the model's answers, in the form of `oracle gen` and `oracle answer`
-       wide.py --without CASES             writes those of the cases (tools/oracle/README.md) whose line and table hold no wide character
+       wide.py --without CASES             writes those of the cases (tools/oracle/README.md) whose line holds no wide character, nor a marker or sign of the table
 """
 import pathlib
 import random
@@ -92,8 +92,18 @@ def cases(count, seed):
         yield any_case(rng, plain)
 
 
-def holds_wide(*texts):
-    return any(map(WIDE.search, texts))
+def lists_of(table):
+    """The bytes of a table's four lists, as far as they go: its records may hold wide characters, which nothing folds."""
+    at = 2
+    for _ in range(4):
+        count, at = table[at] if at < len(table) else 0, at + 1
+        for _ in range(count):
+            at += 1 + table[at] if at < len(table) else 0
+    return table[2:at]
+
+
+def holds_wide(line, table):
+    return bool(WIDE.search(line) or WIDE.search(lists_of(table)))
 
 
 def put(f, *parts):
