@@ -1,6 +1,7 @@
 // Replays tables against `regular::check_regular`: a line of standard input is a table in hexadecimal, a space, and what it is. The answer goes to standard output with
 // the same words, one line each. `tools/model/regular.py vectors` writes the tables, and with the word `answers` the expected answers.
 use regular::RegularCheck;
+use vectors::ROWS;
 
 fn report(table: &[u8]) {
     match regular::check_regular(table) {
@@ -29,17 +30,15 @@ fn answer(line: &[u8]) {
     io::write_all(1, b"\n");
 }
 
-fn replay(s: &[u8]) {
-    let mut at = 0;
-    while at < s.len() {
-        let end = vectors::until(s, at, b'\n');
-        answer(&s[at..end]);
-        at = end + 1;
+fn replay(input: &[u8], ends: &[usize; ROWS], rows: usize) {
+    for i in 0..rows {
+        answer(vectors::row(input, ends, i));
     }
 }
 
 fn main() {
     let mut input = io::large_buffer();
-    let got = io::read_full(0, &mut input);
-    replay(&input[..got]);
+    let mut ends = [0usize; ROWS];
+    let rows = vectors::read_rows(&mut input, &mut ends);
+    replay(&input, &ends, rows);
 }

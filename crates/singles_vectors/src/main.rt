@@ -5,6 +5,7 @@ use answers::Answer;
 use call::WORK_SIZE;
 use edge::bits;
 use lattice::MOST_BYTES;
+use vectors::ROWS;
 use walker::steps::Here;
 
 fn bit_word(map: u16) {
@@ -95,17 +96,15 @@ fn answer(row: &[u8]) {
     }
 }
 
-fn replay(s: &[u8]) {
-    let mut at = 0;
-    while at < s.len() {
-        let end = vectors::until(s, at, b'\n');
-        answer(&s[at..end]);
-        at = end + 1;
+fn replay(input: &[u8], ends: &[usize; ROWS], rows: usize) {
+    for i in 0..rows {
+        answer(vectors::row(input, ends, i));
     }
 }
 
 fn main() {
     let mut input = io::large_buffer();
-    let got = io::read_full(0, &mut input);
-    replay(&input[..got]);
+    let mut ends = [0usize; ROWS];
+    let rows = vectors::read_rows(&mut input, &mut ends);
+    replay(&input, &ends, rows);
 }

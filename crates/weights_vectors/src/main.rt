@@ -2,20 +2,19 @@
 // answer with an output of just as many bytes; and, where there are any, with one byte less.
 // `tools/model/numerals.py vectors S-9` writes the lines, and with the word `answers` the expected answers.
 ghost use Prim.Native.Nat.{_≤_};
+use vectors::ROWS;
 use weights::Weighed;
 
 fn main() {
-    let mut buf = io::large_buffer();
-    let n = io::read_full(0, &mut buf);
-    replay(&buf[..n]);
+    let mut input = io::large_buffer();
+    let mut ends = [0usize; ROWS];
+    let rows = vectors::read_rows(&mut input, &mut ends);
+    replay(&input, &ends, rows);
 }
 
-fn replay(s: &[u8]) {
-    let mut at = 0;
-    while at < s.len() {
-        let end = vectors::until(s, at, b'\n');
-        show(&s[at..end]);
-        at = end + 1;
+fn replay(input: &[u8], ends: &[usize; ROWS], rows: usize) {
+    for i in 0..rows {
+        show(vectors::row(input, ends, i));
     }
 }
 
