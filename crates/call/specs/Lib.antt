@@ -3,5 +3,7 @@
 pub mod Checks
 -- last_stages: The stages after the passes.
 pub mod Rest
+-- stages: All stages, up to the finished lattice.
+pub mod Stages
 -- ending: What the call answers.
 pub mod Answers

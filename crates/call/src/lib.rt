@@ -2,12 +2,13 @@
 // same with one stage more.
 pub mod checks; // checks.rt: the checks 2 to 6
 pub mod last_stages; // last_stages.rt: the stages after the passes, in turn
+pub mod stages; // stages.rt: all stages, up to the finished lattice
 pub mod ending; // ending.rt: the listing in the output, or refusal 8
 
 ghost use mathlib.Core.Path.{_≡_};
 ghost use Prim.Native.Nat.{ℕ, _≤_};
 ghost use lib.ListN.{length};
-ghost use Rattle.numbers.specs.Ready.{Offsets, workSize};
+ghost use Rattle.numbers.specs.Ready.{workSize};
 ghost use Rattle.text.specs.Text.{chars};
 ghost use Rattle.table.specs.Answers.{tableOf};
 ghost use Rattle.edge.specs.Layout.{listed};
@@ -16,21 +17,19 @@ ghost use Rattle.table_check.specs.Indexed.{RecordIndex};
 ghost use Rattle.call.specs.Checks.{Accepted};
 ghost use Rattle.call.specs.Answers.{AnswerIs};
 use crate::checks::CallCheck;
+use crate::stages::StagesAnswer;
 pub use answers::Answer;
 pub use answers::Refusal;
 pub use answers::refusal_told;
-use first_stages::five_passes::PassesAnswer;
 use table::index::INDEX_SIZE;
 use table::shape::Shape;
-use text::check::PLACES;
 
 // The least work space (refusal 1).
 pub const WORK_SIZE: usize = 65536;
 
-// The stages, for what passed its checks; silencing says whether singles that may not stand turn inactive. The output is written only at the end.
+// The stages and their ending, for what passed its checks; silencing says whether singles that may not stand turn inactive. The output is written only at the end.
 fn checked_call(
     line: &[u8],
-    offs: &[usize; PLACES],
     table: &[u8],
     shape: Shape,
     places: usize,
@@ -42,39 +41,26 @@ fn checked_call(
     out: &mut [u8],
     silencing: bool,
 ) -> Answer
-    requires { ⌜ Offsets (now line) (now offs) × (workSize ≤ length (now work))
-        × Accepted (now line) (now table) (now edges) places shape count
+    requires { ⌜ (workSize ≤ length (now work)) × Accepted (now line) (now table) (now edges) places shape count
         × RecordIndex (now table) shape (now index) entries ⌝ }
     ensures { λ r. ⌜ AnswerIs (now (out .entry)) (now (out .exit)) r
         (afterChecks silencing (tableOf (now (table .entry)) shape) (chars (now (line .entry)))
         (length (now (out .entry))) (listed (now (edges .entry)))) ⌝ }
 {
-    match first_stages::run_first_stages(
+    match crate::stages::run_stages(
         work,
         line,
-        offs,
         table,
         shape,
+        places,
         edges,
         count,
         index,
         entries,
+        silencing,
     ) {
-        PassesAnswer::Above(p) => Answer::Refused(Refusal::AboveTop(p)),
-        PassesAnswer::Added(m, k) => {
-            let l = crate::last_stages::run_last_stages(
-                work,
-                m,
-                line,
-                offs,
-                table,
-                shape,
-                places,
-                k,
-                silencing,
-            );
-            crate::ending::finish_call(work, l, out)
-        }
+        StagesAnswer::Above(p) => Answer::Refused(Refusal::AboveTop(p)),
+        StagesAnswer::Made(l) => crate::ending::finish_call(work, l, out),
     }
 }
 
@@ -98,24 +84,19 @@ fn add_numbers_by(
     let mut entries: usize = 0;
     match crate::checks::check(line, table, edges, &mut index, &mut entries) {
         CallCheck::Refused(r) => Answer::Refused(r),
-        CallCheck::Accepted(n, h, count) => {
-            let mut offs = [0usize; PLACES];
-            pass_edge::places::place_offsets(line, &mut offs);
-            checked_call(
-                line,
-                &offs,
-                table,
-                h,
-                n,
-                edges,
-                count,
-                &index,
-                entries,
-                work,
-                out,
-                silencing,
-            )
-        }
+        CallCheck::Accepted(n, h, count) => checked_call(
+            line,
+            table,
+            h,
+            n,
+            edges,
+            count,
+            &index,
+            entries,
+            work,
+            out,
+            silencing,
+        ),
     }
 }
 

@@ -1,9 +1,6 @@
 -- `call::add_numbers_by` meets its contract, by what the checks find. Assumes nothing.
 use borrow.Author.Needs.{needs}
 use mathlib.Core.Path.{_≡_, subst}
-use native.Mathlib.Omega.{arith}
-use lib.ListN.{length, length-replicate}
-use Prim.Native.Nat.{ℕ}
 use Rattle.call.specs.declared.checks.CallCheck.{CallCheck}
 use Rattle.table_check.specs.Indexed.{RecordIndex}
 use Rattle.call.specs.Checks.{Accepted, CallCheckIs, CallCheckIndexed}
@@ -40,11 +37,8 @@ enum-known-r c = search needs
 enum-known-n : tie.Need-enum-known-n
 enum-known-n c = search needs
 
-place-offsets-requires : tie.Need-place-offsets-requires
-place-offsets-requires c κs = let n = c .before .before in (sound n .ready .formed, omega (arith, sound n .ready .few, sound n .ready .count), length-replicate {A = ℕ} 257 0)
-
 checked-call-requires : tie.Need-checked-call-requires
-checked-call-requires c κs = let p = c .before .before .before .before in let n = p .before .before .before in (p .place-offsets .ensures, n .before .before .before .before .before .if1 .left, sound n, indexed n)
+checked-call-requires c κs = let n = c .before .before .before .before in (n .before .before .before .before .before .if1 .left, sound n, indexed n)
 
 returns-2 : tie.Need-returns-2
 returns-2 c = let k = c .before .before .before in answer-refused _ _ _ _ _ _ (k .before .before .before .if1 .left) _ (found k _ (c .before .r .given .1))
@@ -57,7 +51,7 @@ same-length-2 c = search needs
 
 returns-3 : tie.Need-returns-3
 returns-3 c = let a = c .before .before .before .before in
-    let n = a .before .before .before .before .before .before .before .before in
+    let n = a .before .before .before .before .before in
     answer-sound _ _ _ _ _ _ (n .before .before .before .before .before .if1 .left) (sound n) _ _ (a .checked-call .ensures)
 
 pub add-numbers-by-spec : {M : Type 1} → statement M
@@ -68,7 +62,6 @@ add-numbers-by-spec =
     check-requires
     enum-known-r
     enum-known-n
-    place-offsets-requires
     checked-call-requires
     returns-2
     same-length
