@@ -234,25 +234,29 @@ static inline int rilvostam_next_edge(const uint8_t *listing, size_t listing_len
     return 1;
 }
 
-/* Which number is this line? The active numeric edges of its listing that share no character, longest first, and of equally long ones the one that starts first; at most
- * room of them go to numbers. Answers how many. Where the whole line is one number it is the only one: its start is 0 and its end the count of the line's characters.
- * A number has a value or a fraction (map); txt is what it reads as. */
-static inline size_t rilvostam_which_numbers(const uint8_t *listing, size_t listing_len, rilvostam_edge *numbers, size_t room) {
-    size_t count = 0;
-    while (count < room) {
-        rilvostam_edge e, *best = numbers + count;
-        uint64_t at = 0, longest = 0;
-        while (rilvostam_next_edge(listing, listing_len, &at, &e)) {
-            int fits = (e.map & RILVOSTAM_IS_ACTIVE) != 0 && (e.map & (RILVOSTAM_HAS_VALUE | RILVOSTAM_HAS_FRACTION)) != 0;
-            for (size_t i = 0; i < count && fits; i++) fits = e.end <= numbers[i].start || numbers[i].end <= e.start;
-            if (!fits || e.end <= e.start || e.end - e.start < longest || (e.end - e.start == longest && best->start <= e.start)) continue;
-            longest = e.end - e.start;
-            *best = e;
+/* Which number is this line? Of its listing, the active numeric edges with a value or a fraction (map): where just one of them spans the whole line, that one alone, so that its
+ * value is the line's; else all of them, longest first, of equally long ones the one that starts first, then in listing order. A part of a longer number is one of them too: of
+ * 墓三号x二十 these are 20, 3, 2 and 10. Percentages and numbers with a sign are regular edges, without a value, and are none: of -五 it is 5, from place 1 to 2.
+ * At most room go to numbers; RILVOSTAM_EDGES hold those of every listing that rilvostam_add_numbers makes. Answers how many went. */
+#define RILVOSTAM_EDGES 1024
+static inline size_t rilvostam_which_numbers(const uint8_t *line, size_t line_len, const uint8_t *listing, size_t listing_len, rilvostam_edge *numbers, size_t room) {
+    rilvostam_edge e;
+    uint64_t at = 0, characters = 0;
+    size_t count = 0, whole = 0, i;
+    for (i = 0; i < line_len; i++) characters += (line[i] & 0xC0) != 0x80;
+    while (rilvostam_next_edge(listing, listing_len, &at, &e)) {
+        if ((e.map & RILVOSTAM_IS_ACTIVE) == 0 || (e.map & (RILVOSTAM_HAS_VALUE | RILVOSTAM_HAS_FRACTION)) == 0) continue;
+        whole += e.end - e.start == characters;
+        /* It goes behind those that are longer, and those as long that do not start after it. */
+        for (i = count; i > 0; i--) {
+            const rilvostam_edge *before = numbers + i - 1;
+            if (before->end - before->start > e.end - e.start || (before->end - before->start == e.end - e.start && before->start <= e.start)) break;
+            if (i < room) numbers[i] = *before;
         }
-        if (longest == 0) break;
-        count++;
+        if (i < room) numbers[i] = e;
+        if (count < room) count++;
     }
-    return count;
+    return whole == 1 && count > 1 ? 1 : count;
 }
 
 /* The numeral of a number, at the front of out, in UTF-8 with the characters of the plain table: 10010000 is 一千零一万, and 0 is 零. A number above TOP is refused 10

@@ -33,8 +33,8 @@ static size_t characters(const char *line) {
 }
 
 static void print_numbers(const char *line, size_t len) {
-    static rilvostam_edge numbers[256];
-    size_t n = rilvostam_which_numbers(listing, len, numbers, 256), i;
+    static rilvostam_edge numbers[RILVOSTAM_EDGES];
+    size_t n = rilvostam_which_numbers((const uint8_t *)line, strlen(line), listing, len, numbers, RILVOSTAM_EDGES), i;
     for (i = 0; i < n; i++) {
         rilvostam_edge e = numbers[i];
         if (e.start != 0 || e.end != characters(line)) printf("from %llu to %llu: ", (unsigned long long)e.start, (unsigned long long)e.end);

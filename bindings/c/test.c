@@ -69,20 +69,44 @@ static void edges(void) {
     CHECK(count == 3 && at == len);
 }
 
+/* Which numbers a line is, at most room of them: start, end and txt of each, as "0 3 15000,". */
+static const char *which(const char *line, size_t room) {
+    static rilvostam_edge n[RILVOSTAM_EDGES + 1];
+    static char said[256];
+    memset(n, 0, sizeof n);
+    size_t len = list(line), count = rilvostam_which_numbers(bytes(line), strlen(line), listing, len, n, room);
+    CHECK(count <= room && n[room].end == 0);
+    *said = 0;
+    for (size_t i = 0; i < count; i++) sprintf(said + strlen(said), "%d %d %.*s,", (int)n[i].start, (int)n[i].end, (int)n[i].txt.len, n[i].txt.at);
+    return said;
+}
+
 static void numbers(void) {
-    rilvostam_edge n[8];
-    size_t len = list("一万五");
-    CHECK(rilvostam_which_numbers(listing, len, n, 8) == 1 && n[0].start == 0 && n[0].end == 3 && n[0].value == 15000);
-    len = list("墓三号x二十");
-    CHECK(rilvostam_which_numbers(listing, len, n, 8) == 2 && n[0].start == 4 && n[0].value == 20 && n[1].start == 1 && n[1].value == 3);
-    CHECK(rilvostam_which_numbers(listing, len, n, 1) == 1 && n[0].value == 20);
-    CHECK(rilvostam_which_numbers(listing, len, n, 0) == 0);
-    len = list("一百一百");
-    CHECK(rilvostam_which_numbers(listing, len, n, 8) == 2 && n[0].start == 0 && n[0].value == 100 && n[1].start == 2 && n[1].value == 100);
+    static const struct {
+        const char *line, *numbers;
+    } rows[] = {
+        {"一万五", "0 3 15000,"},
+        {"三分之一", "0 4 1/3,"},
+        {"零", "0 1 0,"},
+        {"墓三号x二十", "4 6 20,1 2 3,4 5 2,5 6 \xc2\xb7" "10,"},
+        {"一百一百", "0 2 100,2 4 \xc2\xb7" "100,0 1 1,1 2 \xc2\xb7" "100,2 3 \xc2\xb7" "1,3 4 \xc2\xb7" "100,"},
+        {"x二分之一分之一", "1 5 1/2,4 8 1/1,"},
+        {"百分之五", ""},
+        {"-五", "1 2 5,"},
+        {"x", ""},
+        {"", ""},
+    };
+    rilvostam_edge n[3];
+    for (size_t i = 0; i < sizeof rows / sizeof *rows; i++) CHECK(strcmp(which(rows[i].line, RILVOSTAM_EDGES), rows[i].numbers) == 0);
+    CHECK(strcmp(which("墓三号x二十", 2), "4 6 20,1 2 3,") == 0 && strcmp(which("墓三号x二十", 1), "4 6 20,") == 0 && *which("墓三号x二十", 0) == 0);
+    CHECK(strcmp(which("一万五", 1), "0 3 15000,") == 0 && *which("一万五", 0) == 0);
+    size_t len = list("一万五"), line_len = strlen("一万五");
+    CHECK(rilvostam_which_numbers(bytes("一万五"), line_len, listing, len, n, 3) == 1 && n[0].value == 15000);
     len = list("三分之一");
-    CHECK(rilvostam_which_numbers(listing, len, n, 8) == 1 && n[0].numerator == 1 && n[0].denominator == 3 && !(n[0].map & RILVOSTAM_HAS_VALUE));
-    len = list("百分之五");
-    CHECK(rilvostam_which_numbers(listing, len, n, 8) == 0);
+    CHECK(rilvostam_which_numbers(bytes("三分之一"), strlen("三分之一"), listing, len, n, 3) == 1 && n[0].numerator == 1 && n[0].denominator == 3 && !(n[0].map & RILVOSTAM_HAS_VALUE));
+    /* Two numbers that span the whole line x are both given, in listing order; one without value and fraction is none. */
+    const uint8_t two_values[] = "\x03\0\x81\0\0\0\x01\0\0\0\0\0\0\0\x83\0\0\0\x01\0\0\0\0\0\0\0\0\0\0\0\0\0\x14\x40\x83\0\0\0\x01\0\0\0\0\0\0\0\0\0\0\0\0\0\x08\x40";
+    CHECK(rilvostam_which_numbers(bytes("x"), 1, two_values, sizeof two_values - 1, n, 3) == 2 && n[0].value == 5 && n[1].value == 3);
 }
 
 static void tables(void) {

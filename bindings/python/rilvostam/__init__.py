@@ -365,19 +365,22 @@ class Number:
 
 
 def numbers_of(line: Text, table: Optional[bytes] = None) -> List[Number]:
-    """Which number is this line? Its active numbers that share no character, longest first, and of equally long ones the one that starts first.
+    """Which number is this line? Where just one active number spans the whole line, that one alone; else all active numbers in it, longest first, of equally long
+    ones the one that starts first, then in listing order.
 
-    Where the whole line is one number it is the only one. As `rilvostam_which_numbers` of the header, and `which_number` of the Rust crate.
+    A part of a longer number is one of them too. Percentages and numbers with a sign are regular edges, without a value, and are none. As `rilvostam_which_numbers` of
+    the header, and `which_number` of the Rust crate.
 
-    >>> numbers_of("墓三号x二十")
-    [Number(value=20, start=4, end=6), Number(value=3, start=1, end=2)]
+    >>> numbers_of("一万五")
+    [Number(value=15000, start=0, end=3)]
+    >>> [(n.value, n.start, n.end) for n in numbers_of("墓三号x二十")]
+    [(20, 4, 6), (3, 1, 2), (2, 4, 5), (10, 5, 6)]
     """
-    taken: List[Number] = []
-    found = [edge for edge in add_numbers(line, table) if edge.active and (edge.value is not None or edge.fraction is not None)]
-    for edge in sorted(found, key=lambda e: (e.start - e.end, e.start)):
-        if edge.start < edge.end and all(edge.end <= n.start or n.end <= edge.start for n in taken):
-            taken.append(_number(edge))
-    return taken
+    listing = add_numbers(line, table)
+    found = [_number(edge) for edge in listing if edge.active and (edge.value is not None or edge.fraction is not None)]
+    found.sort(key=lambda n: (n.start - n.end, n.start))
+    whole = [n for n in found if n.end - n.start == len(listing.line)]
+    return whole if len(whole) == 1 else found
 
 
 def _number(edge: Edge) -> Number:

@@ -48,10 +48,12 @@ class Lines(unittest.TestCase):
         self.assertEqual([e.active for e in edges if e.numeric], [False, False])
 
     def test_numbers_in_a_line_longest_first(self):
-        self.assertEqual(rilvostam.numbers_of("甲三十二乙五"), [Number(32, 1, 4), Number(5, 5, 6)])
-        self.assertEqual(rilvostam.numbers_of("墓三号x二十"), [Number(20, 4, 6), Number(3, 1, 2)])
+        self.assertEqual(rilvostam.numbers_of("墓三号x二十"), [Number(20, 4, 6), Number(3, 1, 2), Number(2, 4, 5), Number(10, 5, 6)])
+        self.assertEqual(rilvostam.numbers_of("x二分之一分之一"), [Number(Fraction(1, 2), 1, 5), Number(Fraction(1), 4, 8)])
         self.assertEqual(rilvostam.numbers_of("三x五"), [Number(3, 0, 1), Number(5, 2, 3)])
         self.assertEqual(rilvostam.numbers_of("三分之一"), [Number(Fraction(1, 3), 0, 4)])
+        self.assertEqual(rilvostam.numbers_of("-五"), [Number(5, 1, 2)])
+        self.assertEqual(rilvostam.numbers_of("百分之五"), [])
         self.assertEqual(rilvostam.numbers_of("甲乙"), [])
 
     def test_the_formal_table(self):

@@ -20,13 +20,14 @@ pub struct Number {
 /// What [`which_number`] answers.
 #[derive(Clone, Debug, PartialEq)]
 pub enum Which {
-    /// The whole line is this number.
+    /// The whole line is this one number.
     Whole(Number),
     /// The numbers in the line, longest first; none where it has none.
     Parts(Vec<Number>),
 }
 
-/// Which number is this line? The whole line as one number, or the active numbers in it that share no character, longest first, and of equally long ones the one that starts first.
+/// Which number is this line? The whole line, where just one active number spans it; else all active numbers in it, longest first, of equally long ones the one that starts first,
+/// then in listing order. A part of a longer number is one of them too. Percentages and numbers with a sign are regular edges, without a value, and are none.
 ///
 /// ```
 /// use rilvostam::{Which, plain_table, which_number};
@@ -34,22 +35,20 @@ pub enum Which {
 /// assert_eq!(number.value, Some(15000.0));
 /// let Which::Parts(numbers) = which_number("墓三号x二十", &plain_table())? else { panic!() };
 /// let found: Vec<_> = numbers.iter().map(|n| (n.start, n.end, n.value.unwrap())).collect();
-/// assert_eq!(found, [(4, 6, 20.0), (1, 2, 3.0)]);
+/// assert_eq!(found, [(4, 6, 20.0), (1, 2, 3.0), (4, 5, 2.0), (5, 6, 10.0)]);
 /// # Ok::<(), rilvostam::Refusal>(())
 /// ```
 pub fn which_number(line: &str, table: &[u8]) -> Result<Which, Refusal> {
     let listing = add_numbers(line, table, NO_EDGES)?;
-    let mut found: Vec<Edge> = edges(&listing).filter(|e| e.num.is_some_and(|n| n.active && (n.value.is_some() || n.fraction.is_some()))).collect();
-    found.sort_by_key(|e| (std::cmp::Reverse(e.end - e.start), e.start)); // it keeps the listing's order of what is equal
-    let mut taken: Vec<Number> = Vec::new();
-    for e in found {
-        if taken.iter().all(|n| e.end <= n.start || n.end <= e.start) {
-            let num = e.num.expect("it was asked for above");
-            taken.push(Number { start: e.start, end: e.end, txt: e.txt.into(), value: num.value, fraction: num.fraction });
-        }
-    }
-    match &taken[..] {
-        [one] if one.start == 0 && one.end == line.chars().count() => Ok(Which::Whole(one.clone())),
-        _ => Ok(Which::Parts(taken)),
-    }
+    let mut numbers: Vec<Number> = edges(&listing).filter_map(number_of).collect();
+    numbers.sort_by_key(|n| (std::cmp::Reverse(n.end - n.start), n.start)); // it keeps the listing's order of what is equal
+    let characters = line.chars().count();
+    let whole = numbers.iter().take_while(|n| n.end - n.start == characters).count();
+    Ok(if whole == 1 { Which::Whole(numbers.swap_remove(0)) } else { Which::Parts(numbers) })
+}
+
+/// An active numeric edge with a value or a fraction.
+fn number_of(e: Edge) -> Option<Number> {
+    let num = e.num.filter(|n| n.active && (n.value.is_some() || n.fraction.is_some()))?;
+    Some(Number { start: e.start, end: e.end, txt: e.txt.into(), value: num.value, fraction: num.fraction })
 }
