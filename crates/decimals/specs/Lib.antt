@@ -1,0 +1,2 @@
+-- The definitions that the contracts of `decimals` cite.
+pub mod Quotient
