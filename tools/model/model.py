@@ -16,6 +16,7 @@ from math import gcd
 
 TOP = 2**53 - 1
 FIVE = ("D1", "G1", "G2", "G3", "G4")
+POINT = ord(".")
 GAPS = ("零".encode(), "〇".encode())
 BARRED = [c.encode() for c in "兩参參伍陆陸什"]
 
@@ -82,7 +83,7 @@ def char_edge(place, c, r):
     return {
         "start": place, "end": place + 1, "type": r["type"], "txt": own if r["rom"] is None else r["rom"], "orig": own,
         "value": r["value"], "fraction": lowest(r["fraction"]) if r["fraction"] else None, "base": r["base"], "mult": r["mult"],
-        "script": r["script"], "large": r["large"], "active": True, "value_s": None,
+        "script": r["script"], "large": r["large"], "active": True, "value_s": None, "decimals": 0,
     }
 
 
@@ -153,7 +154,7 @@ RULES = {"D1": d1_rule, "G1": g1_rule, "G2": g2_rule, "G3": g3_rule, "G4": g4_ru
 def over(name, l, r, value, base, large):
     return {
         "start": l["start"], "end": r["end"], "type": name.encode(), "txt": str(value).encode(), "orig": l["orig"] + r["orig"],
-        "value": value, "fraction": None, "base": base, "mult": None, "script": r["script"], "large": large, "active": True, "value_s": None,
+        "value": value, "fraction": None, "base": base, "mult": None, "script": r["script"], "large": large, "active": True, "value_s": None, "decimals": 0,
     }
 
 
@@ -176,12 +177,49 @@ def nearest(e, near):
     return near if gap(e) else or_zero(e["base"])
 
 
-def chains(name, edges):
+# ---- crates/passes/specs/DecimalPasses (02, S-13): an edge's value is what its digits say, with the point left out; 0 decimals where there is no point
+def point_places(records, w):
+    """The places of a point, where that has no record."""
+    return set() if POINT in records else {p for p, c in enumerate(w) if c == POINT}
+
+
+def next_digit(c, e, points):
+    l = c["edge"]
+    if not d1_rule(c, e):
+        return None
+    if l["end"] == e["start"] and l["decimals"] < 15:
+        return joined("D1", l, e) | {"decimals": l["decimals"] + 1 if l["decimals"] else 0}
+    if l["end"] in points and l["end"] + 1 == e["start"] and not l["decimals"]:
+        return joined("D1", l | {"txt": l["txt"] + b".", "orig": l["orig"] + b"."}, e) | {"decimals": 1}
+    return None
+
+
+def takes_decimal(name, c, e):
+    """Whether G1 or G3 takes the chain's edge, which has decimals, on the left: by the exact product of the written decimal."""
+    l, power = c["edge"], 10 ** c["edge"]["decimals"]
+    if e["decimals"] or name not in ("G1", "G3") or name == "G1" and or_zero(l["value"]) < power:
+        return False
+    return RULES[name](c, e) and or_zero(l["value"]) * or_zero(e["value"]) % power == 0
+
+
+def next_later(name, c, e):
+    l = c["edge"]
+    if l["end"] != e["start"]:
+        return None
+    if not l["decimals"] and not e["decimals"]:
+        return joined(name, l, e) if RULES[name](c, e) else None
+    if not takes_decimal(name, c, e):
+        return None
+    return over(name, l, e, or_zero(l["value"]) * or_zero(e["value"]) // 10 ** l["decimals"], e["base"], name == "G3")
+
+
+def chains(name, edges, points):
     made = []
     for e in edges:
         c = made[-1] if made else None
-        if c and c["edge"]["end"] == e["start"] and RULES[name](c, e):
-            made[-1] = {"edge": joined(name, c["edge"], e), "more": True, "near": nearest(e, c["near"])}
+        longer = None if c is None else next_digit(c, e, points) if name == "D1" else next_later(name, c, e)
+        if longer:
+            made[-1] = {"edge": longer, "more": True, "near": nearest(e, c["near"])}
         else:
             made.append({"edge": e, "more": False, "near": nearest(e, None)})
     return made
@@ -194,7 +232,10 @@ def regular(start, end, kind, txt):
 
 def listed_edge(e):
     fields = ("orig", "value", "fraction", "base", "mult", "script", "large", "active", "value_s")
-    return regular(e["start"], e["end"], e["type"], e["txt"]) | {"num": {f: e[f] for f in fields}}
+    num = {f: e[f] for f in fields} | {"decimals": e["decimals"] or None}
+    if e["decimals"]:
+        num["value"] = float(e["value"]) / float(10 ** e["decimals"])
+    return regular(e["start"], e["end"], e["type"], e["txt"]) | {"num": num}
 
 
 def key(e):
@@ -253,14 +294,14 @@ def made_at(lists, w, edges, place):
     percentage, size = (True, p) if c <= p else (False, c)
     i, j = best(edges, lambda e: e["end"] == place), best(edges, lambda e: e["start"] == place + size)
     l, r = (None if k is None else edges[k] for k in (i, j))
-    value = lambda e: e["num"]["value"] if e and e["num"] else None
+    value = lambda e: e["num"]["value"] if e and e["num"] and not e["num"]["decimals"] else None
     left, right = value(l), value(r)
     if left is not None and right is not None:
         if left == 100:
             return regular(l["start"], r["end"], b"percentage", b"%d%%" % right), [i, j]
         if not percentage and left != 0:
             txt = b"%d/%d" % (right, left)
-            num = dict.fromkeys(("value", "base", "mult", "value_s")) | {
+            num = dict.fromkeys(("value", "base", "mult", "value_s", "decimals")) | {
                 "orig": txt, "fraction": lowest((right, left)), "script": r["num"]["script"], "large": False, "active": True,
             }
             return regular(l["start"], r["end"], b"fraction", txt) | {"num": num}, [i, j]
@@ -330,7 +371,7 @@ def edge_bytes(e):
         bits, rest = 1 | n["large"] << 6 | n["active"] << 7, string(n["orig"])
         fields = (
             (1, "value", lambda v: struct.pack("<d", v)), (2, "fraction", lambda v: struct.pack("<QQ", *v)), (3, "base", lambda v: struct.pack("<Q", v)),
-            (4, "mult", lambda v: struct.pack("<d", v)), (5, "script", string), (8, "value_s", string),
+            (4, "mult", lambda v: struct.pack("<d", v)), (5, "script", string), (8, "value_s", string), (9, "decimals", lambda v: bytes([v])),
         )
         for bit, field, put in fields:
             if n[field] is not None:
@@ -339,11 +380,11 @@ def edge_bytes(e):
     return struct.pack("<HHH", bits, e["start"], e["end"]) + string(e["type"]) + string(e["txt"]) + rest
 
 
-def five_lists(records, w):
-    """D1's list and the lists after the five passes, and the joined edges in order."""
+def five_lists(records, w, points=()):
+    """D1's list and the lists after the five passes, and the joined edges in order; points are the places that D1 joins across (02, S-13)."""
     lists, added = [[char_edge(p, c, records[c]) for p, c in enumerate(w) if c in records]], []
     for name in FIVE:
-        made = chains(name, lists[-1])
+        made = chains(name, lists[-1], points)
         added += [c["edge"] for c in made if c["more"]]
         lists.append([c["edge"] for c in made])
     return lists, added
@@ -354,9 +395,9 @@ def above_at(added):
     return next((e["start"] for e in added if e["value"] > TOP), None)
 
 
-def add_numbers(line, table, given, ordered, without_singles=False):
+def add_numbers(line, table, given, ordered, without_singles=False, with_decimals=False):
     w, (lists, records) = chars(line), read_table(table)
-    passed, added = five_lists(records, w)
+    passed, added = five_lists(records, w, point_places(records, w) if with_decimals else ())
     first, edges = passed[0], passed[-1]
     if (above := above_at(added)) is not None:
         return struct.pack("<BI", 7, above)
