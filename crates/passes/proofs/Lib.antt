@@ -11,3 +11,6 @@ pub mod Parts
 pub mod GapTexts
 pub mod Twins
 pub mod TwinLines
+pub mod DecimalAgrees
+pub mod DecimalLaws
+pub mod DecimalCases

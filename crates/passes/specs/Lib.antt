@@ -3,5 +3,6 @@ pub mod NumEdge
 pub mod Characters
 pub mod Chains
 pub mod Passes
+pub mod DecimalPasses
 pub mod Moved
 pub mod Renaming
