@@ -3,7 +3,7 @@
 --     charStored t p at i c   the stored edge of the code point c at place i
 -- proofs/CharLaws.antt shows that it stands for the definition's edge.
 -- Assumes nothing.
-use mathlib.Core.Bool.{Bool, cond, _&&_, _||_}
+use mathlib.Core.Bool.{Bool, false, cond, _&&_, _||_}
 use mathlib.Core.List.{List}
 use Prim.Native.Nat.{ℕ, _+_}
 use lib.Dec.{leb, eqb}
@@ -39,4 +39,6 @@ charStored t p at i c = record {
   digit = isDigitType (partOf t (p .«num_type»)) && bit (p .map) 1 && leb (numberIf (bit (p .map) 1) (p .numbers .value)) 9;
   gap = eqb c 0x96F6 || eqb c 0x3007;
   cjk = bit (p .map) 5 && same (partOf t (p .script)) cjk;
+  decimals = 0;
+  point = false;
 }

@@ -62,6 +62,8 @@ fn char_num(table: &[u8], prop: NumProp, record_at: Offset, place: Place, code: 
         digit: is_digit_type(table, num_type) & has_value & (value <= 9),
         gap: (code == 0x96F6) | (code == 0x3007),
         cjk: has_script & is_cjk(table, script),
+        decimals: 0,
+        point: false,
         script: script_at,
         script_len: script.len,
     }

@@ -53,6 +53,7 @@ record Marks (x : StoredEdge) : Type 0 where
   digit : flag (x .digit) ≤ 1
   gap : flag (x .gap) ≤ 1
   cjk : flag (x .cjk) ≤ 1
+  point : flag (x .point) ≤ 1
 
 record MapBits (x : StoredEdge) : Type 0 where
   has-value : mapOf (numData x) / 2 % 2 ≡ flag (x .has-value)
@@ -63,9 +64,11 @@ record MapBits (x : StoredEdge) : Type 0 where
   digit : mapOf (numData x) / 256 % 2 ≡ flag (x .digit)
   gap : mapOf (numData x) / 512 % 2 ≡ flag (x .gap)
   cjk : mapOf (numData x) / 1024 % 2 ≡ flag (x .cjk)
+  decimals : mapOf (numData x) / 2048 % 16 ≡ x .decimals
+  point : mapOf (numData x) / 32768 % 2 ≡ flag (x .point)
 
--- each mark is its own bit of the map
-module _ (x : StoredEdge) where
+-- each mark is its own bit of the map, and the decimals have four
+module _ (x : StoredEdge) (few : x .decimals < 2 ^ 4) where
   marks-small : Marks x
   marks-small = record {
     has-value = flag-le (x .has-value);
@@ -76,6 +79,7 @@ module _ (x : StoredEdge) where
     digit = flag-le (x .digit);
     gap = flag-le (x .gap);
     cjk = flag-le (x .cjk);
+    point = flag-le (x .point);
   }
 
   map-bits : MapBits x
@@ -90,6 +94,8 @@ module _ (x : StoredEdge) where
         digit = omega arith;
         gap = omega arith;
         cjk = omega arith;
+        decimals = omega arith;
+        point = omega arith;
       }
 
   map-small : mapOf (numData x) < 2 ^ 16
@@ -116,7 +122,7 @@ numbers-back x f =
       start = le-bytesOf 2 (x .start) (f .start);
       end = le-bytesOf 2 (x .end) (f .end);
       kind = le-bytesOf 2 (kindNumber (x .kind)) (kind-fits (x .kind));
-      map = le-bytesOf 2 (mapOf (numData x)) (map-small x);
+      map = le-bytesOf 2 (mapOf (numData x)) (map-small x (f .decimals));
       value = le-bytesOf 8 (x .value) (omega arith);
       base = le-bytesOf 8 (x .base) (omega arith);
       mult = le-bytesOf 8 (x .mult) (omega arith);
@@ -129,7 +135,7 @@ record-back : (x : StoredEdge) → Fits x → storedOf (recordBytes x) ≡ x
 unfolding storedOf
 record-back x f =
     let b = numbers-back x f in
-    let m = map-bits x in
+    let m = map-bits x (f .decimals) in
     rw (
       b .start,
       b .end,
@@ -150,6 +156,8 @@ record-back x f =
       m .digit,
       m .gap,
       m .cjk,
+      m .decimals,
+      m .point,
       flag-stands (x .has-value),
       flag-stands (x .has-base),
       flag-stands (x .has-mult),
@@ -158,6 +166,7 @@ record-back x f =
       flag-stands (x .digit),
       flag-stands (x .gap),
       flag-stands (x .cjk),
+      flag-stands (x .point),
     )
 
 pub length-record : (x : StoredEdge) → length (recordBytes x) ≡ SIZE

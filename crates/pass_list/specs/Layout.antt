@@ -1,5 +1,5 @@
 -- The layout of an edge in the pass list: its size in bytes, where each field stands behind its start (the start place is the first), and the bits of its
--- map: the listing's for the fields, and three more for the marks. Definitions only. Assumes nothing.
+-- map: the listing's for the fields, and more for the marks and the decimals. Definitions only. Assumes nothing.
 use Prim.Native.Nat.{ℕ}
 
 abbrev pub SIZE : ℕ
@@ -57,3 +57,10 @@ gapBit = 512
 
 abbrev pub cjkBit : ℕ
 cjkBit = 1024
+
+-- four bits
+abbrev pub decimalsBit : ℕ
+decimalsBit = 2048
+
+abbrev pub pointBit : ℕ
+pointBit = 32768

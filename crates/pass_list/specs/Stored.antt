@@ -1,6 +1,6 @@
 -- The bytes of an edge in the pass list, the numbers little-endian (specs/Layout.antt). Definitions only.
 --     bit map of       whether the bit of worth `of` stands in map
---     mapOf n          the marks of n in one number
+--     mapOf n          the marks and the decimals of n in one number
 --     recordBytes x    the bytes of x
 --     storedOf bs        what the bytes bs say
 --     storedAt s at      what the bytes of the edge at an offset of s say
@@ -15,7 +15,7 @@ use Rattle.fields.specs.Part.{part}
 use Rattle.fields.specs.Flag.{flag}
 use Rattle.pass_list.specs.declared.record.PassData.{PassData}
 use Rattle.pass_list.specs.Layout.{SIZE, endAt, kindAt, mapAt, valueAt, baseAt, multAt, recordAt, scriptAt, scriptLenAt}
-use Rattle.pass_list.specs.Layout.{valueBit, baseBit, multBit, scriptBit, largePowerBit, digitBit, gapBit, cjkBit}
+use Rattle.pass_list.specs.Layout.{valueBit, baseBit, multBit, scriptBit, largePowerBit, digitBit, gapBit, cjkBit, decimalsBit, pointBit}
 use Rattle.pass_list.specs.StoredEdge.{StoredEdge, numData}
 use Rattle.pass_list.specs.Kind.{kindNumber, kindFrom}
 
@@ -26,6 +26,7 @@ abbrev pub mapOf : PassData → ℕ
 mapOf n =
     valueBit * flag (n .«has_value») + baseBit * flag (n .«has_base») + multBit * flag (n .«has_mult») + scriptBit * flag (n .«has_script»)
     + largePowerBit * flag (n .«large_power») + digitBit * flag (n .digit) + gapBit * flag (n .gap) + cjkBit * flag (n .cjk)
+    + decimalsBit * n .decimals + pointBit * flag (n .point)
 
 unfoldable pub numBytes : StoredEdge → List ℕ
 numBytes x =
@@ -53,6 +54,8 @@ storedOf bs = record {
   digit = bit (leAt bs mapAt 2) digitBit;
   gap = bit (leAt bs mapAt 2) gapBit;
   cjk = bit (leAt bs mapAt 2) cjkBit;
+  decimals = leAt bs mapAt 2 / decimalsBit % 16;
+  point = bit (leAt bs mapAt 2) pointBit;
 }
 
 unfoldable pub storedAt : List ℕ → ℕ → StoredEdge

@@ -39,6 +39,10 @@ pub record StoredEdge : Type 0 where
   pub digit : Bool
   pub gap : Bool
   pub cjk : Bool
+  -- how many digits stand after the point (02, S-13)
+  pub decimals : ℕ
+  -- a point without a record stands at its end
+  pub point : Bool
 
 abbrev pub numData : StoredEdge → PassData
 numData x = record {
@@ -53,6 +57,8 @@ numData x = record {
   digit = x .digit;
   gap = x .gap;
   cjk = x .cjk;
+  decimals = x .decimals;
+  point = x .point;
   script = record { 0 = x .script-at };
   «script_len» = x .script-len;
 }
@@ -85,6 +91,7 @@ pub record Fits (x : StoredEdge) : Type 0 where
   pub record-at : x .record-at < 2 ^ 64
   pub script-at : x .script-at < 2 ^ 64
   pub script-len : x .script-len < 2 ^ 64
+  pub decimals : x .decimals < 2 ^ 4
 
 pub record NumIs (n : PassData) (x : StoredEdge) : Type 0 where
   pub is : n ≡ numData x

@@ -88,6 +88,8 @@ withNumbers e v b = record {
   digit = e .digit;
   gap = e .gap;
   cjk = e .cjk;
+  decimals = e .decimals;
+  point = e .point;
 }
 
 abbrev pub retagged : StoredEdge → StoredEdge → StoredEdge
@@ -131,6 +133,8 @@ over p l e v = record {
   digit = false;
   gap = false;
   cjk = e .cjk;
+  decimals = 0;
+  point = e .point;
 }
 
 -- ---- the passes

@@ -21,7 +21,7 @@ pub const SCRIPT_AT: usize = 40;
 
 pub const SCRIPT_LEN_AT: usize = 48;
 
-// The bits of its map: the listing's for the fields, and three more for the marks.
+// The bits of its map: the listing's for the fields, and more for the marks and the decimals.
 pub const HAS_VALUE: u16 = 2;
 
 pub const HAS_BASE: u16 = 8;
@@ -37,3 +37,8 @@ pub const DIGIT: u16 = 256;
 pub const GAP: u16 = 512;
 
 pub const CJK: u16 = 1024;
+
+// Four bits.
+pub const DECIMALS: u16 = 2048;
+
+pub const POINT: u16 = 32768;

@@ -31,6 +31,8 @@ fn num_at(list: &[u8], at: usize) -> PassData
         digit: map / layout::DIGIT % 2 == 1,
         gap: map / layout::GAP % 2 == 1,
         cjk: map / layout::CJK % 2 == 1,
+        decimals: map / layout::DECIMALS % 16,
+        point: map / layout::POINT % 2 == 1,
         script: Offset(fields::u64_at(list, at + layout::SCRIPT_AT) as usize),
         script_len: fields::u64_at(list, at + layout::SCRIPT_LEN_AT) as usize,
     }

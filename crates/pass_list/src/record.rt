@@ -19,6 +19,10 @@ pub struct PassData {
     pub gap: bool,
     // script "CJK"
     pub cjk: bool,
+    // how many digits stand after the point
+    pub decimals: u16,
+    // whether a point without a record stands at its end
+    pub point: bool,
     // the script's bytes in the table
     pub script: Offset,
     pub script_len: usize,

@@ -1,6 +1,6 @@
 // The bytes of an edge in the pass list, stored. The definitions are those of `pass_list`, specs/StoredEdge.antt and specs/Stored.antt; `pass_list::read` reads them.
 ghost use mathlib.Core.Path.{_≡_};
-ghost use Prim.Native.Nat.{_+_, _≤_};
+ghost use Prim.Native.Nat.{_+_, _^_, _≤_, _<_};
 ghost use lib.ListN.{length};
 ghost use lib.Seq.{sets};
 ghost use Rattle.pass_list.specs.StoredEdge.{StoredEdge, EdgeIs, NumIs};
@@ -13,6 +13,7 @@ use crate::record::PassEdge;
 use fields::write::bit_if;
 
 fn map_of(n: PassData) -> u16
+    requires { ⌜ n .decimals < 2 ^ 4 ⌝ }
     ensures { λ r. ⌜ r ≡ mapOf n ⌝ }
 {
     bit_if(n.has_value, layout::HAS_VALUE)
@@ -23,6 +24,8 @@ fn map_of(n: PassData) -> u16
         + bit_if(n.digit, layout::DIGIT)
         + bit_if(n.gap, layout::GAP)
         + bit_if(n.cjk, layout::CJK)
+        + n.decimals * layout::DECIMALS
+        + bit_if(n.point, layout::POINT)
 }
 
 // The numbers of the edge at an offset, from its value on.

@@ -66,6 +66,7 @@ pub fn joined_edge(pass: Pass, l: PassEdge, r: PassEdge, v: f64) -> PassEdge
     num.large_power = large_power;
     num.digit = false;
     num.gap = false;
+    num.decimals = 0;
     PassEdge {
         start: start,
         end: end,

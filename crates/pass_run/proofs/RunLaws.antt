@@ -79,7 +79,7 @@ pub longer-fits : (p : Pass) (x : StoredChain) (y : StoredEdge) → Fits (x .edg
 unfolding longer over
 longer-fits p x y f g h =
     let r = counted-fits p (x .edge) y f g in
-    record { small = record { value = h; base = r .small .base; mult = omega arith }; start = f .start; end = r .end; record-at = omega arith; script-at = r .script-at; script-len = r .script-len }
+    record { small = record { value = h; base = r .small .base; mult = omega arith }; start = f .start; end = r .end; record-at = omega arith; script-at = r .script-at; script-len = r .script-len; decimals = omega arith }
 
 -- a chain of two and more that takes another edge has no lower value: only sums and rows of digits go on
 pub joined-grows : (p : Pass) (x : StoredChain) (y : StoredEdge) → x .more ≡ true → joins p x y ≡ true → x .edge .value ≤ joinedValue p x y

@@ -25,6 +25,7 @@ returns c =
         record-at = omega arith;
         script-at = omega arith;
         script-len = omega arith;
+        decimals = omega arith;
       };
     }
 

@@ -2,7 +2,7 @@
 -- In order: the fields of a record; a record read. Assumes nothing.
 use mathlib.Core.Path.{_≡_, sym, ap, _∙_, subst}
 use mathlib.Core.List.{List}
-use Prim.Native.Nat.{ℕ, _+_, _≤_, _<_}
+use Prim.Native.Nat.{ℕ, _+_, _/_, _%_, _≤_, _<_}
 use native.Mathlib.Nat.{add-zero}
 use native.Mathlib.Omega.{arith}
 use lib.ListN.{getD}
@@ -14,7 +14,7 @@ use Rattle.whole.specs.Whole.{ofNat}
 use Rattle.pass_list.specs.declared.record.PassData.{PassData}
 use Rattle.pass_list.specs.declared.record.PassEdge.{PassEdge}
 use Rattle.pass_list.specs.StoredEdge.{StoredEdge, numData, passEdge, Small, Fits}
-use Rattle.pass_list.specs.Layout.{SIZE, endAt, kindAt, mapAt, valueAt, baseAt, multAt, recordAt, scriptAt, scriptLenAt, valueBit, baseBit, multBit, scriptBit, largePowerBit, digitBit, gapBit, cjkBit}
+use Rattle.pass_list.specs.Layout.{SIZE, endAt, kindAt, mapAt, valueAt, baseAt, multAt, recordAt, scriptAt, scriptLenAt, valueBit, baseBit, multBit, scriptBit, largePowerBit, digitBit, gapBit, cjkBit, decimalsBit, pointBit}
 use Rattle.pass_list.specs.Stored.{bit, storedOf, storedAt}
 use Rattle.pass_list.specs.declared.kind.Kind.{Kind}
 use Rattle.pass_list.specs.Kind.{kindFrom}
@@ -39,6 +39,8 @@ fieldsAt s at = record {
   digit = bit (leAt s (at + mapAt) 2) digitBit;
   gap = bit (leAt s (at + mapAt) 2) gapBit;
   cjk = bit (leAt s (at + mapAt) 2) cjkBit;
+  decimals = leAt s (at + mapAt) 2 / decimalsBit % 16;
+  point = bit (leAt s (at + mapAt) 2) pointBit;
 }
 
 pub storedAt-fields : (s : List ℕ) (at : ℕ) → storedAt s at ≡ fieldsAt s at
@@ -68,6 +70,8 @@ pub num-read : (s : List ℕ) (at : ℕ) {v k : Float} {m n b r a l : ℕ} → m
       digit = bit m digitBit;
       gap = bit m gapBit;
       cjk = bit m cjkBit;
+      decimals = m / decimalsBit % 16;
+      point = bit m pointBit;
       script = record { 0 = a };
       «script_len» = l;
     }) (numData (storedAt s at))
@@ -88,4 +92,5 @@ storedAt-fits s at bytes small =
       record-at = leAt-lt s (at + recordAt) 8 bytes;
       script-at = leAt-lt s (at + scriptAt) 8 bytes;
       script-len = leAt-lt s (at + scriptLenAt) 8 bytes;
+      decimals = omega arith;
     })

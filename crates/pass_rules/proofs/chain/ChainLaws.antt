@@ -21,7 +21,7 @@ use Rattle.pass_rules.specs.Chain.{passChain, ChainIs, answer}
 numbers-fit : (e : StoredEdge) (v b : ℕ) → Fits e → v ≤ TOP → b ≤ TOP → Fits (withNumbers e v b)
 unfolding withNumbers
 numbers-fit e v b f h k =
-    record { small = record { value = h; base = k; mult = f .small .mult }; start = f .start; end = f .end; record-at = f .record-at; script-at = f .script-at; script-len = f .script-len }
+    record { small = record { value = h; base = k; mult = f .small .mult }; start = f .start; end = f .end; record-at = f .record-at; script-at = f .script-at; script-len = f .script-len; decimals = f .decimals }
 
 -- only a digit is retagged
 retags-digit : (l e : StoredEdge) → retags l e ≡ true → e .value ≤ 9

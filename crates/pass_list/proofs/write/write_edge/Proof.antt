@@ -36,7 +36,7 @@ add-put-u16-3 : tie.Need-add-put-u16-3
 add-put-u16-3 c = search needs
 
 map-of-requires : tie.Need-map-of-requires
-map-of-requires c κs = search needs
+map-of-requires c κs = let y = c .before .before .before .before .before .before .before .before .before .before .before .before .before .before .before .before .before .pre .1 in omega (arith, y .1 .fits .decimals, ap (λ (e : PassEdge). e .num .decimals) (y .1 .is))
 
 put-u16-requires-4 : tie.Need-put-u16-requires-4
 put-u16-requires-4 c κs = search needs
