@@ -16,23 +16,31 @@ unsafe extern "C" {
     ) -> u32;
 }
 
-struct Buffers {
+pub struct Buffers {
     work: Vec<u8>,
     out: Vec<u8>,
 }
 
 impl Buffers {
+    pub fn new() -> Buffers {
+        Buffers { work: vec![0; 65_536], out: vec![0; 32_768] }
+    }
+
     fn call(&mut self, c: &Case) -> (u32, u64) {
+        self.add_numbers(&c.line, &c.table, &c.edges)
+    }
+
+    pub fn add_numbers(&mut self, line: &[u8], table: &[u8], edges: &[u8]) -> (u32, u64) {
         let mut at = 0;
         // SAFETY: each pointer is that of a slice with its length, and the mutable ones overlap nothing.
         let status = unsafe {
             rilvostam_add_numbers(
-                c.line.as_ptr(),
-                c.line.len(),
-                c.table.as_ptr(),
-                c.table.len(),
-                c.edges.as_ptr(),
-                c.edges.len(),
+                line.as_ptr(),
+                line.len(),
+                table.as_ptr(),
+                table.len(),
+                edges.as_ptr(),
+                edges.len(),
                 self.work.as_mut_ptr(),
                 self.work.len(),
                 self.out.as_mut_ptr(),
@@ -45,7 +53,7 @@ impl Buffers {
 }
 
 /// The least of fifty rounds of at least 20 ms each, as the time of one call: short rounds find the moments in which nothing else runs.
-fn least(cases: usize, mut call: impl FnMut(usize)) -> f64 {
+pub fn least(cases: usize, mut call: impl FnMut(usize)) -> f64 {
     (0..50).map(|_| round(cases, &mut call)).fold(f64::INFINITY, f64::min)
 }
 
@@ -64,7 +72,7 @@ fn round(cases: usize, call: &mut impl FnMut(usize)) -> f64 {
 }
 
 fn row(name: &str, cases: &[Case]) {
-    let mut buffers = Buffers { work: vec![0; 65_536], out: vec![0; 32_768] };
+    let mut buffers = Buffers::new();
     for case in cases {
         assert_eq!(buffers.call(case).0, 0, "{name}: a case is refused");
     }

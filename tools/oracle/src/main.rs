@@ -7,6 +7,8 @@ mod cases;
 mod category;
 mod dicts;
 mod generate;
+#[cfg(feature = "library")]
+mod lines;
 mod listing;
 mod readings;
 mod reads;
@@ -58,6 +60,8 @@ fn main() -> io::Result<()> {
         "time" => time(&mut input)?,
         #[cfg(feature = "library")]
         "bench" => bench::run(),
+        #[cfg(feature = "library")]
+        "lines" => lines::run(&rest),
         _ => {
             eprintln!("{USAGE}");
             std::process::exit(2);
