@@ -7,7 +7,7 @@ use mathlib.Core.List.{List, [], _∷_}
 use native.Mathlib.Omega.{arith}
 use lib.Dec.{lit≤}
 use Rattle.grammar.specs.Plain.{Char, digit, ten, large, 零, 一, 二, 五, 十, 百, 千, 万, 億}
-use Rattle.grammar.specs.Row.{one, _▷_}
+use Rattle.table_grammar.specs.Row.{one, _▷_}
 use Rattle.grammar.specs.Grammar.{run, times, power, small, block, lone, IsNumeral, Reading, divisionValue}
 
 abbrev pub ReadAs : List Char → ℕ → Type 0

@@ -1,180 +1,107 @@
--- The grammar of numerals over the plain table's characters (01, "Grammar"). It names no pass. Definitions only.
---     Atom, Member, Division   a division of a line, down to its runs
---     runValue, atomValue, smallValue, memberValue   values; atomBase, smallBase, memberBase: bases
---     IsAtom, IsSmall, IsMember, IsNumeral           the rules
---     divisionValue d          the value of the division d, the sum of its members as they count
---     divisionText d w         the characters of d, then w
---     Reading w                a reading of the line w: a division of the whole of w by the rules; w is a numeral where it has one
+-- The grammar of numerals over the plain table's characters (01, "Grammar"): that of crate `table_grammar`, specs/Grammar.antt, with 零 to 九 for the digits, 十百千 for the
+-- units and 万億兆 for the large powers. That it is the grammar of the plain table: `proofs/PlainInstance.antt`. Definitions only.
+--     plainly          the plain alphabet
+--     Atom, Member, Division   a division of a line of the sixteen
+--     Reading w        a reading of the line w; w is a numeral where it has one
+-- The rest are the grammar's words with the plain alphabet.
 --     Assumes nothing.
-use Prim.Native.Nat.{ℕ, _+_, _*_, _/_, _≤_, _<_}
-use mathlib.Core.Path.{_≡_}
-use mathlib.Core.Bool.{Bool, false, cond}
-use mathlib.Core.List.{List, [], _∷_}
-use mathlib.Core.Option.{Option, none, some}
-use lib.Dec.{leb, eqb}
-use Rattle.grammar.specs.Plain.{Digit, Ten, Large, Char, digit, ten, large, digitValue, tenValue, largeValue}
-use Rattle.grammar.specs.Row.{Row, one, _▷_, last}
+use Prim.Native.Nat.{ℕ}
+use mathlib.Core.Bool.{Bool, true}
+use mathlib.Core.List.{List}
+use mathlib.Core.Option.{Option}
+use lib.Dec.{eqb}
+use Rattle.table_grammar.specs.Row.{Row}
+use Rattle.table_grammar.specs.Grammar as Of
+pub use Rattle.table_grammar.specs.Grammar.{run, times, power, small, block, lone, IsBlock, Below, memberText, divisionText}
+use Rattle.grammar.specs.Plain.{Digit, Ten, Large, Char, digitValue, tenValue, largeValue}
 
--- ---- divisions
+-- 十百千 and 万億兆 have their values for bases; "a single 一 to 九 after a block counts as digit times base/10" after every one
+abbrev pub plainly : Of.Alphabet Digit Ten Large
+plainly = record {
+  digitValue = digitValue;
+  tenValue = tenValue;
+  tenBase = tenValue;
+  largeValue = largeValue;
+  largeBase = largeValue;
+  isZero = λ d. eqb (digitValue d) 0;
+  tenths = λ m. true;
+}
 
--- "a run; or a run .. followed by 十, 百 or 千; or one of these three". A run is its digits.
-pub data Atom : Type 0 where
-  run : Row Digit → Atom
-  times : Row Digit → Ten → Atom
-  power : Ten → Atom
+abbrev pub Atom : Type 0
+Atom = Of.AtomOf Digit Ten
 
--- A small, which is "one or more atoms"; a block: "a small directly followed by 万, 億 or 兆", or "such a character" alone.
-pub data Member : Type 0 where
-  small : Row Atom → Member
-  block : Row Atom → Large → Member
-  lone : Large → Member
+abbrev pub Member : Type 0
+Member = Of.MemberOf Digit Ten Large
 
 abbrev pub Division : Type 0
-Division = Row Member
+Division = Of.DivisionOf Digit Ten Large
+
+abbrev pub Reading : List Char → Type 0
+Reading w = Of.ReadingOf plainly w
 
 -- ---- values and bases
-
--- A run: "its decimal value"
 abbrev pub runValue : Row Digit → ℕ
-runValue (one d) = digitValue d
-runValue (r ▷ d) = 10 * runValue r + digitValue d
+runValue r = Of.runValue plainly r
 
--- a run's value; "product"; the character's
 abbrev pub atomValue : Atom → ℕ
-atomValue (run r) = runValue r
-atomValue (times r t) = runValue r * tenValue t
-atomValue (power t) = tenValue t
+atomValue a = Of.atomValue plainly a
 
--- a run: "base 1"; a product: "that base"; the character's
 abbrev pub atomBase : Atom → ℕ
-atomBase (run r) = 1
-atomBase (times r t) = tenValue t
-atomBase (power t) = tenValue t
+atomBase a = Of.atomBase plainly a
 
--- A small: "Its value is the sum, its base the last atom's."
 abbrev pub smallValue : Row Atom → ℕ
-smallValue (one a) = atomValue a
-smallValue (s ▷ a) = smallValue s + atomValue a
+smallValue s = Of.smallValue plainly s
 
 abbrev pub smallBase : Row Atom → ℕ
-smallBase s = atomBase (last s)
+smallBase s = Of.smallBase plainly s
 
--- A block: "product, that base"
 abbrev pub memberValue : Member → ℕ
-memberValue (small s) = smallValue s
-memberValue (block s l) = smallValue s * largeValue l
-memberValue (lone l) = largeValue l
+memberValue m = Of.memberValue plainly m
 
 abbrev pub memberBase : Member → ℕ
-memberBase (small s) = smallBase s
-memberBase (block s l) = largeValue l
-memberBase (lone l) = largeValue l
+memberBase m = Of.memberBase plainly m
 
--- ---- the rules
-
--- An atom: before its 十, 百 or 千 stands "a run of value ≥ 1".
-abbrev pub IsAtom : Atom → Type 0
-IsAtom (run r) = Unit {0}
-IsAtom (times r t) = 1 ≤ runValue r
-IsAtom (power t) = Unit {0}
-
--- One atom directly after another. A run is "a maximal stretch of 零 to 九", so no digit follows it (proofs/Maximal.antt: that is maximality in the line); and
--- 十, 百 or 千 alone stands "not directly after such a run", one of value ≥ 1.
-abbrev pub Follows : Atom → Atom → Type 0
-Follows (run r) (run q) = ⊥
-Follows (run r) (times q t) = ⊥
-Follows (run r) (power t) = runValue r ≡ 0
-Follows (times r t) a = Unit {0}
-Follows (power t) a = Unit {0}
-
--- "a lone 零": the run of this one character
-abbrev pub loneZero : Atom → Bool
-loneZero (run (one d)) = eqb (digitValue d) 0
-loneZero (run (r ▷ d)) = false
-loneZero (times r t) = false
-loneZero (power t) = false
-
--- the base of the "nearest earlier atom that isn't a lone 零", for what comes after s
-abbrev pub nearBase : Row Atom → Option ℕ
-nearBase (one a) = cond (loneZero a) none (some (atomBase a))
-nearBase (s ▷ a) = cond (loneZero a) (nearBase s) (some (atomBase a))
-
--- "value and base below the base of that .. atom, and with no such atom nothing follows"
-abbrev pub Below : Option ℕ → ℕ → ℕ → Type 0
-Below none v b = ⊥
-Below (some n) v b = (v < n) × (b < n)
-
--- A small: "one or more atoms; each later one has value and base below .."
-abbrev pub IsSmall : Row Atom → Type 0
-IsSmall (one a) = IsAtom a
-IsSmall (s ▷ a) = IsSmall s × Follows (last s) a × IsAtom a × Below (nearBase s) (atomValue a) (atomBase a)
-
-abbrev pub IsMember : Member → Type 0
-IsMember (small s) = IsSmall s
-IsMember (block s l) = IsSmall s
-IsMember (lone l) = Unit {0}
-
-abbrev pub IsBlock : Member → Type 0
-IsBlock (small s) = ⊥
-IsBlock (block s l) = Unit {0}
-IsBlock (lone l) = Unit {0}
-
--- the digit of a small that is a single 一 to 九; 0 for any other member
 abbrev pub singleDigit : Member → ℕ
-singleDigit (small (one (run (one d)))) = digitValue d
-singleDigit (small (one (run (r ▷ d)))) = 0
-singleDigit (small (one (times r t))) = 0
-singleDigit (small (one (power t))) = 0
-singleDigit (small (s ▷ a)) = 0
-singleDigit (block s l) = 0
-singleDigit (lone l) = 0
+singleDigit m = Of.singleDigit plainly m
 
--- what a member counts as after a block of base n: "a single 一 to 九 after a block counts as digit times base/10, with base/10"
+-- after a block of base n
 abbrev pub countValue : ℕ → Member → ℕ
-countValue n m = cond (leb 1 (singleDigit m)) (singleDigit m * (n / 10)) (memberValue m)
+countValue n m = Of.countValue plainly true n m
 
 abbrev pub countBase : ℕ → Member → ℕ
-countBase n m = cond (leb 1 (singleDigit m)) (n / 10) (memberBase m)
+countBase n m = Of.countBase plainly true n m
 
--- A numeral: "one or more blocks, or these then one small, or one small; each member after the first has value and base below the base before it." All before the
--- last are blocks, so that a small stands last, and 万, 億 or 兆 alone has "no small directly before it".
-abbrev pub IsNumeral : Division → Type 0
-IsNumeral (one m) = IsMember m
-IsNumeral (d ▷ m) =
-    IsNumeral d × IsBlock (last d) × IsMember m
-    × (countValue (memberBase (last d)) m < memberBase (last d)) × (countBase (memberBase (last d)) m < memberBase (last d))
-
--- "A reading's value, and so the numeral's, is the sum."
 abbrev pub divisionValue : Division → ℕ
-divisionValue (one m) = memberValue m
-divisionValue (d ▷ m) = divisionValue d + countValue (memberBase (last d)) m
+divisionValue d = Of.divisionValue plainly d
 
--- ---- the characters of a division, before those of a list
+-- ---- the rules
+abbrev pub IsAtom : Atom → Type 0
+IsAtom a = Of.IsAtom plainly a
 
+abbrev pub Follows : Atom → Atom → Type 0
+Follows a b = Of.Follows plainly a b
+
+abbrev pub loneZero : Atom → Bool
+loneZero a = Of.loneZero plainly a
+
+abbrev pub nearBase : Row Atom → Option ℕ
+nearBase s = Of.nearBase plainly s
+
+abbrev pub IsSmall : Row Atom → Type 0
+IsSmall s = Of.IsSmall plainly s
+
+abbrev pub IsMember : Member → Type 0
+IsMember m = Of.IsMember plainly m
+
+abbrev pub IsNumeral : Division → Type 0
+IsNumeral d = Of.IsNumeral plainly d
+
+-- ---- characters
 abbrev pub runText : Row Digit → List Char → List Char
-runText (one d) w = digit d ∷ w
-runText (r ▷ d) w = runText r (digit d ∷ w)
+runText r w = Of.runText r w
 
 abbrev pub atomText : Atom → List Char → List Char
-atomText (run r) w = runText r w
-atomText (times r t) w = runText r (ten t ∷ w)
-atomText (power t) w = ten t ∷ w
+atomText a w = Of.atomText a w
 
 abbrev pub smallText : Row Atom → List Char → List Char
-smallText (one a) w = atomText a w
-smallText (s ▷ a) w = smallText s (atomText a w)
-
-abbrev pub memberText : Member → List Char → List Char
-memberText (small s) w = smallText s w
-memberText (block s l) w = smallText s (large l ∷ w)
-memberText (lone l) w = large l ∷ w
-
-abbrev pub divisionText : Division → List Char → List Char
-divisionText (one m) w = memberText m w
-divisionText (d ▷ m) w = divisionText d (memberText m w)
-
--- "A reading is a division of the whole line into members, atoms and runs by these rules"
-pub record Reading (w : List Char) : Type 0 where
-  pub division : Division
-  pub whole : divisionText division [] ≡ w
-  pub rules : IsNumeral division
+smallText s w = Of.smallText s w

@@ -1,7 +1,6 @@
 -- The definitions of the plain table and the grammar.
 pub mod Plain
 pub mod PlainBytes
-pub mod Row
 pub mod Grammar
 pub mod OtherCharacters
 pub mod Formal

@@ -15,6 +15,8 @@ use Rattle.passes.specs.Passes.{digitType, cjk}
 use Rattle.text.specs.Sequence.{encode}
 use Rattle.text.specs.Text.{encodes}
 use Rattle.whole.specs.Decimal.{decimal}
+use Rattle.table_grammar.specs.Grammar.{CharOf}
+pub use Rattle.table_grammar.specs.Grammar.{digit, ten, large}
 
 pub data Digit : Type 0 where
   零 一 二 三 四 五 六 七 八 九 : Digit
@@ -25,10 +27,8 @@ pub data Ten : Type 0 where
 pub data Large : Type 0 where
   万 億 兆 : Large
 
-pub data Char : Type 0 where
-  digit : Digit → Char
-  ten : Ten → Char
-  large : Large → Char
+abbrev pub Char : Type 0
+Char = CharOf Digit Ten Large
 
 abbrev pub digitValue : Digit → ℕ
 digitValue 零 = 0

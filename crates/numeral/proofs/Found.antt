@@ -8,9 +8,9 @@ use mathlib.Core.Option.{Option, none, some}
 use native.Mathlib.Omega.{arith}
 use native.Mathlib.Nat.{zero-add}
 use Rattle.grammar.specs.Plain.{Digit, Ten, Char, digit, ten, large, 十, 百, 千, tenValue}
-use Rattle.grammar.specs.Row.{Row, one, _▷_, last}
+use Rattle.table_grammar.specs.Row.{Row, one, _▷_, last}
 use Rattle.grammar.specs.Grammar.{Atom, run, times, power, Member, small, block, lone, Division, runValue, atomValue, atomBase, IsAtom, Follows, nearBase, Below, IsSmall, IsMember, IsBlock, IsNumeral, memberValue, memberBase, countValue, countBase, divisionValue, runText, atomText, smallText, memberText, divisionText}
-use Rattle.grammar.proofs.Tests.{le-true}
+use Rattle.table_grammar.proofs.Tests.{le-true}
 use Rattle.numeral.specs.declared.Blocks.{Blocks}
 use Rattle.numeral.specs.declared.Atoms.{Atoms}
 use Rattle.numeral.specs.Numeral.{State, inNumeral, inSmall, fits, toSmall, toBlock, reads, result, start}

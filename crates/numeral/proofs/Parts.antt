@@ -9,9 +9,9 @@ use native.Mathlib.Omega.{arith}
 use native.Mathlib.Nat.{zero-add}
 use lib.Dec.{leb, ltb, eqb}
 use Rattle.grammar.specs.Plain.{Digit, Ten, Large, Char, digit, ten, 十, 百, 千, 万, 億, 兆, digitValue, tenValue, largeValue}
-use Rattle.grammar.specs.Row.{Row, one, _▷_, last}
+use Rattle.table_grammar.specs.Row.{Row, one, _▷_, last}
 use Rattle.grammar.specs.Grammar.{Atom, run, times, power, Member, small, block, lone, Division, runValue, atomValue, atomBase, smallValue, smallBase, memberValue, memberBase, Follows, loneZero, nearBase, Below, IsSmall, IsMember, IsBlock, singleDigit, countValue, countBase, IsNumeral, divisionValue, smallText, memberText, divisionText}
-use Rattle.grammar.proofs.Tests.{le-true, true-le, false-lt, and-left, and-right}
+use Rattle.table_grammar.proofs.Tests.{le-true, true-le, false-lt, and-left, and-right}
 use Rattle.numeral.specs.declared.Blocks.{Blocks}
 use Rattle.numeral.specs.declared.Atoms.{Atoms}
 use Rattle.numeral.specs.Numeral.{stands, nearest, fits, another, withDigit, withTen, countedValue, countedBase}

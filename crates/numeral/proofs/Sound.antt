@@ -7,7 +7,7 @@ use mathlib.Core.List.{List, [], _∷_}
 use mathlib.Core.Option.{Option, none, some, Option·some-ne-none, Option·some-injective}
 use native.Mathlib.Nat.{zero-add}
 use Rattle.grammar.specs.Plain.{Char, digit, ten, large, largeValue}
-use Rattle.grammar.specs.Row.{Row, one, _▷_, last}
+use Rattle.table_grammar.specs.Row.{Row, one, _▷_, last}
 use Rattle.grammar.specs.Grammar.{Atom, run, power, small, block, lone, Division, IsSmall, divisionValue, smallText, memberValue, memberBase, countValue, countBase, Reading}
 use Rattle.numeral.specs.declared.Blocks.{Blocks}
 use Rattle.numeral.specs.declared.Atoms.{Atoms}

@@ -7,7 +7,7 @@ use native.Mathlib.Omega.{arith}
 use native.Mathlib.Nat.{div-lt-iff-lt-mul, mul-zero, mul-le-mul}
 use lib.Dec.{leb, ltb}
 use borrow.Author.Tests.{ltb-true, leb-true}
-use Rattle.grammar.proofs.Tests.{and-left, and-right}
+use Rattle.table_grammar.proofs.Tests.{and-left, and-right}
 use Rattle.whole.specs.Whole.{TOP}
 use Rattle.numeral.specs.Walk.{capped}
 use Rattle.numeral.proofs.Capped.{at-most-or-above}

@@ -12,7 +12,7 @@ use lib.Dec.{eqb}
 use borrow.Author.Tests.{eqb-true, eqb-false, eq-eqb, ne-eqb}
 use Rattle.grammar.specs.Plain.{Char, digit, ten, large, codePoint, sixteen, utf8}
 use Rattle.grammar.proofs.Sixteen.{each}
-use Rattle.grammar.proofs.Tests.{and-left, and-right}
+use Rattle.table_grammar.proofs.Tests.{and-left, and-right}
 use Rattle.grammar.proofs.PlainText.{utf8-nil, utf8-append, char-three}
 use Rattle.numeral.specs.declared.Glyph.{Glyph}
 use Rattle.numeral.specs.declared.Glyph.the-variants as Glyph

@@ -32,7 +32,7 @@ use Rattle.table_check.proofs.ShapeLaws.{shape-is}
 use Rattle.passes.specs.NumEdge.{orZero, has}
 use Rattle.passes.specs.Renaming.{gapChar}
 use Rattle.passes.proofs.ChainsAlike.{Each}
-use Rattle.regular.specs.Kinds.{exactly, atMost, atLeast, regularRecord}
+use Rattle.table_grammar.specs.Kinds.{exactly, atMost, atLeast, regularRecord}
 use Rattle.regular.specs.CheckRegular.{ofFourKinds, irregularAt, irregular, regularAnswer, checkRegular}
 use Rattle.regular.specs.declared.RegularCheck.{RegularCheck}
 use Rattle.regular.specs.declared.RegularCheck.the-variants.{Regular, Irregular, Refused}

@@ -13,7 +13,7 @@ use Rattle.table.specs.Layout.{Field, Is, Fault, onField, readRecord, manyAt, r
 use Rattle.table.specs.Check.{Checked, Fine, readTable}
 use Rattle.table.specs.Check as Check
 use Rattle.table_check.specs.Shape.{shapeOf}
-use Rattle.regular.specs.Kinds.{regularRecord, regularRecords, regular}
+use Rattle.table_grammar.specs.Kinds.{regularRecord, regularRecords, regular}
 use Rattle.regular.specs.CheckRegular.{irregularAt, irregular, regularAnswer, checkRegular}
 use Rattle.regular.specs.declared.RegularCheck.{RegularCheck}
 use Rattle.regular.specs.declared.RegularCheck.the-variants.{Regular, Irregular, Refused}

@@ -1,4 +1,5 @@
--- Demand 3 for the library's two tables, and for three tables that makers might bring: each is regular by computation, so that `RegularDemand3` holds of it.
+-- Demand 3 for the formal table, and for three tables that makers might bring: each is regular by computation, so that `RegularDemand3` of `table_grammar` holds of it, as it
+-- does of the plain table (grammar's proofs/Demand3.antt).
 --     tableWith rs   the table of the records rs, without markers and signs: the passes ask for none
 --     mainland       二 beside 两, 〇 beside 零, 亿 and 廿卅, which are 20 and 30 with the base 10
 --     indian         digits of Latin and Devanagari, lakh (L) and crore (C) as large powers
@@ -17,23 +18,14 @@ use Rattle.table.specs.Table.{Text, Record, Table}
 use Rattle.whole.specs.Decimal.{decimal, decimalWithin}
 use Rattle.passes.specs.NumEdge.{NumEdge}
 use Rattle.passes.specs.Passes.{digitType, cjk}
-use Rattle.grammar.specs.Plain.{plain, plainRecords, plainRecord}
+use Rattle.grammar.specs.Plain.{plainRecord}
 use Rattle.grammar.specs.OtherCharacters.{recordOf, tableOf}
 use Rattle.grammar.specs.Formal.{formal}
-use Rattle.grammar.proofs.Demand3.{OneEdgeBy}
 use Rattle.grammar.proofs.Marked.{answerWith, one, two}
-use Rattle.regular.specs.TableGrammar.{Reading}
-use Rattle.regular.proofs.RegularDemand3.{SettledTable, regular-demand3, one-edge-where-valued}
+use Rattle.table_grammar.specs.TableGrammar.{Reading}
+use Rattle.table_grammar.proofs.RegularDemand3.{OneEdgeBy, SettledTable, regular-demand3, one-edge-where-valued}
 
--- ---- the library's tables
-pub plain-settled : (line : List ℕ) → SettledTable plain line
-unfolding plain plainRecords plainRecord same
-plain-settled = regular-demand3 plain refl
-
-pub plain-one-edge : (line : List ℕ) → ((e : NumEdge) × OneEdgeBy plain line e) ↔ Reading plain (chars line)
-unfolding plain plainRecords plainRecord same
-plain-one-edge = one-edge-where-valued plain refl refl
-
+-- ---- the formal table
 pub formal-settled : (line : List ℕ) → SettledTable formal line
 unfolding formal tableOf recordOf plainRecord same
 formal-settled = regular-demand3 formal refl

@@ -18,12 +18,12 @@ use Rattle.passes.specs.Characters.{charEdge, withEdge, charEdges}
 use Rattle.passes.specs.Passes.{five, aboveAt}
 use Rattle.passes.proofs.ChainsAlike.{Each}
 use Rattle.passes.proofs.AboveLaws.{first-above-cons, first-above-head, above-le, through-within}
-use Rattle.grammar.proofs.Demand3.{OneEdgeBy, Carries}
-use Rattle.grammar.proofs.Tests.{true-le, and-left, and-right}
-use Rattle.regular.specs.Kinds.{regular}
-use Rattle.regular.specs.TableGrammar.{Reading, divisionValue}
+use Rattle.table_grammar.proofs.Tests.{true-le, and-left, and-right}
+use Rattle.table_grammar.specs.Kinds.{regular}
+use Rattle.table_grammar.specs.Grammar.{divisionValue}
+use Rattle.table_grammar.specs.TableGrammar.{kinds, Reading}
 use Rattle.regular.proofs.CheckLaws.{Legal, table-records}
-use Rattle.regular.proofs.RegularDemand3.{regular-demand3}
+use Rattle.table_grammar.proofs.RegularDemand3.{OneEdgeBy, Carries, regular-demand3}
 
 -- ---- the values of a table's records
 legal-small : (r : Record) → Legal r → allOf small (r .value) ≡ true
@@ -62,9 +62,9 @@ line-within rs l (c ∷ w) i = go (find rs c) refl (line-within rs l w (suc i))
 
 -- ---- the theorem
 pub not-refused : (s : List ℕ) (t : Table) (end : ℕ) → readTable s ≡ Fine t end → regular t ≡ true → (line : List ℕ) → aboveAt t (chars line) ≡ none
-    → (e : NumEdge) → OneEdgeBy t line e → (r : Reading t (chars line)) → Carries e (divisionValue (r .division))
+    → (e : NumEdge) → OneEdgeBy t line e → (r : Reading t (chars line)) → Carries e (divisionValue kinds (r .division))
 not-refused s t end read g line fine e o r =
-    let value : e .value ≡ some (divisionValue (r .division)) = regular-demand3 t g line .same-value e o r in
+    let value : e .value ≡ some (divisionValue kinds (r .division)) = regular-demand3 t g line .same-value e o r in
     let all : firstAbove (charEdges (t .records) 0 (chars line)) ≡ none = line-within (t .records) (table-records s read .legal) (chars line) 0 in
     let one : orZero (e .value) ≤ TOP = above-le e (first-above-head e [] (rw (o .list) at (through-within five (charEdges (t .records) 0 (chars line)) all fine))) in
     regular-demand3 t g line .same-float e o r (rw value at one)

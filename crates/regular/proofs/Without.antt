@@ -13,7 +13,7 @@ use Rattle.table.specs.Table.{Text, Record}
 use Rattle.whole.specs.Decimal.{decimal, decimalWithin}
 use Rattle.passes.specs.Passes.{digitType, cjk}
 use Rattle.grammar.proofs.Marked.{Answer, Edges, answerWith, one, two}
-use Rattle.regular.specs.Kinds.{regularRecords}
+use Rattle.table_grammar.specs.Kinds.{regularRecords}
 use Rattle.regular.proofs.Makers.{tableWith, row, baseType, largeType, digitRow, unitRow, largeRow}
 
 abbrev Fails : List Record → List ℕ → Answer → Type 0

@@ -16,7 +16,7 @@ use Rattle.table.specs.Check as Check
 use Rattle.table_check.specs.Shape.{shapeOf}
 use Rattle.regular.specs.declared.RegularCheck.{RegularCheck}
 use Rattle.regular.specs.declared.RegularCheck.the-variants.{Regular, Irregular, Refused}
-use Rattle.regular.specs.Kinds.{regularRecord}
+use Rattle.table_grammar.specs.Kinds.{regularRecord}
 
 unfoldable pub ofFourKinds : Bool → Bool → ℕ → ℕ → Bool → Bool → Bool
 ofFourKinds digit valued value base large gap =

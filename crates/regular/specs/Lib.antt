@@ -1,4 +1,2 @@
--- The definitions of regular tables, of the grammar over the characters of any table, and of the check.
-pub mod Kinds
-pub mod TableGrammar
+-- What the check for a regular table answers.
 pub mod CheckRegular

@@ -1,11 +1,11 @@
-// Regular tables: the grammar of numerals over the characters of any table and demand 3 for every regular one (definitions in specs/, theorems in proofs/); and whether the
-// bytes of a table are those of a regular one. The cost is that of the table's check and one walk over the records.
+// Whether the bytes of a table are those of a regular one (`table_grammar`, specs/Kinds.antt), for which demand 3 is shown (its proofs/RegularDemand3.antt): the check,
+// and what fails without each part of the condition (proofs/Without.antt). The cost is that of the table's check and one walk over the records.
 ghost use mathlib.Core.Path.{_≡_};
 ghost use lib.ListN.{length};
 ghost use Rattle.table.specs.Layout.{recordsAt};
 ghost use Rattle.table.specs.Answers.{optionally, recordOf, Inside};
 ghost use Rattle.passes.specs.NumEdge.{orZero};
-ghost use Rattle.regular.specs.Kinds.{regularRecord};
+ghost use Rattle.table_grammar.specs.Kinds.{regularRecord};
 ghost use Rattle.regular.specs.CheckRegular.{ofFourKinds, irregularAt, irregular, checkRegular};
 use table::bits;
 use table::digit::is_digit_type;

@@ -6,7 +6,7 @@ use mathlib.Core.Bool.{Bool, true, false, cond}
 use mathlib.Core.List.{List, [], _∷_}
 use native.Mathlib.Omega.{arith}
 use Rattle.grammar.specs.Plain.{Digit, Ten, Large, Char, digit, ten, large, digitValue, largeValue}
-use Rattle.grammar.specs.Row.{Row, one, _▷_, last}
+use Rattle.table_grammar.specs.Row.{Row, one, _▷_, last}
 use Rattle.grammar.specs.Grammar.{Atom, run, times, power, Member, small, block, lone, Division, runValue, memberBase, Follows, IsSmall, IsMember, IsBlock, IsNumeral, runText, atomText, smallText, memberText, divisionText, Reading}
 use Rattle.numeral.specs.Walk.{glyph}
 use Rattle.weights.specs.declared.units.Units.{Units}

@@ -19,9 +19,9 @@ use Rattle.text.specs.declared.LineCheck.the-variants as LineCheck
 use Rattle.text.proofs.TextLaws.{well-formed-split}
 use Rattle.whole.specs.Whole.{TOP}
 use Rattle.grammar.specs.Plain.{Char, Large, digit, ten, large, 万, 億, 兆, digitValue, largeValue, codePoint, utf8}
-use Rattle.grammar.specs.Grammar.{Reading, divisionValue}
-use Rattle.grammar.proofs.Readings.{same-division}
-use Rattle.grammar.proofs.Tests.{true-le}
+use Rattle.grammar.specs.Grammar.{plainly, Reading, divisionValue}
+use Rattle.table_grammar.proofs.Readings.{same-division}
+use Rattle.table_grammar.proofs.Tests.{true-le}
 use Rattle.numeral.specs.declared.Field.{Field}
 use Rattle.numeral.specs.declared.Field.the-variants as Field
 use Rattle.numeral.specs.Numeral.{numeralOf}
@@ -47,7 +47,7 @@ by-reading w r = go (numeralOf w) refl
   where
     go : (o : Option ℕ) (e : numeralOf w ≡ o) → valueWeights w o e ≡ weights (r .division)
     go none e = absurd (Option·some-ne-none _ (sym (reading-value w r) ∙ e))
-    go (some v) e = ap weights (same-division w (numeral-of w v .0 e .0) r)
+    go (some v) e = ap weights (same-division plainly w (numeral-of w v .0 e .0) r)
 
 pub without-value : (w : List Char) → numeralOf w ≡ none → charWeights w ≡ []
 unfolding charWeights

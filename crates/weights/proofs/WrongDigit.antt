@@ -8,9 +8,9 @@ use mathlib.Core.List.{List, [], _∷_, _++_}
 use native.Mathlib.Omega.{arith}
 use lib.ListN.{length, getD, length-append}
 use Rattle.grammar.specs.Plain.{Digit, Char, digit, ten, large, digitValue}
-use Rattle.grammar.specs.Grammar.{Reading, divisionValue, divisionText}
-use Rattle.grammar.proofs.Tests.{le-true}
-use Rattle.grammar.proofs.Readings.{same-division}
+use Rattle.grammar.specs.Grammar.{plainly, Reading, divisionValue, divisionText}
+use Rattle.table_grammar.proofs.Tests.{le-true}
+use Rattle.table_grammar.proofs.Readings.{same-division}
 use Rattle.weights.specs.Weights.{isNine, nines, weights}
 use Rattle.weights.specs.Shape.{SameShape, SameLine, same-end, same-char, other-digit}
 use Rattle.weights.proofs.ShapeText.{refit-division}
@@ -39,7 +39,7 @@ one-weight-each w r = sym (rw (r .whole) at (division-fit (r .division) [] [] re
 
 -- the line's weights, whichever reading they are taken from
 pub weights-one : (w : List Char) (r q : Reading w) → weights (r .division) ≡ weights (q .division)
-weights-one w r q = ap weights (same-division w r q)
+weights-one w r q = ap weights (same-division plainly w r q)
 
 -- ---- any number of wrong digits: a line of the same shape is a numeral, by a division of the same shape
 same-nothing : (u : List Char) → SameLine [] u → [] ≡ u

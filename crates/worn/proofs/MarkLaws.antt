@@ -10,7 +10,7 @@ use lib.ListN.{length, getD, drop, length-append, length-drop, drop-of-length-le
 use lib.Seq.{drop-drop, drop-cons, drop-at}
 use lib.Dec.{eqb}
 use Rattle.grammar.specs.Plain.{Char, digit, ten, large, sixteen, utf8}
-use Rattle.grammar.proofs.Tests.{and-left, and-right, eqb-true}
+use Rattle.table_grammar.proofs.Tests.{and-left, and-right, eqb-true}
 use Rattle.grammar.proofs.PlainText.{utf8-nil, utf8-append, utf8-length, char-three}
 use Rattle.numeral.specs.declared.Glyph.{Glyph}
 use Rattle.numeral.specs.Walk.{glyph, glyphIf, glyphAt, byBytes, plainText}

@@ -7,7 +7,7 @@ use native.Mathlib.Omega.{arith}
 use lib.Dec.{ltb, eqb}
 use lib.ListN.{length, getD}
 use Rattle.grammar.specs.Plain.{Digit, Char, digit, ten, large, codePoint, utf8, 零, 十, 百, 千, 万, 億, 兆}
-use Rattle.grammar.proofs.Tests.{eqb-false}
+use Rattle.table_grammar.proofs.Tests.{eqb-false}
 use Rattle.grammar.proofs.PlainText.{utf8-nil}
 use Rattle.writing.specs.Writing.{cut, zeroIf, digits, digitOf, digitPart, group, groupPart, writing}
 use Rattle.writing.specs.Before.{Mark, Before}

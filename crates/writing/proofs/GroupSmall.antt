@@ -11,9 +11,9 @@ use native.Mathlib.Nat.{mul-lt-mul-of-pos-right}
 use lib.Dec.{eqb}
 use lib.ListN.{length, getD}
 use Rattle.grammar.specs.Plain.{Digit, Ten, Char, digit, ten, digitValue, tenValue, 零, 十, 百, 千}
-use Rattle.grammar.specs.Row.{Row, one, _▷_, last}
+use Rattle.table_grammar.specs.Row.{Row, one, _▷_, last}
 use Rattle.grammar.specs.Grammar.{Atom, run, times, small, runValue, atomValue, atomBase, smallValue, IsAtom, Follows, nearBase, IsSmall, singleDigit, runText, atomText, smallText}
-use Rattle.grammar.proofs.Tests.{le-true, and-left, and-right, eqb-true, eqb-false}
+use Rattle.table_grammar.proofs.Tests.{le-true, and-left, and-right, eqb-true, eqb-false}
 use Rattle.grammar.proofs.ReadingWithin.{ten-least}
 use Rattle.writing.specs.Writing.{cut, zeroIf, digits, digitOf, digitPart, group}
 

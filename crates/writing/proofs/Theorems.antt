@@ -17,9 +17,9 @@ use Rattle.whole.specs.Whole.{TOP}
 use Rattle.passes.specs.NumEdge.{NumEdge}
 use Rattle.passes.specs.Passes.{aboveAt}
 use Rattle.grammar.specs.Plain.{codePoint, plain, utf8}
-use Rattle.grammar.specs.Grammar.{Reading, divisionValue}
+use Rattle.grammar.specs.Grammar.{plainly, Reading, divisionValue}
 use Rattle.grammar.proofs.Demand3.{IsLine, line-of, OneEdge, Carries, demand3}
-use Rattle.grammar.proofs.Readings.{same-division}
+use Rattle.table_grammar.proofs.Readings.{same-division}
 use Rattle.grammar.proofs.PlainText.{utf8-length}
 use Rattle.grammar.proofs.ReadingWithin.{reading-within}
 use Rattle.numeral.specs.declared.Field.the-variants.{Number}
@@ -33,7 +33,7 @@ pub numeral : (n : ℕ) → n ≤ TOP → (r : Reading (writing n)) × (division
 numeral n h = let (r, v, _) = writing-reads n (omega arith) in (r, v)
 
 pub no-lone-digit : (n : ℕ) → n ≤ TOP → (r : Reading (writing n)) → NoneCounted (r .division)
-no-lone-digit n h r = let (q, _, c) = writing-reads n (omega arith) in subst NoneCounted (same-division (writing n) q r) c
+no-lone-digit n h r = let (q, _, c) = writing-reads n (omega arith) in subst NoneCounted (same-division plainly (writing n) q r) c
 
 -- the line of a writing: no refusal 7, and one edge over the whole line, which carries n
 pub record ReadsBack (line : List ℕ) (n : ℕ) : Type 0 where
@@ -56,7 +56,7 @@ pub apart : (m n : ℕ) → m ≤ TOP → n ≤ TOP → writing m ≡ writing n 
 apart m n h k e =
     let (r, v) = numeral m h in
     let (q, u) = rw (← e) at (numeral n k) in
-    sym v ∙ ap divisionValue (same-division (writing m) r q) ∙ u
+    sym v ∙ ap divisionValue (same-division plainly (writing m) r q) ∙ u
 
 pub length-31 : (n : ℕ) → length (writing n) ≤ 31
 length-31 n = writing-length n

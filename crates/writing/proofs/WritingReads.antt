@@ -9,9 +9,9 @@ use native.Mathlib.Omega.{arith}
 use native.Mathlib.Nat.{mul-lt-mul-of-pos-right}
 use lib.Dec.{ltb, lit≤}
 use Rattle.grammar.specs.Plain.{Large, Char, large, largeValue, 零, 十, 百, 千, 万, 億, 兆}
-use Rattle.grammar.specs.Row.{one, _▷_, last}
+use Rattle.table_grammar.specs.Row.{one, _▷_, last}
 use Rattle.grammar.specs.Grammar.{Atom, run, times, power, atomBase, Member, small, block, Division, memberBase, singleDigit, memberValue, memberText, IsMember, IsBlock, IsNumeral, divisionValue, divisionText, Reading}
-use Rattle.grammar.proofs.Tests.{le-true, false-lt, eqb-false}
+use Rattle.table_grammar.proofs.Tests.{le-true, false-lt, eqb-false}
 use Rattle.writing.specs.Writing.{cut, zeroIf, group, groupPart, writing, NoneCounted}
 use Rattle.grammar.proofs.ReadingWithin.{large-least}
 use Rattle.writing.proofs.GroupSmall.{Group, group-small}

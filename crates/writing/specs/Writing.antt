@@ -16,7 +16,7 @@ use mathlib.Core.List.{List, [], _∷_, _++_}
 use lib.Dec.{leb, ltb, eqb}
 use lib.ListN.{getD}
 use Rattle.grammar.specs.Plain.{Digit, Char, digit, ten, large, 零, 一, 二, 三, 四, 五, 六, 七, 八, 九, 十, 百, 千, 万, 億, 兆}
-use Rattle.grammar.specs.Row.{one, _▷_}
+use Rattle.table_grammar.specs.Row.{one, _▷_}
 use Rattle.grammar.specs.Grammar.{Division, singleDigit}
 
 unfoldable pub cut : ℕ → (ℕ → ℕ → List Char → List Char) → List (List Char) → ℕ → List Char

@@ -19,6 +19,7 @@ use Rattle.table.specs.Table.{Record, Table, find}
 use Rattle.passes.specs.NumEdge.{orZero, has}
 use Rattle.passes.specs.Passes.{digitType}
 use Rattle.passes.specs.Renaming.{gapChar}
+use Rattle.table_grammar.specs.Grammar.{CharOf, digit, ten, large}
 
 -- ---- the four kinds
 
@@ -81,10 +82,8 @@ pub record Large : Type 0 where
   pub entry : Record
   pub law : largeRecord entry ≡ true
 
-pub data Char : Type 0 where
-  digit : Digit → Char
-  ten : Ten → Char
-  large : Large → Char
+abbrev pub Char : Type 0
+Char = CharOf Digit Ten Large
 
 abbrev pub digitValue : Digit → ℕ
 digitValue d = orZero (d .entry .value)

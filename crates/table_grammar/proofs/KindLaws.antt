@@ -17,8 +17,9 @@ use Rattle.passes.specs.Passes.{digitType}
 use Rattle.passes.specs.Renaming.{gapChar}
 use Rattle.passes.proofs.Alike.{gapText}
 use Rattle.passes.proofs.GapTexts.{gaps-renamed, one-char}
-use Rattle.grammar.proofs.Tests.{true-le, and-left, and-right, eqb-true}
-use Rattle.regular.specs.Kinds.{exactly, atMost, atLeast, digitRecord, unitRecord, largeRecord, Digit, Ten, Large, Char, digit, ten, large, entryOf, charBy}
+use Rattle.table_grammar.proofs.Tests.{true-le, and-left, and-right, eqb-true}
+use Rattle.table_grammar.specs.Grammar.{digit, ten, large}
+use Rattle.table_grammar.specs.Kinds.{Char, Digit, Large, Ten, atLeast, atMost, charBy, digitRecord, entryOf, exactly, largeRecord, unitRecord}
 
 -- ---- the three kinds
 most : (n : ℕ) (o : Option ℕ) → atMost n o ≡ true → (o ≡ some (orZero o)) × (orZero o ≤ n)

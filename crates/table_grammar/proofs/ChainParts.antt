@@ -9,7 +9,7 @@ use Prim.Native.Nat.{ℕ}
 use Rattle.passes.proofs.ChainsLaws.{from-none}
 use Rattle.passes.proofs.ChainsAlike.{Both}
 use Rattle.passes.specs.Chains.{from, chains}
-use Rattle.grammar.specs.Row.{Row, one, _▷_, _<>>_, last, head}
+use Rattle.table_grammar.specs.Row.{Row, one, _▷_, _<>>_, last, head}
 
 -- ---- of options
 

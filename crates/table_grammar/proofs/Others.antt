@@ -17,10 +17,10 @@ use Rattle.passes.specs.Chains.{from, chains}
 use Rattle.passes.specs.Passes.{Pass, D1, G1, G2, G3, G4, Chain, digitType, gap, onePlace, begin, longer, touches, digitEdge, d1Rule, g1Rule, g2Rule, g3Rule, g4Rule, exceeds, under, retags, isScript, cjk, powerOfTen, countedValue, countedBase, rule, joins, over, overDigits, joined, next, chainsOf, edgesOf, after, through}
 use Rattle.passes.proofs.ChainsLaws.{from-none, from-some}
 use Rattle.passes.proofs.ChainsAlike.{Each, each-map, chains-ends}
-use Rattle.grammar.proofs.ChainParts.{OnSome, on-cond}
-use Rattle.grammar.proofs.Tests.{true-le, and-left, and-right, eqb-true}
-use Rattle.regular.specs.Kinds.{digitRecord, unitRecord, largeRecord, otherRecord, regularRecord, regularRecords, allValued, Char, charBy, charOf, charsOf}
-use Rattle.regular.proofs.KindLaws.{not-true, not-le, found-code, gap-char}
+use Rattle.table_grammar.proofs.ChainParts.{OnSome, on-cond}
+use Rattle.table_grammar.proofs.Tests.{true-le, and-left, and-right, eqb-true}
+use Rattle.table_grammar.specs.Kinds.{Char, allValued, charBy, charOf, charsOf, digitRecord, largeRecord, otherRecord, regularRecord, regularRecords, unitRecord}
+use Rattle.table_grammar.proofs.KindLaws.{not-true, not-le, found-code, gap-char}
 
 -- ---- places: a list's edges cover as many after a pass as before
 

@@ -1,7 +1,7 @@
 -- D1 to G3 on the edges of a line whose characters are those that numerals are made of: each pass's list is, one by one, the list of the grammar's pieces that
 -- `proofs/Pieces.antt` makes of the characters.
 -- TokenEdge, PieceEdge, PartEdge and MemberEdge say of a piece and an edge that the edge lies on the piece's places, with its value and base. Each is carried through
--- a pass by `sim` of grammar's `proofs/ChainParts.antt`, since the edges' chain takes the next exactly where the pieces' chain does (TokenChain, .., MemberChain).
+-- a pass by `sim` of `proofs/ChainParts.antt`, since the edges' chain takes the next exactly where the pieces' chain does (TokenChain, .., MemberChain).
 use Prim.Native.Nat.{ℕ, zero, suc, _+_, _*_, _≤_}
 use mathlib.Core.Path.{_≡_, refl, sym, ap, _∙_}
 use mathlib.Core.Bool.{Bool, true, false, cond, _&&_, and-true, and-false, _||_}
@@ -19,14 +19,35 @@ use Rattle.passes.specs.Characters.{charEdge, charEdges, withEdge}
 use Rattle.passes.specs.Passes.{Pass, D1, G1, G2, G3, Chain, digitType, gap, onePlace, nearest, begin, longer, touches, digitEdge, d1Rule, g1Rule, g2Rule, g3Rule, exceeds, rule, over, overDigits, joined, next, chainsOf, after}
 use Rattle.passes.specs.Renaming.{gapChar}
 use Rattle.passes.proofs.GapTexts.{one-char}
-use Rattle.grammar.specs.Row.{Row, one, _▷_, last}
-use Rattle.regular.specs.Kinds.{Digit, Ten, Large, Char, digit, ten, large, digitValue, tenValue, tenBase, largeValue, largeBase, entryOf, charOf, charAt, put, charsOf}
-use Rattle.regular.specs.TableGrammar.{Atom, run, times, power, Member, small, block, lone, runValue, atomValue, atomBase, atomScript, smallValue, smallBase, loneZero, nearBase}
+use Rattle.table_grammar.specs.Row.{Row, one, _▷_, last}
+use Rattle.table_grammar.specs.Grammar.{digit, ten, large, run, times, power, small, block, lone, runValue, atomValue, atomBase, smallValue, smallBase, loneZero, nearBase}
+use Rattle.table_grammar.specs.Kinds.{Char, Digit, Large, Ten, charAt, charOf, charsOf, digitValue, entryOf, largeBase, largeValue, put, tenBase, tenValue}
+use Rattle.table_grammar.specs.TableGrammar.{kinds, Atom, Member}
 use Rattle.passes.proofs.ChainsAlike.{Both}
-use Rattle.grammar.proofs.ChainParts.{Tiles, sim, tiles-map}
-use Rattle.grammar.proofs.Tests.{le-true, and-right, eqb-self, eqb-false}
-use Rattle.regular.proofs.Pieces.{Token, digits, ten₁, large₁, Piece, atom, large₂, Part, atoms, large₃, begin₁, next₁, begin₂, next₂, begin₃, next₃, begin₄, next₄, joins, tokens, pieces, smalls, members}
-use Rattle.regular.proofs.KindLaws.{digit-law, unit-law, large-law, found-code, entry-of, gap-char, Spelled, spelled-append, no-gap-append, not-le}
+use Rattle.table_grammar.proofs.ChainParts.{Tiles, sim, tiles-map}
+use Rattle.table_grammar.proofs.Tests.{le-true, and-right, eqb-self, eqb-false}
+use Rattle.table_grammar.proofs.Pieces.{TokenOf, digits, ten₁, large₁, PieceOf, atom, large₂, PartOf, atoms, large₃, begin₁, next₁, begin₂, next₂, begin₃, next₃, begin₄, next₄, joins, tokens, pieces, smalls, members}
+use Rattle.table_grammar.proofs.KindLaws.{digit-law, unit-law, large-law, found-code, entry-of, gap-char, Spelled, spelled-append, no-gap-append, not-le}
+
+abbrev pub Token : Type 0
+Token = TokenOf Digit Ten Large
+
+abbrev pub Piece : Type 0
+Piece = PieceOf Digit Ten Large
+
+abbrev pub Part : Type 0
+Part = PartOf Digit Ten Large
+
+-- the script of an atom and of a member: of its last character
+abbrev pub atomScript : Atom → Option Text
+atomScript (run r) = last r .entry .script
+atomScript (times r t) = t .entry .script
+atomScript (power t) = t .entry .script
+
+abbrev pub memberScript : Member → Option Text
+memberScript (small s) = atomScript (last s)
+memberScript (block s l) = l .entry .script
+memberScript (lone l) = l .entry .script
 
 -- ---- what a pass sees of an edge
 pub record View : Type 0 where
@@ -106,7 +127,7 @@ abbrev pub largeView : Large → View
 largeView l = record { value = largeValue l; base = largeBase l; size = 1; large = true; zero = gapChar (l .entry .code-point); script = l .entry .script }
 
 abbrev pub tokenView : Token → View
-tokenView (digits r) = record { value = runValue r; base = 1; size = runSize r; large = false; zero = loneZero (run r); script = atomScript (run r) }
+tokenView (digits r) = record { value = runValue kinds r; base = 1; size = runSize r; large = false; zero = loneZero kinds (run r); script = atomScript (run r) }
 tokenView (ten₁ t) = record { value = tenValue t; base = tenBase t; size = 1; large = false; zero = false; script = t .entry .script }
 tokenView (large₁ l) = largeView l
 
@@ -148,7 +169,7 @@ module _ (i : ℕ) where
       let D = large-law l in
       record { start = refl; end = refl; width = omega arith; value = D .value; base = D .base; large = D .large; script = refl; lone = char-gap (l .entry .code-point) (l .entry); text = (_, [], one-char _) }
 
-  char-shows : (c : Char) → Shows i (tokenView (begin₁ c)) (edgeAt i c) (suc i)
+  char-shows : (c : Char) → Shows i (tokenView (begin₁ kinds c)) (edgeAt i c) (suc i)
   char-shows (digit d) = digit-shows d
   char-shows (ten t) = unit-shows t
   char-shows (large l) = large-shows l
@@ -157,7 +178,7 @@ module _ (i : ℕ) where
   unfolding digitEdge
   no-digit e v h k = rw (h, not-le v 9 k, and-false (same (e .type) digitType && onePlace e && true))
 
-  is-digit : (c : Char) → digitEdge (edgeAt i c) ≡ isRun (begin₁ c)
+  is-digit : (c : Char) → digitEdge (edgeAt i c) ≡ isRun (begin₁ kinds c)
   unfolding digitEdge charEdge
   is-digit (digit d) = let D = digit-law d in rw (D .type, eqb-self (suc i), D .value, le-true (D .small))
   is-digit (ten t) = no-digit (edgeAt i (ten t)) (tenValue t) (unit-law t .value) (unit-law t .ten)
@@ -195,11 +216,11 @@ line rs (c ∷ w) s i e = go (find rs c) (charsOf rs w) refl refl (λ q k. line 
     go (some r) none h k ih e = absurd (Option·some-ne-none s (sym e ∙ put-none (charOf r)))
     go (some r) (some q) h k ih e = got r (charOf r) q h refl e (ih q k)
 
-begin-token : (i j : ℕ) (c : Char) (e : NumEdge) → CharEdge i c e j → TokenChain i (begin₁ c) (begin e) j
+begin-token : (i j : ℕ) (c : Char) (e : NumEdge) → CharEdge i c e j → TokenChain i (begin₁ kinds c) (begin e) j
 unfolding begin
 begin-token i j c e h = rw (h .0, h .1) (char-shows i c, is-digit i c)
 
-next-token-char : (i j : ℕ) (s : Token) (c : Chain) (a : Char) → TokenChain i s c j → Both (λ t d. TokenChain i t d (suc j)) (next₁ s a) (next D1 c (edgeAt j a))
+next-token-char : (i j : ℕ) (s : Token) (c : Chain) (a : Char) → TokenChain i s c j → Both (λ t d. TokenChain i t d (suc j)) (next₁ kinds s a) (next D1 c (edgeAt j a))
 unfolding d1Rule longer joined charEdge
 next-token-char i j (digits r) c (digit d) q =
     both-cond (λ t d. TokenChain i t d (suc j)) D1 c (edgeAt j (digit d)) true (digits (r ▷ d)) j (q .0 .end) refl (rw (q .1, is-digit j (digit d)))
@@ -209,13 +230,13 @@ next-token-char i j (digits r) c (large l) q = both-none _ D1 c _ (rw (q .1, is-
 next-token-char i j (ten₁ t) c a q = both-none _ D1 c _ (rw (q .1))
 next-token-char i j (large₁ l) c a q = both-none _ D1 c _ (rw (q .1))
 
-next-token : (i j k : ℕ) (s : Token) (c : Chain) (a : Char) (e : NumEdge) → TokenChain i s c j → CharEdge j a e k → Both (λ t d. TokenChain i t d k) (next₁ s a) (next D1 c e)
+next-token : (i j k : ℕ) (s : Token) (c : Chain) (a : Char) (e : NumEdge) → TokenChain i s c j → CharEdge j a e k → Both (λ t d. TokenChain i t d k) (next₁ kinds s a) (next D1 c e)
 next-token i j k s c a e q h = rw (h .0, h .1) (next-token-char i j s c a q)
 
-pub pass-d1 : (w : List Char) (l : List NumEdge) (n : ℕ) → Tiles CharEdge 0 w l n → Tiles TokenEdge 0 (tokens w) (after D1 l) n
+pub pass-d1 : (w : List Char) (l : List NumEdge) (n : ℕ) → Tiles CharEdge 0 w l n → Tiles TokenEdge 0 (tokens kinds w) (after D1 l) n
 unfolding after chainsOf
 pass-d1 w l n h =
-    tiles-map TokenChain TokenEdge (λ c. c .edge) (λ i j t c q. q .0) (tokens w) _ 0 _ (sim begin₁ next₁ begin (next D1) CharEdge TokenChain begin-token next-token w l 0 n h)
+    tiles-map TokenChain TokenEdge (λ c. c .edge) (λ i j t c q. q .0) (tokens kinds w) _ 0 _ (sim (begin₁ kinds) (next₁ kinds) begin (next D1) CharEdge TokenChain begin-token next-token w l 0 n h)
 
 -- ---- G1: atoms
 abbrev pub atomSize : Atom → ℕ
@@ -224,7 +245,7 @@ atomSize (times r t) = runSize r + 1
 atomSize (power t) = 1
 
 abbrev pub pieceView : Piece → View
-pieceView (atom a) = record { value = atomValue a; base = atomBase a; size = atomSize a; large = false; zero = loneZero a; script = atomScript a }
+pieceView (atom a) = record { value = atomValue kinds a; base = atomBase kinds a; size = atomSize a; large = false; zero = loneZero kinds a; script = atomScript a }
 pieceView (large₂ l) = largeView l
 
 abbrev pub PieceEdge : ℕ → Piece → NumEdge → ℕ → Type 0
@@ -239,7 +260,7 @@ isProduct (large₂ l) = false
 abbrev PieceChain : ℕ → Piece → Chain → ℕ → Type 0
 PieceChain i p c j = PieceEdge i p (c .edge) j × (c .more ≡ isProduct p)
 
-begin-piece : (i j : ℕ) (t : Token) (e : NumEdge) → TokenEdge i t e j → PieceChain i (begin₂ t) (begin e) j
+begin-piece : (i j : ℕ) (t : Token) (e : NumEdge) → TokenEdge i t e j → PieceChain i (begin₂ kinds t) (begin e) j
 unfolding begin
 begin-piece i j (digits r) e h = (h, refl)
 begin-piece i j (ten₁ t) e h = (h, refl)
@@ -251,23 +272,23 @@ ten-base t = (eqb-false (tenBase t) 1 (λ e. omega (arith, unit-law t .two)), le
 large-not-1 : (l : Large) → eqb (largeBase l) 1 ≡ false
 large-not-1 l = eqb-false (largeBase l) 1 (λ e. omega (arith, large-law l .two))
 
-next-piece : (i j k : ℕ) (s : Piece) (c : Chain) (a : Token) (e : NumEdge) → PieceChain i s c j → TokenEdge j a e k → Both (λ t d. PieceChain i t d k) (next₂ s a) (next G1 c e)
+next-piece : (i j k : ℕ) (s : Piece) (c : Chain) (a : Token) (e : NumEdge) → PieceChain i s c j → TokenEdge j a e k → Both (λ t d. PieceChain i t d k) (next₂ kinds s a) (next G1 c e)
 unfolding g1Rule longer joined
-next-piece i j k (atom (run r)) c (digits q) e h g = both-none _ G1 c e (rw (h .1, h .0 .base, h .0 .value, g .base, g .large, and-false (leb 1 (runValue r))))
+next-piece i j k (atom (run r)) c (digits q) e h g = both-none _ G1 c e (rw (h .1, h .0 .base, h .0 .value, g .base, g .large, and-false (leb 1 (runValue kinds r))))
 next-piece i j k (atom (run r)) c (ten₁ t) e h g =
-    both-cond (λ t d. PieceChain i t d k) G1 c e (leb 1 (runValue r)) (atom (times r t)) j (h .0 .end) (g .start)
-    (rw (h .1, h .0 .base, h .0 .value, g .base, g .large, ten-base t .1, and-true (leb 1 (runValue r)), and-true (leb 1 (runValue r))))
+    both-cond (λ t d. PieceChain i t d k) G1 c e (leb 1 (runValue kinds r)) (atom (times r t)) j (h .0 .end) (g .start)
+    (rw (h .1, h .0 .base, h .0 .value, g .base, g .large, ten-base t .1, and-true (leb 1 (runValue kinds r)), and-true (leb 1 (runValue kinds r))))
     (λ _. (over-shows (h .0) g G1 _ _ _ _ _ (rw (h .0 .value, g .value)) (g .base), refl))
 next-piece i j k (atom (run r)) c (large₁ l) e h g =
-    both-none _ G1 c e (rw (h .1, h .0 .base, h .0 .value, g .base, g .large, and-false (leb 1 (runValue r) && ltb 1 (largeBase l))))
+    both-none _ G1 c e (rw (h .1, h .0 .base, h .0 .value, g .base, g .large, and-false (leb 1 (runValue kinds r) && ltb 1 (largeBase l))))
 next-piece i j k (atom (times r t)) c a e h g = both-none _ G1 c e (rw (h .1))
 next-piece i j k (atom (power t)) c a e h g = both-none _ G1 c e (rw (h .1, h .0 .base, ten-base t .0))
 next-piece i j k (large₂ l) c a e h g = both-none _ G1 c e (rw (h .1, h .0 .base, large-not-1 l))
 
-pub pass-g1 : (w : List Char) (l : List NumEdge) (n : ℕ) → Tiles TokenEdge 0 (tokens w) l n → Tiles PieceEdge 0 (pieces w) (after G1 l) n
+pub pass-g1 : (w : List Char) (l : List NumEdge) (n : ℕ) → Tiles TokenEdge 0 (tokens kinds w) l n → Tiles PieceEdge 0 (pieces kinds w) (after G1 l) n
 unfolding after chainsOf
 pass-g1 w l n h =
-    tiles-map PieceChain PieceEdge (λ c. c .edge) (λ i j t c q. q .0) (pieces w) _ 0 _ (sim begin₂ next₂ begin (next G1) TokenEdge PieceChain begin-piece next-piece (tokens w) l 0 n h)
+    tiles-map PieceChain PieceEdge (λ c. c .edge) (λ i j t c q. q .0) (pieces kinds w) _ 0 _ (sim (begin₂ kinds) (next₂ kinds) begin (next G1) TokenEdge PieceChain begin-piece next-piece (tokens kinds w) l 0 n h)
 
 -- ---- G2: smalls
 abbrev pub smallSize : Row Atom → ℕ
@@ -275,11 +296,11 @@ smallSize (one a) = atomSize a
 smallSize (s ▷ a) = smallSize s + atomSize a
 
 abbrev smallZero : Row Atom → Bool
-smallZero (one a) = loneZero a
+smallZero (one a) = loneZero kinds a
 smallZero (s ▷ a) = false
 
 abbrev pub partView : Part → View
-partView (atoms s) = record { value = smallValue s; base = smallBase s; size = smallSize s; large = false; zero = smallZero s; script = atomScript (last s) }
+partView (atoms s) = record { value = smallValue kinds s; base = smallBase kinds s; size = smallSize s; large = false; zero = smallZero s; script = atomScript (last s) }
 partView (large₃ l) = largeView l
 
 abbrev pub PartEdge : ℕ → Part → NumEdge → ℕ → Type 0
@@ -287,39 +308,39 @@ PartEdge i p e j = Shows i (partView p) e j
 
 -- the next is held against the base that the grammar says
 abbrev Near : Part → Option ℕ → Type 0
-Near (atoms s) n = n ≡ nearBase s
+Near (atoms s) n = n ≡ nearBase kinds s
 Near (large₃ l) n = Unit {0}
 
 abbrev PartChain : ℕ → Part → Chain → ℕ → Type 0
 PartChain i p c j = PartEdge i p (c .edge) j × Near p (c .near)
 
-begin-part : (i j : ℕ) (p : Piece) (e : NumEdge) → PieceEdge i p e j → PartChain i (begin₃ p) (begin e) j
+begin-part : (i j : ℕ) (p : Piece) (e : NumEdge) → PieceEdge i p e j → PartChain i (begin₃ kinds p) (begin e) j
 unfolding begin nearest
 begin-part i j (atom a) e h = (h, rw (h .lone, h .base))
 begin-part i j (large₂ l) e h = (h, tt)
 
-test : (n : Option ℕ) (a : Atom) → exceeds n (some (atomValue a)) (some (atomBase a)) (loneZero a) ≡ joins n a
+test : (n : Option ℕ) (a : Atom) → exceeds n (some (atomValue kinds a)) (some (atomBase kinds a)) (loneZero kinds a) ≡ joins kinds n a
 test none a = refl
 test (some n) a = refl
 
-next-part : (i j k : ℕ) (s : Part) (c : Chain) (a : Piece) (e : NumEdge) → PartChain i s c j → PieceEdge j a e k → Both (λ t d. PartChain i t d k) (next₃ s a) (next G2 c e)
+next-part : (i j k : ℕ) (s : Part) (c : Chain) (a : Piece) (e : NumEdge) → PartChain i s c j → PieceEdge j a e k → Both (λ t d. PartChain i t d k) (next₃ kinds s a) (next G2 c e)
 unfolding g2Rule longer joined nearest
 next-part i j k (atoms s) c (atom a) e h g =
-    both-cond (λ t d. PartChain i t d k) G2 c e (joins (nearBase s) a) (atoms (s ▷ a)) j (h .0 .end) (g .start)
-    (rw (g .lone, h .0 .value, h .0 .large, h .1, g .large, g .value, g .base) (test (nearBase s) a))
+    both-cond (λ t d. PartChain i t d k) G2 c e (joins kinds (nearBase kinds s) a) (atoms (s ▷ a)) j (h .0 .end) (g .start)
+    (rw (g .lone, h .0 .value, h .0 .large, h .1, g .large, g .value, g .base) (test (nearBase kinds s) a))
     (λ _. (over-shows (h .0) g G2 _ _ _ _ _ (rw (h .0 .value, g .value)) (g .base), rw (g .lone, g .base, h .1)))
 next-part i j k (atoms s) c (large₂ l) e h g = both-none _ G2 c e (rw (h .0 .value, h .0 .large, g .large))
 next-part i j k (large₃ l) c a e h g = both-none _ G2 c e (rw (h .0 .value, h .0 .large))
 
-pub pass-g2 : (w : List Char) (l : List NumEdge) (n : ℕ) → Tiles PieceEdge 0 (pieces w) l n → Tiles PartEdge 0 (smalls w) (after G2 l) n
+pub pass-g2 : (w : List Char) (l : List NumEdge) (n : ℕ) → Tiles PieceEdge 0 (pieces kinds w) l n → Tiles PartEdge 0 (smalls kinds w) (after G2 l) n
 unfolding after chainsOf
 pass-g2 w l n h =
-    tiles-map PartChain PartEdge (λ c. c .edge) (λ i j t c q. q .0) (smalls w) _ 0 _ (sim begin₃ next₃ begin (next G2) PieceEdge PartChain begin-part next-part (pieces w) l 0 n h)
+    tiles-map PartChain PartEdge (λ c. c .edge) (λ i j t c q. q .0) (smalls kinds w) _ 0 _ (sim (begin₃ kinds) (next₃ kinds) begin (next G2) PieceEdge PartChain begin-part next-part (pieces kinds w) l 0 n h)
 
 -- ---- G3: members
 abbrev pub memberView : Member → View
 memberView (small s) = partView (atoms s)
-memberView (block s l) = record { value = smallValue s * largeValue l; base = largeBase l; size = smallSize s + 1; large = true; zero = false; script = l .entry .script }
+memberView (block s l) = record { value = smallValue kinds s * largeValue l; base = largeBase l; size = smallSize s + 1; large = true; zero = false; script = l .entry .script }
 memberView (lone l) = partView (large₃ l)
 
 abbrev pub MemberEdge : ℕ → Member → NumEdge → ℕ → Type 0
@@ -333,12 +354,12 @@ isBlock (lone l) = false
 abbrev MemberChain : ℕ → Member → Chain → ℕ → Type 0
 MemberChain i m c j = MemberEdge i m (c .edge) j × (c .more ≡ isBlock m)
 
-begin-member : (i j : ℕ) (p : Part) (e : NumEdge) → PartEdge i p e j → MemberChain i (begin₄ p) (begin e) j
+begin-member : (i j : ℕ) (p : Part) (e : NumEdge) → PartEdge i p e j → MemberChain i (begin₄ kinds p) (begin e) j
 unfolding begin
 begin-member i j (atoms s) e h = (h, refl)
 begin-member i j (large₃ l) e h = (h, refl)
 
-next-member : (i j k : ℕ) (s : Member) (c : Chain) (a : Part) (e : NumEdge) → MemberChain i s c j → PartEdge j a e k → Both (λ t d. MemberChain i t d k) (next₄ s a) (next G3 c e)
+next-member : (i j k : ℕ) (s : Member) (c : Chain) (a : Part) (e : NumEdge) → MemberChain i s c j → PartEdge j a e k → Both (λ t d. MemberChain i t d k) (next₄ kinds s a) (next G3 c e)
 unfolding g3Rule longer joined
 next-member i j k (small s) c (atoms t) e h g = both-none _ G3 c e (rw (h .1, h .0 .value, h .0 .large, g .value, g .large))
 next-member i j k (small s) c (large₃ l) e h g =
@@ -347,11 +368,11 @@ next-member i j k (small s) c (large₃ l) e h g =
 next-member i j k (block s l) c a e h g = both-none _ G3 c e (rw (h .1))
 next-member i j k (lone l) c a e h g = both-none _ G3 c e (rw (h .1, h .0 .value, h .0 .large))
 
-pub pass-g3 : (w : List Char) (l : List NumEdge) (n : ℕ) → Tiles PartEdge 0 (smalls w) l n → Tiles MemberEdge 0 (members w) (after G3 l) n
+pub pass-g3 : (w : List Char) (l : List NumEdge) (n : ℕ) → Tiles PartEdge 0 (smalls kinds w) l n → Tiles MemberEdge 0 (members kinds w) (after G3 l) n
 unfolding after chainsOf
 pass-g3 w l n h =
-    tiles-map MemberChain MemberEdge (λ c. c .edge) (λ i j t c q. q .0) (members w) _ 0 _ (sim begin₄ next₄ begin (next G3) PartEdge MemberChain begin-member next-member (smalls w) l 0 n h)
+    tiles-map MemberChain MemberEdge (λ c. c .edge) (λ i j t c q. q .0) (members kinds w) _ 0 _ (sim (begin₄ kinds) (next₄ kinds) begin (next G3) PartEdge MemberChain begin-member next-member (smalls kinds w) l 0 n h)
 
 pub four-passes : (rs : List Record) (w : List ℕ) (s : List Char) → charsOf rs w ≡ some s
-    → Tiles MemberEdge 0 (members s) (after G3 (after G2 (after G1 (after D1 (charEdges rs 0 w))))) (length w)
+    → Tiles MemberEdge 0 (members kinds s) (after G3 (after G2 (after G1 (after D1 (charEdges rs 0 w))))) (length w)
 four-passes rs w s e = rw (← (zero-add (length w))) (pass-g3 s _ _ (pass-g2 s _ _ (pass-g1 s _ _ (pass-d1 s _ _ (line rs w s 0 e)))))
