@@ -1,5 +1,5 @@
 //! Cases to compare on, the same for the same seed. Case number K of a family depends on seed and K alone.
-//! All are inside 01's domain but those of the family `faults`.
+//! All are inside 01's domain but those of the family `faults` and some of `registers`.
 
 use std::io::{self, Write};
 
@@ -112,8 +112,9 @@ fn random(family: &str, seed: u64, k: u64) -> Case {
             Case::new(&line_over(rng, &table), &table, &[])
         }
         "faults" => faulty(rng, random("mixed", seed, k)),
+        "registers" => register_line(rng, seed, k),
         "mixed" => random(["plain", "numerals", "marks", "tables", "given"][(k % 5) as usize], seed, k),
-        other => panic!("no family {other}: short limits plain numerals marks tables given mixed big faults"),
+        other => panic!("no family {other}: short limits plain numerals marks tables given mixed big faults registers"),
     }
 }
 
@@ -397,5 +398,37 @@ fn faulty(rng: &mut Rng, mut case: Case) -> Case {
             _ => *bytes = bytes.repeat(1 + rng.below(40)),
         }
     }
+    case
+}
+
+/// A line of a register: forty in a row share a table, which depends on seed and the register's number alone. No line holds a newline. Some are empty, some ill-formed or over-long;
+/// one table in sixteen is damaged.
+fn register_line(rng: &mut Rng, seed: u64, k: u64) -> Case {
+    let common = &mut Rng(Rng(!seed).next() ^ Rng(!(k / 40)).next());
+    let table = match common.below(32) {
+        0..=11 => Table::plain(),
+        12 => big_table(common),
+        _ => table(common),
+    };
+    let line = match rng.below(16) {
+        0..=3 => String::new(),
+        4..=6 => marked_line(rng),
+        7 => numeral(rng),
+        8 | 9 => "register of 1886, plot ".chars().take(rng.length()).collect(),
+        _ => line_over(rng, &table),
+    };
+    let mut case = Case::new(&line, &table, &[]);
+    if common.once_in(16) {
+        let at = common.below(case.table.len());
+        case.table[at] ^= 1 << common.below(8);
+    }
+    let at = rng.below(case.line.len() + 1);
+    match rng.below(24) {
+        0 => case.line.truncate(at),
+        1 => case.line.insert(at, rng.pick(&[0x80, 0xBF, 0xC0, 0xED, 0xF5, 0xFF])),
+        2 => case.line = case.line.repeat(1 + rng.below(300)),
+        _ => {}
+    }
+    case.line.retain(|&byte| byte != b'\n');
     case
 }
