@@ -1,8 +1,10 @@
-/* The library's functions for PostgreSQL 15, with the plain table: rilvostam_number(text), the value of a line that is one number, or NULL; and
- * rilvostam_write(bigint), the numeral of a number. What the library refuses is an error, in its words. The database has to be in UTF-8. */
+/* The library's functions for PostgreSQL 15, with the plain table: rilvostam_number(text), the value of a line that is one number, or NULL; rilvostam_write(bigint), the numeral of a
+ * number; and rilvostam_numbers(text), which number a line is: rows of value, fraction, places and txt, longest first, as rilvostam_which_numbers of the header gives them.
+ * What the library refuses is an error, in its words. The database has to be in UTF-8. */
 #include "postgres.h"
 
 #include "fmgr.h"
+#include "funcapi.h"
 #include "mb/pg_wchar.h"
 #include "utils/builtins.h"
 
@@ -44,4 +46,34 @@ Datum rilvostam_write(PG_FUNCTION_ARGS) {
     uint32_t status = rilvostam_write_number((uint64_t)n, out, sizeof out, &at);
     if (status) refuse(status, at);
     PG_RETURN_TEXT_P(cstring_to_text_with_len((const char *)out, (int)at));
+}
+
+/* One number as a row: value, numerator, denominator, start, end, txt. */
+static void put_number(ReturnSetInfo *rows, const rilvostam_edge *e) {
+    bool whole = (e->map & RILVOSTAM_HAS_VALUE) != 0, fraction = (e->map & RILVOSTAM_HAS_FRACTION) != 0;
+    Datum values[6] = {
+        Float8GetDatum(e->value), Int64GetDatum((int64)e->numerator), Int64GetDatum((int64)e->denominator),
+        Int32GetDatum((int32)e->start), Int32GetDatum((int32)e->end), PointerGetDatum(cstring_to_text_with_len(e->txt.at, (int)e->txt.len)),
+    };
+    bool nulls[6] = {!whole, !fraction, !fraction, false, false, false};
+    tuplestore_putvalues(rows->setResult, rows->setDesc, values, nulls);
+}
+
+PG_FUNCTION_INFO_V1(rilvostam_numbers);
+Datum rilvostam_numbers(PG_FUNCTION_ARGS) {
+    text *given = PG_GETARG_TEXT_PP(0);
+    const uint8_t *line = (const uint8_t *)VARDATA_ANY(given), no_edges[2] = {0, 0};
+    size_t length = VARSIZE_ANY_EXHDR(given), count;
+    uint8_t table[RILVOSTAM_TABLE], *work = palloc(RILVOSTAM_WORK), *listing = palloc(RILVOSTAM_OUT);
+    rilvostam_edge *numbers = palloc(RILVOSTAM_EDGES * sizeof *numbers);
+    uint64_t table_length, at;
+    need_utf8();
+    rilvostam_plain_table(table, sizeof table, &table_length);
+    uint32_t status = rilvostam_add_numbers(line, length, table, table_length, no_edges, sizeof no_edges, work, RILVOSTAM_WORK, listing, RILVOSTAM_OUT, &at);
+    if (status) refuse(status, at);
+    InitMaterializedSRF(fcinfo, 0);
+    count = rilvostam_which_numbers(line, length, listing, at, numbers, RILVOSTAM_EDGES);
+    for (size_t i = 0; i < count; i++) put_number((ReturnSetInfo *)fcinfo->resultinfo, numbers + i);
+    pfree(work), pfree(listing), pfree(numbers);
+    return (Datum)0;
 }

@@ -1,5 +1,11 @@
 SELECT rilvostam_number('一万五'), rilvostam_number('一万零五'), rilvostam_number('十十'), rilvostam_number(''), rilvostam_number(NULL);
 SELECT rilvostam_write(10010000), rilvostam_write(0), rilvostam_write(NULL), rilvostam_number(rilvostam_write(9007199254740991));
+SELECT value, start, "end" FROM rilvostam_numbers('一万五');
+SELECT value, start, "end" FROM rilvostam_numbers('墓三号x二十');
+SELECT * FROM rilvostam_numbers('三分之一');
+SELECT r.line, count(n.start) FROM (VALUES ('百分之五'), ('-五')) AS r(line) LEFT JOIN LATERAL rilvostam_numbers(r.line) AS n ON true GROUP BY r.line ORDER BY 2;
+SELECT count(*) FROM rilvostam_numbers(NULL);
+SELECT count(*) FROM rilvostam_numbers(repeat('五', 257));
 SELECT rilvostam_number('九九九九九九九九九九九九九九九九九');
 SELECT rilvostam_number(repeat('五', 257));
 SELECT rilvostam_write(9007199254740992);

@@ -2,6 +2,7 @@
  *     rilvostam_number(line)   the value of a line that is one number, or NULL
  *     rilvostam_write(n)       the numeral of a number
  *     rilvostam_edges(line)    a table-valued function: the edges of a line in the listing's order
+ *     rilvostam_numbers(line)  the same of those that say which number the line is, longest first: rilvostam_which_numbers of the header
  * NULL gives NULL, or no edge. What the library refuses is an error, in its words. */
 #include <sqlite3ext.h>
 SQLITE_EXTENSION_INIT1
@@ -62,12 +63,21 @@ static void write_number(sqlite3_context *context, int count, sqlite3_value **va
     else sqlite3_result_text(context, (const char *)out, (int)at, SQLITE_TRANSIENT);
 }
 
-/* ---- rilvostam_edges(line) */
+/* ---- rilvostam_edges(line), rilvostam_numbers(line) */
 enum { START, END, TYPE, TXT, ACTIVE, ORIG_TXT, VALUE, NUMERATOR, DENOMINATOR, BASE, SCRIPT, VALUE_S, LINE };
+
+typedef struct {
+    sqlite3_vtab base;
+    const char *name; /* of the function */
+} table_of;
+
+static const char edges_name[] = "rilvostam_edges", numbers_name[] = "rilvostam_numbers";
 
 typedef struct {
     sqlite3_vtab_cursor base;
     uint8_t *listing; /* of the line asked for, RILVOSTAM_OUT bytes */
+    rilvostam_edge *numbers; /* NULL where all edges are asked for */
+    size_t count;
     uint64_t length, next;
     uint64_t edge[RILVOSTAM_EDGE_NUMBERS];
     sqlite3_int64 row;
@@ -75,13 +85,15 @@ typedef struct {
 } cursor;
 
 static int connect(sqlite3 *db, void *aux, int argc, const char *const *argv, sqlite3_vtab **table, char **error) {
-    (void)aux, (void)argc, (void)argv, (void)error;
+    (void)argc, (void)argv, (void)error;
     int status = sqlite3_declare_vtab(db, "CREATE TABLE x(start INTEGER, \"end\" INTEGER, type TEXT, txt TEXT, active INTEGER, orig_txt TEXT, value REAL, numerator INTEGER,"
                                           " denominator INTEGER, base INTEGER, script TEXT, value_s TEXT, line HIDDEN)");
     if (status != SQLITE_OK) return status;
-    *table = sqlite3_malloc(sizeof **table);
-    if (!*table) return SQLITE_NOMEM;
-    memset(*table, 0, sizeof **table);
+    table_of *made = sqlite3_malloc(sizeof *made);
+    if (!made) return SQLITE_NOMEM;
+    memset(made, 0, sizeof *made);
+    made->name = (const char *)aux;
+    *table = &made->base;
     return SQLITE_OK;
 }
 
@@ -106,12 +118,15 @@ static int best_index(sqlite3_vtab *table, sqlite3_index_info *info) {
 }
 
 static int open_cursor(sqlite3_vtab *table, sqlite3_vtab_cursor **opened) {
-    (void)table;
+    int all = ((table_of *)table)->name == edges_name;
     cursor *c = sqlite3_malloc(sizeof *c);
     if (!c) return SQLITE_NOMEM;
     memset(c, 0, sizeof *c);
     c->listing = sqlite3_malloc(RILVOSTAM_OUT);
-    if (!c->listing) {
+    if (!all) c->numbers = sqlite3_malloc((int)(RILVOSTAM_EDGES * sizeof *c->numbers));
+    if (!c->listing || !(all || c->numbers)) {
+        sqlite3_free(c->listing);
+        sqlite3_free(c->numbers);
         sqlite3_free(c);
         return SQLITE_NOMEM;
     }
@@ -122,14 +137,16 @@ static int open_cursor(sqlite3_vtab *table, sqlite3_vtab_cursor **opened) {
 static int close_cursor(sqlite3_vtab_cursor *base) {
     cursor *c = (cursor *)base;
     sqlite3_free(c->listing);
+    sqlite3_free(c->numbers);
     sqlite3_free(c);
     return SQLITE_OK;
 }
 
 static int next(sqlite3_vtab_cursor *base) {
     cursor *c = (cursor *)base;
-    c->there = rilvostam_edge_at(c->listing, c->length, c->next, c->edge, &c->next) == RILVOSTAM_OK;
     c->row++;
+    if (c->numbers) c->next = (size_t)c->row < c->count ? c->numbers[c->row].offset : c->length;
+    c->there = rilvostam_edge_at(c->listing, c->length, c->next, c->edge, &c->next) == RILVOSTAM_OK;
     return SQLITE_OK;
 }
 
@@ -150,11 +167,12 @@ static int filter(sqlite3_vtab_cursor *base, int plan, const char *plan_text, in
     sqlite3_free(work);
     if (status) {
         sqlite3_free(base->pVtab->zErrMsg);
-        base->pVtab->zErrMsg = refused("rilvostam_edges", status, at);
+        base->pVtab->zErrMsg = refused(((table_of *)base->pVtab)->name, status, at);
         return SQLITE_ERROR;
     }
     c->length = at;
     c->next = RILVOSTAM_FIRST_EDGE;
+    if (c->numbers) c->count = rilvostam_which_numbers(line, length, c->listing, c->length, c->numbers, RILVOSTAM_EDGES);
     return next(base);
 }
 
@@ -209,7 +227,7 @@ static int row_id(sqlite3_vtab_cursor *base, sqlite3_int64 *row) {
     return SQLITE_OK;
 }
 
-static const sqlite3_module edges = {
+static const sqlite3_module module = {
     .xConnect = connect, .xBestIndex = best_index, .xDisconnect = disconnect, .xOpen = open_cursor, .xClose = close_cursor,
     .xFilter = filter, .xNext = next, .xEof = at_end, .xColumn = column, .xRowid = row_id,
 };
@@ -220,6 +238,7 @@ int sqlite3_rilvostamsqlite_init(sqlite3 *db, char **error, const sqlite3_api_ro
     int how = SQLITE_UTF8 | SQLITE_DETERMINISTIC | SQLITE_INNOCUOUS;
     int status = sqlite3_create_function(db, "rilvostam_number", 1, how, NULL, number, NULL, NULL);
     if (status == SQLITE_OK) status = sqlite3_create_function(db, "rilvostam_write", 1, how, NULL, write_number, NULL, NULL);
-    if (status == SQLITE_OK) status = sqlite3_create_module(db, "rilvostam_edges", &edges, NULL);
+    if (status == SQLITE_OK) status = sqlite3_create_module(db, edges_name, &module, (void *)edges_name);
+    if (status == SQLITE_OK) status = sqlite3_create_module(db, numbers_name, &module, (void *)numbers_name);
     return status;
 }
