@@ -1,12 +1,15 @@
 -- The table of `sheet_counts`: how many rows there are in each 1,024 candidates, by a test that computes them all; and so all rows.
 -- In order: the test; a block of the table; few rows; all rows.
-use Prim.Native.Nat.{ℕ, zero, suc, _+_, _*_, _≤_, _<_}
+use Prim.Native.Nat.{ℕ, zero, suc, _+_, _-_, _*_, _%_, _≤_, _<_}
 use mathlib.Core.Path.{_≡_, refl, sym, ap, _∙_}
+use mathlib.Core.Bool.{cond}
 use mathlib.Core.List.{List, [], _∷_}
 use mathlib.Core.Option.{Option, none, some}
 use native.Mathlib.Omega.{arith}
 use native.Mathlib.Nat.{zero-add, add-zero}
+use lib.Dec.{ltb}
 use lib.ListN.{getD}
+use borrow.Author.Tests.{lt-ltb, le-ltb}
 use Rattle.sheet_rows.specs.Rows.{numeralWithin}
 use Rattle.sheet_counts.specs.Numbered.{wordOf, candidate, one, rowsIn}
 
@@ -17,17 +20,23 @@ unfoldable counts : ℕ → ℕ → List ℕ
 counts zero i = []
 counts (suc n) i = rowsIn 1024 i ∷ counts n (i + 1024)
 
+-- the code's table, and where a block's count stands in it
 abbrev table : List ℕ
 table =
-    931 ∷ 976 ∷ 765 ∷ 778 ∷ 931 ∷ 976 ∷ 488 ∷ 559 ∷ 972 ∷ 972 ∷ 763 ∷ 778 ∷ 972 ∷ 972 ∷ 763 ∷ 778
-    ∷ 972 ∷ 972 ∷ 763 ∷ 778 ∷ 972 ∷ 972 ∷ 763 ∷ 778 ∷ 972 ∷ 972 ∷ 763 ∷ 778 ∷ 972 ∷ 972 ∷ 763 ∷ 778
-    ∷ 972 ∷ 972 ∷ 763 ∷ 778 ∷ 972 ∷ 972 ∷ 763 ∷ 778 ∷ 969 ∷ 968 ∷ 761 ∷ 774 ∷ 208 ∷ 168 ∷ 84 ∷ 559
-    ∷ 449 ∷ 340 ∷ 252 ∷ 559 ∷ 844 ∷ 836 ∷ 695 ∷ 559 ∷ 586 ∷ 612 ∷ 436 ∷ 141 ∷ 717 ∷ 756 ∷ 555 ∷ 326
-    ∷ 822 ∷ 864 ∷ 658 ∷ 538 ∷ []
+    931 ∷ 976 ∷ 765 ∷ 778 ∷ 931 ∷ 976 ∷ 488 ∷ 559 ∷ 972 ∷ 972 ∷ 763 ∷ 778 ∷ 969 ∷ 968 ∷ 761 ∷ 774 ∷ 208 ∷ 168 ∷ 84 ∷ 559
+    ∷ 449 ∷ 340 ∷ 252 ∷ 559 ∷ 844 ∷ 836 ∷ 695 ∷ 559 ∷ 586 ∷ 612 ∷ 436 ∷ 141 ∷ 717 ∷ 756 ∷ 555 ∷ 326 ∷ 822 ∷ 864 ∷ 658 ∷ 538 ∷ []
 
-table-counts : table ≡ counts 68 272
-unfolding counts rowsIn candidate wordOf numeralWithin
-table-counts = refl
+unfoldable slot : ℕ → ℕ
+slot b = cond (ltb b 12) b (cond (ltb b 40) (8 + b % 4) (b - 28))
+
+-- what the table says of n blocks, from b on
+unfoldable said : ℕ → ℕ → List ℕ
+said zero b = []
+said (suc n) b = getD table (slot b) 0 ∷ said n (suc b)
+
+said-counts : said 68 0 ≡ counts 68 272
+unfolding said slot counts rowsIn candidate wordOf numeralWithin
+said-counts = refl
 
 -- the words of one and two characters
 pub short-rows : rowsIn 272 0 ≡ 257
@@ -41,8 +50,28 @@ counts-at zero i b h = absurd (omega arith)
 counts-at (suc n) i zero h = ap (rowsIn 1024) (omega arith)
 counts-at (suc n) i (suc b) h = counts-at n (i + 1024) b (omega arith) ∙ ap (rowsIn 1024) (omega arith)
 
-pub table-at : (b : ℕ) → b < 68 → getD table b 0 ≡ rowsIn 1024 (272 + 1024 * b)
-table-at b h = ap (λ (l : List ℕ). getD l b 0) table-counts ∙ counts-at 68 272 b h
+said-at : (n i b : ℕ) → b < n → getD (said n i) b 0 ≡ getD table (slot (i + b)) 0
+unfolding said
+said-at zero i b h = absurd (omega arith)
+said-at (suc n) i zero h = ap (λ (k : ℕ). getD table (slot k) 0) (omega arith)
+said-at (suc n) i (suc b) h = said-at n (suc i) b (omega arith) ∙ ap (λ (k : ℕ). getD table (slot k) 0) (omega arith)
+
+table-at : (b s : ℕ) → b < 68 → slot b ≡ s → getD table s 0 ≡ rowsIn 1024 (272 + 1024 * b)
+table-at b s h e =
+    ap (λ (k : ℕ). getD table k 0) (sym e ∙ ap slot (sym (zero-add b))) ∙ sym (said-at 68 0 b h)
+    ∙ ap (λ (l : List ℕ). getD l b 0) said-counts ∙ counts-at 68 272 b h
+
+pub first-blocks : (b : ℕ) → b < 12 → getD table b 0 ≡ rowsIn 1024 (272 + 1024 * b)
+unfolding slot
+first-blocks b h = table-at b b (omega arith) (simp (lt-ltb b 12 h))
+
+pub alike-blocks : (b : ℕ) → 12 ≤ b → b < 40 → getD table (8 + b % 4) 0 ≡ rowsIn 1024 (272 + 1024 * b)
+unfolding slot
+alike-blocks b h k = table-at b (8 + b % 4) (omega arith) (simp (le-ltb b 12 h, lt-ltb b 40 k))
+
+pub last-blocks : (b : ℕ) → 40 ≤ b → b < 68 → getD table (b - 28) 0 ≡ rowsIn 1024 (272 + 1024 * b)
+unfolding slot
+last-blocks b h k = table-at b (b - 28) k (simp (le-ltb b 12 (omega arith), le-ltb b 40 h))
 
 -- ---- few rows
 pub rows-in-le : (k i : ℕ) → rowsIn k i ≤ k
@@ -78,9 +107,9 @@ rows-in-blocks (suc n) i =
     let e : 1024 * suc n ≡ 1024 + 1024 * n = omega arith in
     rw (e, rows-in-add 1024 (1024 * n) i) (omega (arith, rows-in-blocks n (i + 1024)))
 
-table-sum : sum table ≡ 50320
-unfolding sum
-table-sum = refl
+said-sum : sum (said 68 0) ≡ 50320
+unfolding sum said slot
+said-sum = refl
 
 pub all-rows : rowsIn 69904 0 ≡ 50577
-all-rows = rows-in-add 272 69632 0 ∙ omega (arith, short-rows, rows-in-blocks 68 272, ap sum (sym table-counts), table-sum)
+all-rows = rows-in-add 272 69632 0 ∙ omega (arith, short-rows, rows-in-blocks 68 272, ap sum (sym said-counts), said-sum)

@@ -14,7 +14,8 @@ pub const BLOCKS: usize = 68;
 
 pub const BLOCK: usize = 1024;
 
-const COUNTS: [u64; 68] = [
+// Four blocks for the words of three characters, and four for each first character of those of four. Of these 一 to 八 have the same rows behind them, which stand once.
+const COUNTS: [u64; 40] = [
     931,
     976,
     765,
@@ -23,34 +24,6 @@ const COUNTS: [u64; 68] = [
     976,
     488,
     559,
-    972,
-    972,
-    763,
-    778,
-    972,
-    972,
-    763,
-    778,
-    972,
-    972,
-    763,
-    778,
-    972,
-    972,
-    763,
-    778,
-    972,
-    972,
-    763,
-    778,
-    972,
-    972,
-    763,
-    778,
-    972,
-    972,
-    763,
-    778,
     972,
     972,
     763,
@@ -90,5 +63,11 @@ pub fn rows_in(block: usize) -> u64
     requires { ⌜ block < 68 ⌝ }
     ensures { λ r. ⌜ r ≡ rowsIn 1024 (272 + 1024 * block) ⌝ }
 {
-    COUNTS[block]
+    if block < 12 {
+        return COUNTS[block];
+    }
+    if block < 40 {
+        return COUNTS[8 + block % 4];
+    }
+    COUNTS[block - 28]
 }
