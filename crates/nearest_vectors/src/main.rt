@@ -7,25 +7,20 @@ fn main() {
     let mut input = io::large_buffer();
     let mut ends = [0usize; ROWS];
     let rows = vectors::read_rows(&mut input, &mut ends);
-    replay(&input, &ends, rows);
+    for i in 0..rows {
+        answer(vectors::row(&input, &ends, i));
+    }
 }
 
 fn report(line: &[u8], listing: &[u8], place: u64) {
     let p = Place(place as usize);
     let told = answers::reading::answer_told(nearest_number::nearest_number(line, listing, p));
     if told.status > 0 {
-        vectors::say(b"refused ", told.status as u64);
-        vectors::say(b" ", told.at);
+        vectors::refused(told.status as u64, told.at);
     } else if told.at == 18446744073709551615 {
         io::write_all(1, b"none");
     } else {
         vectors::say(b"at ", told.at);
-    }
-}
-
-fn replay(input: &[u8], ends: &[usize; ROWS], rows: usize) {
-    for i in 0..rows {
-        answer(vectors::row(input, ends, i));
     }
 }
 
@@ -45,10 +40,8 @@ fn try_listing(line: &[u8], digits: &[u8], place: u64, listing: &mut [u8]) {
 // The rest of a row behind its listing: the place's digits, and the words.
 fn after_listing(line: &[u8], digits: &[u8], row: &[u8]) {
     let mut listing = io::buffer();
-    let space = vectors::until(row, 0, b' ');
-    try_listing(line, digits, place_of(&row[0..space]), &mut listing);
-    io::write_all(1, &row[space..]);
-    io::write_all(1, b"\n");
+    try_listing(line, digits, place_of(vectors::word(row)), &mut listing);
+    vectors::end_row(row);
 }
 
 // The rest of a row behind its line.

@@ -7,8 +7,7 @@ use text::Place;
 // An answer by what C is told of it: its status, and the number that goes with it.
 fn show(word: &[u8], t: CStatus) {
     if t.status > 0 {
-        vectors::say(b"refused ", t.status as u64);
-        vectors::say(b" ", t.at);
+        vectors::refused(t.status as u64, t.at);
     } else if t.at == 18446744073709551615 {
         io::write_all(1, b"none");
     } else {

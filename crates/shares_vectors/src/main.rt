@@ -6,7 +6,9 @@ fn main() {
     let mut input = io::large_buffer();
     let mut ends = [0usize; ROWS];
     let rows = vectors::read_rows(&mut input, &mut ends);
-    replay(&input, &ends, rows);
+    for i in 0..rows {
+        answer(vectors::row(&input, &ends, i));
+    }
 }
 
 fn report(line: &[u8], listing: &[u8]) {
@@ -15,8 +17,7 @@ fn report(line: &[u8], listing: &[u8]) {
         vectors::say(b"sum ", told.numerator);
         vectors::say(b"/", told.denominator);
     } else {
-        vectors::say(b"refused ", told.status as u64);
-        vectors::say(b" ", told.at);
+        vectors::refused(told.status as u64, told.at);
     }
 }
 
@@ -29,10 +30,8 @@ fn try_listing(line: &[u8], digits: &[u8], listing: &mut [u8]) {
 // The rest of a row: the listing's digits, and the words.
 fn after_line(line: &[u8], row: &[u8]) {
     let mut listing = io::buffer();
-    let space = vectors::until(row, 0, b' ');
-    try_listing(line, &row[0..space], &mut listing);
-    io::write_all(1, &row[space..]);
-    io::write_all(1, b"\n");
+    try_listing(line, vectors::word(row), &mut listing);
+    vectors::end_row(row);
 }
 
 // Takes a line's digits apart into its buffer, and goes on behind them.
@@ -44,10 +43,4 @@ fn with_line(digits: &[u8], row: &[u8], line: &mut [u8]) {
 fn answer(row: &[u8]) {
     let mut line = io::buffer();
     with_line(vectors::word(row), vectors::rest(row), &mut line);
-}
-
-fn replay(input: &[u8], ends: &[usize; ROWS], rows: usize) {
-    for i in 0..rows {
-        answer(vectors::row(input, ends, i));
-    }
 }

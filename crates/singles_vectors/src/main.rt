@@ -69,11 +69,9 @@ fn report(line: &[u8], table: &[u8], edges: &[u8]) {
 // The rest of a row behind its table: the edge list's digits, and the words.
 fn after_table(line: &[u8], table: &[u8], row: &[u8]) {
     let mut edges = io::buffer();
-    let space = vectors::until(row, 0, b' ');
-    let n = vectors::unhex(&row[0..space], &mut edges);
+    let n = vectors::unhex(vectors::word(row), &mut edges);
     report(line, table, &edges[0..n]);
-    io::write_all(1, &row[space..]);
-    io::write_all(1, b"\n");
+    vectors::end_row(row);
 }
 
 // Takes a table's digits apart into its buffer, and goes on behind them.
@@ -96,15 +94,11 @@ fn answer(row: &[u8]) {
     }
 }
 
-fn replay(input: &[u8], ends: &[usize; ROWS], rows: usize) {
-    for i in 0..rows {
-        answer(vectors::row(input, ends, i));
-    }
-}
-
 fn main() {
     let mut input = io::large_buffer();
     let mut ends = [0usize; ROWS];
     let rows = vectors::read_rows(&mut input, &mut ends);
-    replay(&input, &ends, rows);
+    for i in 0..rows {
+        answer(vectors::row(&input, &ends, i));
+    }
 }

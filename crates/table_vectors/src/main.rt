@@ -8,7 +8,9 @@ fn main() {
     let mut input = io::large_buffer();
     let mut ends = [0usize; ROWS];
     let rows = vectors::read_rows(&mut input, &mut ends);
-    replay(&input, &ends, rows);
+    for i in 0..rows {
+        answer(vectors::row(&input, &ends, i));
+    }
 }
 
 fn report(table: &[u8]) {
@@ -16,29 +18,14 @@ fn report(table: &[u8]) {
     let mut entries: usize = 0;
     match table_check::check_table(table, &mut offs, &mut entries) {
         TableCheck::Table(shape) => vectors::say(b"table of ", shape.count as u64),
-        TableCheck::Refused(number, at) => {
-            vectors::say(b"refused ", number as u64);
-            vectors::say(b" ", at.0 as u64);
-        }
+        TableCheck::Refused(number, at) => vectors::refused(number as u64, at.0 as u64),
     }
 }
 
-// Takes a line's digits apart into the table's buffer, and reports.
-fn try_line(digits: &[u8], table: &mut [u8]) {
-    let n = vectors::unhex(digits, table);
-    report(&table[0..n]);
-}
-
-fn answer(line: &[u8]) {
+// The table that a row's digits say is reported, with the row's words.
+fn answer(row: &[u8]) {
     let mut table = io::buffer();
-    let space = vectors::until(line, 0, b' ');
-    try_line(&line[0..space], &mut table);
-    io::write_all(1, &line[space..]);
-    io::write_all(1, b"\n");
-}
-
-fn replay(input: &[u8], ends: &[usize; ROWS], rows: usize) {
-    for i in 0..rows {
-        answer(vectors::row(input, ends, i));
-    }
+    let n = vectors::unhex(vectors::word(row), &mut table);
+    report(&table[0..n]);
+    vectors::end_row(row);
 }

@@ -1,4 +1,4 @@
-// What the programs share: the rows of standard input, where a word ends, bytes written in hexadecimal, a word and a number printed.
+// What the programs share: the rows of standard input, where a word ends, bytes written in hexadecimal, a word and a number printed, a refusal, the end of a row.
 ghost use mathlib.Core.Path.{_≡_};
 ghost use Prim.Native.Nat.{_+_, _≤_, _<_};
 ghost use lib.ListN.{length, drop};
@@ -68,6 +68,19 @@ pub fn unhex(digits: &[u8], out: &mut [u8]) -> usize
 pub fn say(word: &[u8], n: u64) {
     io::write_all(1, word);
     io::print_decimal(1, n);
+}
+
+// A refusal's number, and the offset or place that goes with it.
+pub fn refused(number: u64, at: u64) {
+    say(b"refused ", number);
+    say(b" ", at);
+}
+
+// What stands behind the first word of a row, and its end.
+pub fn end_row(row: &[u8]) {
+    let space = until(row, 0, b' ');
+    io::write_all(1, &row[space..]);
+    io::write_all(1, b"\n");
 }
 
 // How many rows a program takes at most.

@@ -9,12 +9,8 @@ fn main() {
     let mut input = io::large_buffer();
     let mut ends = [0usize; ROWS];
     let rows = vectors::read_rows(&mut input, &mut ends);
-    replay(&input, &ends, rows);
-}
-
-fn replay(input: &[u8], ends: &[usize; ROWS], rows: usize) {
     for i in 0..rows {
-        show(vectors::row(input, ends, i));
+        show(vectors::row(&input, &ends, i));
     }
 }
 
@@ -49,8 +45,7 @@ fn weigh(line: &[u8], out: &mut [u8]) -> usize
 fn refused(number: u64, at: u64) -> usize
     ensures { λ r. ⌜ r ≤ 258 ⌝ }
 {
-    vectors::say(b"refused ", number);
-    vectors::say(b" ", at);
+    vectors::refused(number, at);
     0
 }
 

@@ -10,12 +10,8 @@ fn main() {
     let mut input = io::large_buffer();
     let mut ends = [0usize; ROWS];
     let rows = vectors::read_rows(&mut input, &mut ends);
-    replay(&input, &ends, rows);
-}
-
-fn replay(input: &[u8], ends: &[usize; ROWS], rows: usize) {
     for i in 0..rows {
-        show(vectors::row(input, ends, i));
+        show(vectors::row(&input, &ends, i));
     }
 }
 
@@ -41,14 +37,10 @@ fn rows_len(line: &[u8], out: &mut [u8]) -> usize
     ensures { λ r. ⌜ r ≤ length (now (out .entry)) ⌝ }
 {
     let answer = worn::worn_character(line, out);
-    match answer {
-        Worn::Rows(n) => n,
-        Worn::IllFormed(_) => 0,
-        Worn::TooLong(_) => 0,
-        Worn::NotOneMark => 0,
-        Worn::TooShort => 0,
-        Worn::NoneServes => 0,
+    if let Worn::Rows(n) = answer {
+        return n;
     }
+    0
 }
 
 // The answer with this output.
