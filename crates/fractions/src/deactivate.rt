@@ -61,10 +61,8 @@ pub fn turn_off_all(
         → Holds (now (work .exit)) lattice (turnOff es
         (usedEdges (outcomesOf es (now (forms .entry)) (now (lefts .entry)) (now (rights .entry)) 0 places)))) ⌝ }
 {
-    let mut p = 0;
-    while p < places {
+    for p in 0..places {
         let c = fraction_choices::decision::choice_of(forms[p], lefts[p], rights[p]);
         turn_off_used(work, lattice, c);
-        p += 1;
     }
 }

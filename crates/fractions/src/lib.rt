@@ -42,11 +42,9 @@ fn add_all(
         (newEdges (outcomesOf es (now (forms .entry)) (now (lefts .entry)) (now (rights .entry)) 0 places)))) ⌝ }
 {
     let mut grown = lattice;
-    let mut p = 0;
-    while p < places {
+    for p in 0..places {
         let c = fraction_choices::decision::choice_of(forms[p], lefts[p], rights[p]);
         grown = crate::new_edge::add_choice(work, grown, Place(p), c);
-        p += 1;
     }
     grown
 }

@@ -16,27 +16,6 @@ abbrev μ-loop : tie.MeasureT-loop
 loop-holds : tie.Need-loop-holds Inv-loop μ-loop
 loop-holds c = grown-start _ _ _ _ _ _
 
-mul-choice-of : tie.Need-mul-choice-of Inv-loop μ-loop
-mul-choice-of c = search needs
-
-element-copy-out-choice-of : tie.Need-element-copy-out-choice-of Inv-loop μ-loop
-element-copy-out-choice-of c = search needs
-
-mul-choice-of-2 : tie.Need-mul-choice-of-2 Inv-loop μ-loop
-mul-choice-of-2 c = search needs
-
-element-copy-out-choice-of-2 : tie.Need-element-copy-out-choice-of-2 Inv-loop μ-loop
-element-copy-out-choice-of-2 c = search needs
-
-mul-choice-of-3 : tie.Need-mul-choice-of-3 Inv-loop μ-loop
-mul-choice-of-3 c = search needs
-
-element-copy-out-choice-of-3 : tie.Need-element-copy-out-choice-of-3 Inv-loop μ-loop
-element-copy-out-choice-of-3 c = search needs
-
-choice-of-requires : tie.Need-choice-of-requires Inv-loop μ-loop
-choice-of-requires c κs = search needs
-
 add-choice-requires : tie.Need-add-choice-requires Inv-loop μ-loop
 add-choice-requires c κs =
     let k = c .before in
@@ -44,15 +23,6 @@ add-choice-requires c κs =
     let s = i .before .before .before in
     let t = i .loop-test .taken in
     ((s .args .places, rw (k .choice-of .ensures) (grown-next (i .before .loop .inv) t (s .pre .0 .1))), omega (arith, s .pre .1))
-
-add-p : tie.Need-add-p Inv-loop μ-loop
-add-p c =
-    let i = c .before .before .before .before .before .before .before .before in
-    let m = i .before .loop .inv .most in
-    omega (arith, i .loop-test .taken, i .before .before .before .pre)
-
-loop-less : tie.Need-loop-less Inv-loop μ-loop
-loop-less c = omega (arith, c .before .before .before .before .before .before .before .before .loop-test .taken)
 
 loop-again : tie.Need-loop-again Inv-loop μ-loop
 loop-again c =
@@ -70,20 +40,4 @@ returns c = let i = c .before .loop .inv in (i .frame, grown-ends i (c .loop-tes
 pub add-all-spec : {M : Type 1} → statement M
 add-all-spec =
     tie.close
-    (tie.spec
-    Inv-loop
-    μ-loop
-    loop-holds
-    mul-choice-of
-    element-copy-out-choice-of
-    mul-choice-of-2
-    element-copy-out-choice-of-2
-    mul-choice-of-3
-    element-copy-out-choice-of-3
-    choice-of-requires
-    add-choice-requires
-    add-p
-    loop-less
-    loop-again
-    same-length
-    returns)
+    (tie.spec Inv-loop μ-loop loop-holds (λ c. search needs) (λ c. search needs) (λ c. search needs) (λ c. search needs) (λ c. search needs) (λ c. search needs) (λ c κs. search needs) add-choice-requires (λ c. search needs) (λ c. search needs) loop-again same-length returns)

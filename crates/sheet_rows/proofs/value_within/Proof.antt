@@ -4,24 +4,6 @@ use borrow.Author.Needs.{needs}
 use Rattle.sheet_rows.proofs.value_within.Statement.{statement}
 use Rattle.sheet_rows.proofs.value_within.Tie as tie
 
-one-number-requires : tie.Need-one-number-requires
-one-number-requires c κs = search needs
-
-enum-known-field : tie.Need-enum-known-field
-enum-known-field c = search needs
-
-enum-told : tie.Need-enum-told
-enum-told c = search needs
-
-enum-told-2 : tie.Need-enum-told-2
-enum-told-2 c = search needs
-
-enum-told-3 : tie.Need-enum-told-3
-enum-told-3 c = search needs
-
-enum-told-4 : tie.Need-enum-told-4
-enum-told-4 c = search needs
-
 returns : tie.Need-returns
 returns c = found-field _ _ (c .before .field .given .1) (c .before .before .before .one-number .ensures)
 
@@ -40,15 +22,4 @@ returns-5 c = found-field _ _ (c .enum-told4 .given .1) (c .before .before .one-
 pub value-within-spec : {M : Type 1} → statement M
 value-within-spec =
     tie.close
-    (tie.spec
-    one-number-requires
-    enum-known-field
-    enum-told
-    enum-told-2
-    enum-told-3
-    enum-told-4
-    returns
-    returns-2
-    returns-3
-    returns-4
-    returns-5)
+    (tie.spec (λ c κs. search needs) (λ c. search needs) (λ c. search needs) (λ c. search needs) (λ c. search needs) (λ c. search needs) returns returns-2 returns-3 returns-4 returns-5)

@@ -56,9 +56,6 @@ sub-read-edge c = omega (arith, room c)
 part-read-edge-start : tie.Need-part-read-edge-start Inv-loop μ-loop
 part-read-edge-start c = omega (arith, room (c .before))
 
-part-read-edge-end : tie.Need-part-read-edge-end Inv-loop μ-loop
-part-read-edge-end c = search needs
-
 mul-read-edge : tie.Need-mul-read-edge Inv-loop μ-loop
 mul-read-edge c = let l = c .before .before in omega (arith, room l, l .loop-test .taken, c .before .before .before .before .before .before .before .good)
 
@@ -75,9 +72,6 @@ add-edge-signs-requires c κs =
     let a = l .before .before .before .before .before in
     let d = l .before .loop .inv .0 .holds (a .pre .0 .0) (a .pre .0 .1) in
     ((d .0, d .1), a .pre .1, (_, record { is = read-is g; sound = here l .0 }), a .pre .2)
-
-add-i : tie.Need-add-i Inv-loop μ-loop
-add-i c = search needs
 
 loop-less : tie.Need-loop-less Inv-loop μ-loop
 loop-less c = omega arith
@@ -105,18 +99,4 @@ returns c =
 pub add-signs-spec : {M : Type 1} → statement M
 add-signs-spec =
     tie.close
-    (tie.spec
-    Inv-loop
-    μ-loop
-    loop-holds
-    sub-read-edge
-    part-read-edge-start
-    part-read-edge-end
-    mul-read-edge
-    read-edge-requires
-    add-edge-signs-requires
-    add-i
-    loop-less
-    loop-again
-    same-length
-    returns)
+    (tie.spec Inv-loop μ-loop loop-holds sub-read-edge part-read-edge-start (λ c. search needs) mul-read-edge read-edge-requires add-edge-signs-requires (λ c. search needs) loop-less loop-again same-length returns)

@@ -52,9 +52,6 @@ sub-read-edge c = omega (arith, start c .pre .3)
 part-read-edge-start : tie.Need-part-read-edge-start Inv-loop μ-loop
 part-read-edge-start c = omega (arith, start c .pre .3)
 
-part-read-edge-end : tie.Need-part-read-edge-end Inv-loop μ-loop
-part-read-edge-end c = search needs
-
 mul-read-edge : tie.Need-mul-read-edge Inv-loop μ-loop
 mul-read-edge c = let l = c .before in omega (arith, start l .pre .3, l .loop-test .taken, start l .good)
 
@@ -69,9 +66,6 @@ mark-barred-requires c κs =
     let r = c .before in
     let p = start (r .before .before) .pre in
     (p .0, p .1, (p .2 .0, _, stored-is r (p .2 .0) (p .2 .1)))
-
-add-i : tie.Need-add-i Inv-loop μ-loop
-add-i c = search needs
 
 loop-less : tie.Need-loop-less Inv-loop μ-loop
 loop-less c = omega arith
@@ -88,17 +82,4 @@ returns c = barred-end _ _ _ (c .before .loop .inv) (c .loop-test .left)
 pub mark-all-barred-spec : {M : Type 1} → statement M
 mark-all-barred-spec =
     tie.close
-    (tie.spec
-    Inv-loop
-    μ-loop
-    loop-holds
-    sub-read-edge
-    part-read-edge-start
-    part-read-edge-end
-    mul-read-edge
-    read-edge-requires
-    mark-barred-requires
-    add-i
-    loop-less
-    loop-again
-    returns)
+    (tie.spec Inv-loop μ-loop loop-holds sub-read-edge part-read-edge-start (λ c. search needs) mul-read-edge read-edge-requires mark-barred-requires (λ c. search needs) loop-less loop-again returns)

@@ -52,12 +52,6 @@ loop-holds c =
     let h = c .before .if1 .left in
     (texts-start _ _ _ _ h, list-formed (s .args .table .now) (s .args .list) h (s .pre .3))
 
-text-at-requires : tie.Need-text-at-requires Inv-loop μ-loop
-text-at-requires c κs = search needs
-
-enum-known-m : tie.Need-enum-known-m Inv-loop μ-loop
-enum-known-m c = search needs
-
 text-somewhere-requires : tie.Need-text-somewhere-requires Inv-loop μ-loop
 text-somewhere-requires c κs =
     let m = c .before in
@@ -87,9 +81,6 @@ loop-again c =
       formed-rest _ _ _ (l .loop .inv .1) taken (told-at m),
     )
 
-enum-told : tie.Need-enum-told Inv-loop μ-loop
-enum-told c = search needs
-
 returns-3 : tie.Need-returns-3 Inv-loop μ-loop
 returns-3 c =
     let t = c .before .before in
@@ -102,21 +93,4 @@ returns-4 c = texts-end _ _ _ _ _ _ (c .before .loop .inv .0) (c .loop-test .lef
 pub any-of-spec : {M : Type 1} → statement M
 any-of-spec =
     tie.close
-    (tie.spec
-    Inv-loop
-    μ-loop
-    returns
-    add-next
-    shared-slice-read-left
-    cast-left
-    loop-holds
-    text-at-requires
-    enum-known-m
-    text-somewhere-requires
-    returns-2
-    sub-left
-    loop-less
-    loop-again
-    enum-told
-    returns-3
-    returns-4)
+    (tie.spec Inv-loop μ-loop returns add-next shared-slice-read-left cast-left loop-holds (λ c κs. search needs) (λ c. search needs) text-somewhere-requires returns-2 sub-left loop-less loop-again (λ c. search needs) returns-3 returns-4)

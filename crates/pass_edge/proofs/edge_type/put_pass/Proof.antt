@@ -4,36 +4,6 @@ use Rattle.pass_edge.proofs.TextLaws.{front-is}
 use Rattle.pass_edge.proofs.edge_type.put_pass.Statement.{statement}
 use Rattle.pass_edge.proofs.edge_type.put_pass.Tie as tie
 
-enum-told : tie.Need-enum-told
-enum-told c = search needs
-
-put-name-requires : tie.Need-put-name-requires
-put-name-requires c κs = search needs
-
-enum-told-2 : tie.Need-enum-told-2
-enum-told-2 c = search needs
-
-put-name-requires-2 : tie.Need-put-name-requires-2
-put-name-requires-2 c κs = search needs
-
-enum-told-3 : tie.Need-enum-told-3
-enum-told-3 c = search needs
-
-put-name-requires-3 : tie.Need-put-name-requires-3
-put-name-requires-3 c κs = search needs
-
-enum-told-4 : tie.Need-enum-told-4
-enum-told-4 c = search needs
-
-put-name-requires-4 : tie.Need-put-name-requires-4
-put-name-requires-4 c κs = search needs
-
-enum-told-5 : tie.Need-enum-told-5
-enum-told-5 c = search needs
-
-put-name-requires-5 : tie.Need-put-name-requires-5
-put-name-requires-5 c κs = search needs
-
 same-length : tie.Need-same-length
 same-length c = c .before .before .put-name .kept .0
 
@@ -67,24 +37,4 @@ returns-5 c = front-is (rw (c .before .before .before .before .enum-told5 .given
 pub put-pass-spec : {M : Type 1} → statement M
 put-pass-spec =
     tie.close
-    (tie.spec
-    enum-told
-    put-name-requires
-    enum-told-2
-    put-name-requires-2
-    enum-told-3
-    put-name-requires-3
-    enum-told-4
-    put-name-requires-4
-    enum-told-5
-    put-name-requires-5
-    same-length
-    returns
-    same-length-2
-    returns-2
-    same-length-3
-    returns-3
-    same-length-4
-    returns-4
-    same-length-5
-    returns-5)
+    (tie.spec (λ c. search needs) (λ c κs. search needs) (λ c. search needs) (λ c κs. search needs) (λ c. search needs) (λ c κs. search needs) (λ c. search needs) (λ c κs. search needs) (λ c. search needs) (λ c κs. search needs) same-length returns same-length-2 returns-2 same-length-3 returns-3 same-length-4 returns-4 same-length-5 returns-5)

@@ -9,9 +9,6 @@ use Rattle.pass_run.proofs.take.may_take.Tie as tie
 u16-at-requires : tie.Need-u16-at-requires
 u16-at-requires c κs = omega (arith, c .before .pre)
 
-cast-start : tie.Need-cast-start
-cast-start c = search needs
-
 add-u16-at : tie.Need-add-u16-at
 add-u16-at c = let a = c .before .before in omega (arith, a .pre, a .good)
 
@@ -57,20 +54,4 @@ returns-5 c x e j = let a = c .before .before .before .before .before .before .b
 pub may-take-spec : {M : Type 1} → statement M
 may-take-spec =
     tie.close
-    (tie.spec
-    u16-at-requires
-    cast-start
-    add-u16-at
-    u16-at-requires-2
-    add-u64-at
-    u64-at-requires
-    enum-told
-    enum-told-2
-    enum-told-3
-    enum-told-4
-    enum-told-5
-    returns
-    returns-2
-    returns-3
-    returns-4
-    returns-5)
+    (tie.spec u16-at-requires (λ c. search needs) add-u16-at u16-at-requires-2 add-u64-at u64-at-requires enum-told enum-told-2 enum-told-3 enum-told-4 enum-told-5 returns returns-2 returns-3 returns-4 returns-5)

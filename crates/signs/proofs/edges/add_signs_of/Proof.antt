@@ -63,12 +63,6 @@ loop-holds c =
     let h = c .before .if1 .left in
     (λ i e. rw (signs-list (chars (a .line .now)) (a .sign) (edgeOf (chars (a .line .now)) (a .table .now) i) (a .table .now) (a .list) h) (toward-start _ _ _), list-formed (a .table .now) (a .list) h (s .pre .1))
 
-text-at-requires : tie.Need-text-at-requires Inv-loop μ-loop
-text-at-requires c κs = search needs
-
-enum-known-m : tie.Need-enum-known-m Inv-loop μ-loop
-enum-known-m c = search needs
-
 add-sign-requires : tie.Need-add-sign-requires Inv-loop μ-loop
 add-sign-requires c κs =
     let m = c .before .before in
@@ -101,9 +95,6 @@ loop-again c =
           (signs-turn (chars (a .line .now)) (a .sign) edge (a .table .now) (l .loop .next) (l .loop .left) taken (told-at m)) (g .add-sign .kept .0) (added .frame) (λ es q. added .holds es i q e),
       formed-rest _ _ _ (l .loop .inv .1) taken (told-at m),
     )
-
-enum-told : tie.Need-enum-told Inv-loop μ-loop
-enum-told c = search needs
 
 same-length : tie.Need-same-length Inv-loop μ-loop
 same-length c =
@@ -142,22 +133,4 @@ returns-3 c =
 pub add-signs-of-spec : {M : Type 1} → statement M
 add-signs-of-spec =
     tie.close
-    (tie.spec
-    Inv-loop
-    μ-loop
-    returns
-    add-next
-    shared-slice-read-left
-    cast-left
-    loop-holds
-    text-at-requires
-    enum-known-m
-    add-sign-requires
-    sub-left
-    loop-less
-    loop-again
-    enum-told
-    same-length
-    returns-2
-    same-length-2
-    returns-3)
+    (tie.spec Inv-loop μ-loop returns add-next shared-slice-read-left cast-left loop-holds (λ c κs. search needs) (λ c. search needs) add-sign-requires sub-left loop-less loop-again (λ c. search needs) same-length returns-2 same-length-2 returns-3)

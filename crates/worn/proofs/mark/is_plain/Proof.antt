@@ -5,24 +5,6 @@ use borrow.Author.Needs.{needs}
 use Rattle.worn.proofs.mark.is_plain.Statement.{statement}
 use Rattle.worn.proofs.mark.is_plain.Tie as tie
 
-glyph-at-requires : tie.Need-glyph-at-requires
-glyph-at-requires c κs = search needs
-
-enum-told : tie.Need-enum-told
-enum-told c = search needs
-
-enum-told-2 : tie.Need-enum-told-2
-enum-told-2 c = search needs
-
-enum-told-3 : tie.Need-enum-told-3
-enum-told-3 c = search needs
-
-enum-told-4 : tie.Need-enum-told-4
-enum-told-4 c = search needs
-
-enum-told-5 : tie.Need-enum-told-5
-enum-told-5 c = search needs
-
 returns : tie.Need-returns
 returns c = no-plain _ _ (c .enum-told .given .1) refl (c .before .before .glyph-at .ensures)
 
@@ -41,15 +23,4 @@ returns-5 c = no-plain _ _ (c .enum-told5 .given .1) refl (c .before .before .gl
 pub is-plain-spec : {M : Type 1} → statement M
 is-plain-spec =
     tie.close
-    (tie.spec
-    glyph-at-requires
-    enum-told
-    enum-told-2
-    enum-told-3
-    enum-told-4
-    enum-told-5
-    returns
-    returns-2
-    returns-3
-    returns-4
-    returns-5)
+    (tie.spec (λ c κs. search needs) (λ c. search needs) (λ c. search needs) (λ c. search needs) (λ c. search needs) (λ c. search needs) returns returns-2 returns-3 returns-4 returns-5)
