@@ -8,12 +8,13 @@ use Prim.Native.Nat.{ℕ, zero, suc, _+_, _*_, _-_, _/_, _%_, _≤_, _<_}
 use native.Mathlib.Omega.{arith}
 use lib.ListN.{length, take, drop, getD, length-drop, drop-of-length-le}
 use lib.Dec.{leb, ltb, eqb}
-use borrow.Author.Tests.{le-leb, lt-leb, lt-ltb, le-ltb, ltb-true, ltb-false, leb-true, eqb-true, eqb-false, eq-eqb, ne-eqb}
+use borrow.Author.Tests.{le-leb, lt-leb, lt-ltb, le-ltb, leb-true, eqb-true, eqb-false, eq-eqb, ne-eqb}
 use Rattle.text.specs.Bytes.{same}
 use Rattle.text.specs.Table.{within}
 use Rattle.text.specs.Sequence.{scalar, encode, trailByte}
 use Rattle.text.specs.Text.{encodes, Scalars}
 use Rattle.text.proofs.RowLaws.{cond-cases, or-true, within-is}
+use Rattle.text.proofs.EncodeLaws.{by-size}
 use Rattle.text.proofs.SequenceLaws.{drop-at}
 use Rattle.numbers.specs.Folded.{isWide, fold, folded}
 use Rattle.numbers.proofs.FoldLaws.{by-width, fold-low}
@@ -140,17 +141,6 @@ module _ (line : List ℕ) (at : ℕ) (m : List ℕ) where
 
 -- ---- characters: their bytes, as they count, are the bytes of those that they count as
 module _ (c : ℕ) where
-  -- the bytes of a character by its size
-  by-size : (P : List ℕ → Type 0) → (c < 0x80 → P (c ∷ [])) → (0x80 ≤ c → c < 0x800 → P ((0xC0 + c / 64) ∷ trailByte c ∷ []))
-      → (0x800 ≤ c → c < 0x10000 → P ((0xE0 + c / 64 / 64) ∷ trailByte (c / 64) ∷ trailByte c ∷ []))
-      → (0x10000 ≤ c → P ((0xF0 + c / 64 / 64 / 64) ∷ trailByte (c / 64 / 64) ∷ trailByte (c / 64) ∷ trailByte c ∷ []))
-      → P (encode c)
-  unfolding encode
-  by-size P one two three four =
-      cond-cases P (ltb c 0x80) (λ t. one (ltb-true c 0x80 t))
-      (λ f. cond-cases P (ltb c 0x800) (λ t. two (ltb-false c 0x80 f) (ltb-true c 0x800 t))
-      (λ f. cond-cases P (ltb c 0x10000) (λ t. three (ltb-false c 0x800 f) (ltb-true c 0x10000 t)) (λ f. four (ltb-false c 0x10000 f))))
-
   -- the byte that holds six bits is no first byte
   trail-front : (s : List ℕ) → foldedBytes (trailByte c ∷ s) ≡ trailByte c ∷ foldedBytes s
   trail-front s = front-other (trailByte c) s (λ e. omega arith)

@@ -19,7 +19,7 @@ use Rattle.text.proofs.RowLaws.{cond-cases, or-true, within-is, is-with
 
 -- ---- the bytes of a code point, by its size
 module _ (c : ℕ) where
-  by-size : (P : List ℕ → Type 0) → (c < 0x80 → P (c ∷ [])) → (0x80 ≤ c → c < 0x800 → P ((0xC0 + c / 64) ∷ trailByte c ∷ []))
+  pub by-size : (P : List ℕ → Type 0) → (c < 0x80 → P (c ∷ [])) → (0x80 ≤ c → c < 0x800 → P ((0xC0 + c / 64) ∷ trailByte c ∷ []))
       → (0x800 ≤ c → c < 0x10000 → P ((0xE0 + c / 64 / 64) ∷ trailByte (c / 64) ∷ trailByte c ∷ []))
       → (0x10000 ≤ c → P ((0xF0 + c / 64 / 64 / 64) ∷ trailByte (c / 64 / 64) ∷ trailByte (c / 64) ∷ trailByte c ∷ []))
       → P (encode c)
