@@ -167,7 +167,8 @@ enum {
     RILVOSTAM_HAS_SCRIPT = 32,
     RILVOSTAM_IS_LARGE_POWER = 64,
     RILVOSTAM_IS_ACTIVE = 128,
-    RILVOSTAM_HAS_VALUE_S = 256
+    RILVOSTAM_HAS_VALUE_S = 256,
+    RILVOSTAM_HAS_DECIMALS = 512
 };
 
 /* A text of an edge: a part of the listing, in UTF-8, without a zero byte behind it. printf("%.*s", (int)t.len, t.at) prints it. */
@@ -184,7 +185,7 @@ typedef struct {
     rilvostam_text type, txt, orig_txt, script, value_s;
     double value, mult;
     uint64_t numerator, denominator, base;
-    uint64_t decimals; /* for a later form of the listing; 0 now */
+    uint64_t decimals; /* 1 to 15: how many digits stand behind the point; without its bit 0 */
 } rilvostam_edge;
 
 static inline rilvostam_text rilvostam_edge_text(const uint8_t *listing, const uint64_t *offset_and_length) {

@@ -39,7 +39,7 @@ static void words(void) {
 }
 
 /* An edge with every field over the first two places, and behind it a regular one. */
-static const uint8_t two[] = "\x02\0\xff\x01\0\0\x02\0\x01\0t\x02\0xy\x01\0o\0\0\0\0\0\0\x14\x40\x01\0\0\0\0\0\0\0\x02\0\0\0\0\0\0\0\x09\0\0\0\0\0\0\0\0\0\0\0\0\0\xe0\x3f\x01\0c\x01\0v"
+static const uint8_t two[] = "\x02\0\xff\x03\0\0\x02\0\x01\0t\x02\0xy\x01\0o\0\0\0\0\0\0\x14\x40\x01\0\0\0\0\0\0\0\x02\0\0\0\0\0\0\0\x09\0\0\0\0\0\0\0\0\0\0\0\0\0\xe0\x3f\x01\0c\x01\0v\x0f"
                              "\0\0\0\0\x01\0\0\0\0\0";
 #define TWO (sizeof two - 1)
 #define SECOND (TWO - 10)
@@ -47,9 +47,9 @@ static const uint8_t two[] = "\x02\0\xff\x01\0\0\x02\0\x01\0t\x02\0xy\x01\0o\0\0
 static void edges(void) {
     rilvostam_edge e;
     uint64_t at = 0, n[RILVOSTAM_EDGE_NUMBERS], next;
-    CHECK(rilvostam_next_edge(two, TWO, &at, &e) && at == SECOND && e.offset == 2 && e.start == 0 && e.end == 2 && e.map == 511);
+    CHECK(rilvostam_next_edge(two, TWO, &at, &e) && at == SECOND && e.offset == 2 && e.start == 0 && e.end == 2 && e.map == 1023);
     CHECK(is(e.type, "t") && is(e.txt, "xy") && is(e.orig_txt, "o") && is(e.script, "c") && is(e.value_s, "v"));
-    CHECK(e.value == 5 && e.mult == 0.5 && e.numerator == 1 && e.denominator == 2 && e.base == 9 && e.decimals == 0);
+    CHECK(e.value == 5 && e.mult == 0.5 && e.numerator == 1 && e.denominator == 2 && e.base == 9 && e.decimals == 15);
     CHECK(rilvostam_next_edge(two, TWO, &at, &e) && at == TWO && e.offset == SECOND && e.start == 0 && e.end == 1 && e.map == 0);
     CHECK(is(e.type, "") && is(e.txt, "") && is(e.orig_txt, "") && e.value == 0 && e.base == 0);
     CHECK(!rilvostam_next_edge(two, TWO, &at, &e) && at == TWO && e.offset == SECOND);

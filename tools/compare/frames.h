@@ -45,7 +45,7 @@ static size_t edge_len(const uint8_t *s) {
     for (int i = 0; i < 5; i++) if (map >> numbers[i] & 1) at += 8;
     if (map >> 5 & 1) at += 2 + u16(s + at);
     if (map >> 8 & 1) at += 2 + u16(s + at);
-    return at;
+    return at + (map >> 9 & 1);
 }
 
 static int by_text(const uint8_t *a, const uint8_t *b) {

@@ -53,7 +53,7 @@ static size_t next(const uint8_t *s, size_t at) {
     for (int i = 0; i < 5; i++) if (map >> numbers[i] & 1) at += 8;
     if (map >> 5 & 1) at += 2 + u16(s, at);
     if (map >> 8 & 1) at += 2 + u16(s, at);
-    return at;
+    return at + (map >> 9 & 1);
 }
 
 static void neighbor(uint64_t at, int end) {

@@ -62,10 +62,13 @@ def read_edge(data, at, chars):
         for bit in range(1, 5):
             numbers += [(bit, number(8)) for _ in range(NUMBERS[bit]) if bits >> bit & 1]
         texts += [string() for bit in (5, 8) if bits >> bit & 1]
+        numbers += [(9, number(1))] if bits >> 9 & 1 else []
     edge["numeric"], edge["active"], edge["next"] = bool(bits & 1), bool(bits >> 7 & 1), at
-    if bits >> 9 or (bits and not bits & 1) or not edge["start"] < edge["end"] <= chars:
+    if bits >> 10 or (bits and not bits & 1) or not edge["start"] < edge["end"] <= chars:
         raise Cut
     if any(n > TOP for bit, n in numbers if bit in (2, 3)) or [n for bit, n in numbers if bit == 2][1:] == [0]:
+        raise Cut
+    if any(not 1 <= n <= 15 for bit, n in numbers if bit == 9):
         raise Cut
     try:
         for text in texts:
@@ -193,12 +196,13 @@ def random_edge(rng, chars):
     start = rng.randrange(chars)
     end = min(chars, start + rng.choice((1, 1, 1, 2, 2, 3, chars)))
     numeric = rng.random() < 0.5
-    bits = 1 | rng.choice((0, 128)) | (rng.getrandbits(9) & 0x17E if rng.random() < 0.3 else 0) if numeric else 0
+    bits = 1 | rng.choice((0, 128)) | (rng.getrandbits(10) & 0x37E if rng.random() < 0.3 else 0) if numeric else 0
     data = struct.pack("<HHH", bits, start, end) + string(rng.choice(TYPES)) + string(rng.choice((b"", b"1", b"a", "五".encode())))
     if numeric:
         data += string(rng.choice((b"", b"o")))
         data += b"".join(struct.pack("<Q", rng.choice((1, 2, 10, TOP))) for bit in range(1, 5) for _ in range(NUMBERS[bit]) if bits >> bit & 1)
         data += b"".join(string(b"s") for bit in (5, 8) if bits >> bit & 1)
+        data += bytes([rng.choice((1, 2, 14, 15) if rng.random() < 0.98 else (0, 16, 255))]) if bits >> 9 & 1 else b""
     return data
 
 

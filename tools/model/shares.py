@@ -14,7 +14,7 @@ import random
 import sys
 
 TOP = 2**53 - 1
-ALL_BITS = 0x1FF
+ALL_BITS = 0x3FF
 
 
 class Refused(Exception):
@@ -46,7 +46,7 @@ def edge_share(data, at, length):
 
     try:
         bits, start, end = number(2), number(2), number(2)
-        texts, fraction, base = [take(number(2)), take(number(2))], None, None
+        texts, fraction, base, decimals = [take(number(2)), take(number(2))], None, None, 1
         if bits & 1:
             texts.append(take(number(2)))
             if bits >> 1 & 1:
@@ -58,11 +58,13 @@ def edge_share(data, at, length):
             if bits >> 4 & 1:
                 take(8)
             texts += [take(number(2)) for bit in (5, 8) if bits >> bit & 1]
+            if bits >> 9 & 1:
+                decimals = number(1)
         for text in texts:
             text.decode()
     except (IndexError, UnicodeDecodeError):
         return None
-    if bits > ALL_BITS or (bits and not bits & 1) or not start < end <= length:
+    if bits > ALL_BITS or not 1 <= decimals <= 15 or (bits and not bits & 1) or not start < end <= length:
         return None
     if fraction and (max(fraction) > TOP or fraction[1] == 0) or base is not None and base > TOP:
         return None
@@ -104,7 +106,7 @@ def string(text):
     return len(text).to_bytes(2, "little") + text
 
 
-def edge(bits, fraction=(1, 1), end=1):
+def edge(bits, fraction=(1, 1), end=1, decimals=15):
     data = bits.to_bytes(2, "little") + bytes(2) + end.to_bytes(2, "little") + string(b"") + string(b"")
     if bits & 1:
         data += string(b"x")
@@ -113,6 +115,7 @@ def edge(bits, fraction=(1, 1), end=1):
         data += (10).to_bytes(8, "little") if bits >> 3 & 1 else b""
         data += bytes(8) if bits >> 4 & 1 else b""
         data += b"".join(string(b"y") for bit in (5, 8) if bits >> bit & 1)
+        data += bytes([decimals]) if bits >> 9 & 1 else b""
     return data
 
 
@@ -134,7 +137,7 @@ def any_fraction(r, scale):
 
 def any_edge(r, scale):
     bits = r.choice([0x85, 0x85, 0x85, 0x85, 0x05, 0x81, 0, 1 | r.randint(0, ALL_BITS), 0x85 | r.randint(0, ALL_BITS)])
-    return edge(bits, any_fraction(r, scale))
+    return edge(bits, any_fraction(r, scale), decimals=r.randint(1, 15))
 
 
 def damaged(r, listing):
@@ -196,6 +199,9 @@ def examples():
     yield "a later fault 6 comes first", active((TOP, 1), (1, 1), fault)
     yield "denominator 0 of an inactive edge", listing_of([edge(0x05, fault)])
     yield "numerator above TOP", active((TOP + 1, 1))
+    yield "a share of an edge with decimals", listing_of([edge(0x285, half, decimals=1), edge(0x85, (1, 3))])
+    yield "no decimals", listing_of([edge(0x85, half), edge(0x285, half, decimals=0)])
+    yield "16 decimals", listing_of([edge(0x85, half), edge(0x285, half, decimals=16)])
     yield "end past the line", listing_of([edge(0x85, half, 2)])
     yield "no count", b""
     yield "a byte left over", active((1, 3)) + b"\0"

@@ -59,6 +59,7 @@ pub fn edge(number: Option<u64>, edge: &Edge, out: &mut dyn Write) -> io::Result
         num.script.inspect(|script| object.put("script", text(script)));
         object.put("large_power", num.large_power);
         num.value_s.inspect(|digits| object.put("value_s", text(digits)));
+        num.decimals.inspect(|decimals| object.put("decimals", decimals));
     }
     object.print(out)
 }

@@ -126,7 +126,7 @@ class Edge:
     script: Optional[str] = None
     large_power: bool = False
     value_s: Optional[str] = None
-    decimals: int = 0
+    decimals: Optional[int] = None
     offset: int = field(default=0, compare=False)
     """Where the edge stands in the listing."""
 
@@ -167,7 +167,7 @@ def _edge_at(listing: bytes, offset: int) -> Tuple[Edge, int]:
         script=text(11) if stands(5) else None,
         large_power=stands(6),
         value_s=text(13) if stands(8) else None,
-        decimals=rest[15],
+        decimals=rest[15] if stands(9) else None,
         offset=offset,
     )
     return edge, after.value

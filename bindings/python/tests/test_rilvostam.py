@@ -113,6 +113,15 @@ class Reading(unittest.TestCase):
         self.assertEqual(self.listing.shares(), Fraction(1, 2))
         self.assertEqual(rilvostam.add_numbers("").shares(), 0)
 
+    def test_decimals(self):
+        listing = b"\x01\0\x81\x02\0\0\x02\0\x02\0D1\x03\x001.5\x02\0ab\x01"
+        edge = rilvostam.Listing("ab", listing).nearest_number(0)
+        self.assertEqual((edge.txt, edge.decimals), ("1.5", 1))
+        self.assertIsNone(self.listing[0].decimals)
+        for count in (0, 16):
+            with self.assertRaises(Refused):
+                rilvostam.Listing("ab", listing[:-1] + bytes([count])).nearest_number(0)
+
     def test_refusals(self):
         with self.assertRaises(Refused) as refused:
             self.listing.best_edge(0, 10)

@@ -35,6 +35,8 @@ pub struct NumData<'a> {
     pub active: bool,
     /// The digits in a row, leading zeros kept.
     pub value_s: Option<&'a str>,
+    /// How many of its digits stand behind a point: 1 to 15.
+    pub decimals: Option<u8>,
 }
 
 /// An edge of a listing.
@@ -99,7 +101,7 @@ fn edge_of(listing: &[u8], offset: usize, numbers: [u64; NUMBERS]) -> Option<Edg
     #[rustfmt::skip]
     let [
         map, start, end, type_at, type_len, txt_at, txt_len, orig_at, orig_len,
-        value, numerator, denominator, base, mult, script_at, script_len, value_s_at, value_s_len, _,
+        value, numerator, denominator, base, mult, script_at, script_len, value_s_at, value_s_len, decimals,
     ] = numbers;
     let stands = |bit: u32| map >> bit & 1 == 1;
     let text = |at: u64, len: u64| std::str::from_utf8(&listing[at as usize..(at + len) as usize]).ok();
@@ -114,6 +116,7 @@ fn edge_of(listing: &[u8], offset: usize, numbers: [u64; NUMBERS]) -> Option<Edg
         large_power: stands(6),
         active: stands(7),
         value_s: text_if(8, value_s_at, value_s_len)?,
+        decimals: stands(9).then_some(decimals as u8),
     };
     Some(Edge {
         offset,

@@ -214,7 +214,7 @@ fn fields() {
 }
 
 /// An edge with every field over the first two places, and one with none behind it.
-const TWO: &[u8] = b"\x02\0\xff\x01\0\0\x02\0\x01\0t\x02\0xy\x01\0o\0\0\0\0\0\0\x14\x40\x01\0\0\0\0\0\0\0\x02\0\0\0\0\0\0\0\x09\0\0\0\0\0\0\0\0\0\0\0\0\0\xe0\x3f\x01\0c\x01\0v\0\0\0\0\x01\0\0\0\0\0";
+const TWO: &[u8] = b"\x02\0\xff\x03\0\0\x02\0\x01\0t\x02\0xy\x01\0o\0\0\0\0\0\0\x14\x40\x01\0\0\0\0\0\0\0\x02\0\0\0\0\0\0\0\x09\0\0\0\0\0\0\0\0\0\0\0\0\0\xe0\x3f\x01\0c\x01\0v\x0f\0\0\0\0\x01\0\0\0\0\0";
 
 #[test]
 fn every_field() {
@@ -229,6 +229,7 @@ fn every_field() {
         large_power: true,
         active: true,
         value_s: Some("v"),
+        decimals: Some(15),
     };
     assert_eq!(edge, Edge { offset: 2, start: 0, end: 2, kind: "t", txt: "xy", num: Some(num) });
     assert_eq!(edge_at(TWO, next).unwrap(), (Edge { offset: next, start: 0, end: 1, kind: "", txt: "", num: None }, TWO.len()));

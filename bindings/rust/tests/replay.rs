@@ -30,7 +30,8 @@ fn edge_bytes(e: Edge) -> Vec<u8> {
         fields = text(n.orig_txt);
         fields.extend(numbers.into_iter().flatten().flat_map(u64::to_le_bytes));
         fields.extend([n.script, n.value_s].into_iter().flatten().flat_map(text));
-        let bits = [true, n.value.is_some(), numerator.is_some(), n.base.is_some(), n.base_multiplier.is_some(), n.script.is_some(), n.large_power, n.active, n.value_s.is_some()];
+        fields.extend(n.decimals);
+        let bits = [true, n.value.is_some(), numerator.is_some(), n.base.is_some(), n.base_multiplier.is_some(), n.script.is_some(), n.large_power, n.active, n.value_s.is_some(), n.decimals.is_some()];
         map = bits.iter().rev().fold(0, |map, &bit| map << 1 | u16::from(bit));
     }
     let head = [map, e.start as u16, e.end as u16].map(u16::to_le_bytes).concat();

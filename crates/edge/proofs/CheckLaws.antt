@@ -12,8 +12,8 @@ use Rattle.text.specs.Text.{wellFormed}
 use Rattle.fields.specs.Fields.{leAt}
 use Rattle.edge.specs.declared.NumFields.{NumFields}
 use Rattle.edge.specs.declared.EdgeView.{EdgeView}
-use Rattle.edge.specs.Layout.{stands, only, mapAt, textAt, stringEnd, txtAt, headEnd, scriptAt, valueSAt, fieldsEnd, nextAt, numericAt, edgeAt}
-use Rattle.edge.specs.Check.{allowed, each, upToTop, soundFraction, soundNumeric, sound, good, checkEdges, checkListing, goodFrom, faultFrom, accepted, listingRefusal, listingPlace, ListingAnswer}
+use Rattle.edge.specs.Layout.{stands, only, mapAt, textAt, stringEnd, txtAt, headEnd, scriptAt, valueSAt, decimalsAt, fieldsEnd, nextAt, numericAt, edgeAt}
+use Rattle.edge.specs.Check.{allowed, each, upToTop, soundFraction, soundCount, soundNumeric, sound, good, checkEdges, checkListing, goodFrom, faultFrom, accepted, listingRefusal, listingPlace, ListingAnswer}
 use Rattle.fields.specs.Part.{partOf}
 use Rattle.edge.specs.View.{partAt, partIf, viewAt, fieldsAt, numericOf, numbersSound, fieldsSound, Inside}
 use borrow.Author.Tests.{le-leb, lt-leb, lt-ltb, le-ltb, leb-true}
@@ -40,11 +40,11 @@ only-pair true a b = refl
 only-pair false a b = refl
 
 -- ---- the fields of a numeric edge
-pub numbers-tested : (d : NumFields) {b c : Bool} → b ≡ stands 2 (d .map) → c ≡ stands 3 (d .map)
-    → ((not b || soundFraction (d .numerator, d .denominator)) && (not c || upToTop (d .base))) ≡ numbersSound d
+pub numbers-tested : (d : NumFields) {b c e : Bool} → b ≡ stands 2 (d .map) → c ≡ stands 3 (d .map) → e ≡ stands 9 (d .map)
+    → (((not b || soundFraction (d .numerator, d .denominator)) && (not c || upToTop (d .base))) && (not e || soundCount (d .decimals))) ≡ numbersSound d
 unfolding numbersSound
-numbers-tested d p q =
-    rw (p, q, each-or soundFraction (stands 2 (d .map)) (d .numerator, d .denominator), each-or upToTop (stands 3 (d .map)) (d .base))
+numbers-tested d p q r =
+    rw (p, q, r, each-or soundFraction (stands 2 (d .map)) (d .numerator, d .denominator), each-or upToTop (stands 3 (d .map)) (d .base), each-or soundCount (stands 9 (d .map)) (d .decimals))
 
 pub fields-tested : (s : List ℕ) (d : NumFields) {n o c v : Bool} → n ≡ numbersSound d → o ≡ wellFormed (partOf s (d .orig))
     → c ≡ cond (stands 5 (d .map)) (wellFormed (partOf s (d .script))) true → v ≡ cond (stands 8 (d .map)) (wellFormed (partOf s (d .«value_s»))) true
@@ -62,6 +62,7 @@ fields-say m s at =
       only-if (λ (n : ℕ). n) (stands 1 m) (leAt s v 8) 0,
       only-if (λ (n : ℕ). n) (stands 3 m) _ 0,
       only-if (λ (n : ℕ). n) (stands 4 m) _ 0,
+      only-if (λ (n : ℕ). n) (stands 9 m) (leAt s (decimalsAt m s v) 1) 0,
       only-if (partOf s) (stands 5 m) (partAt s (scriptAt m v)) _,
       only-if (partOf s) (stands 8 m) (partAt s (valueSAt m s v)) _,
       only-pair (stands 2 m),

@@ -10,7 +10,7 @@ use lib.ListN.{length, getD, drop-of-length-le}
 use lib.Seq.{drop-cons, take-nil}
 use Rattle.fields.specs.Fields.{le, leAt}
 use Rattle.fields.specs.Part.{part}
-use Rattle.edge.specs.Layout.{bit, stands, mapAt, txtAt, stringEndIf, fractionAt, baseAt, multAt, stringEnd, scriptAt, valueSAt, fieldsEnd, nextAt}
+use Rattle.edge.specs.Layout.{bit, stands, mapAt, txtAt, stringEndIf, fractionAt, baseAt, multAt, stringEnd, scriptAt, valueSAt, decimalsAt, fieldsEnd, nextAt}
 
 -- ---- numbers at the end of the list: bytes past it count as 0
 pub le-at-past : (s : List ℕ) (at w : ℕ) → length s ≤ at → leAt s at w ≡ 0
@@ -58,17 +58,22 @@ pub record Within (m : ℕ) (s : List ℕ) (v n : ℕ) : Type 0 where
   pub script : stands 5 m ≡ true → stringEnd s (scriptAt m v) ≤ n
   pub value-s-at : valueSAt m s v ≤ n
   pub value-s : stands 8 m ≡ true → stringEnd s (valueSAt m s v) ≤ n
+  pub decimals-at : decimalsAt m s v ≤ n
+  pub decimals : stands 9 m ≡ true → decimalsAt m s v + 1 ≤ n
 
-module _ (m : ℕ) (s : List ℕ) (at n : ℕ) where
-  value-s-on : stands 8 m ≡ true → stringEnd s (valueSAt m s (stringEnd s at)) ≡ fieldsEnd m s at
-  unfolding fieldsEnd
-  value-s-on on = if-on (stands 8 m) _ _ on refl
-
-  value-s-le : fieldsEnd m s at ≤ n → valueSAt m s (stringEnd s at) ≤ n
-  unfolding fieldsEnd
-  value-s-le h = le-trans (string-end-if-ge (stands 8 m) s (valueSAt m s (stringEnd s at))) h
+decimals-le : (m : ℕ) (s : List ℕ) (at n : ℕ) → fieldsEnd m s at ≤ n → decimalsAt m s (stringEnd s at) + bit 9 m ≤ n
+unfolding fieldsEnd
+decimals-le m s at n h = h
 
 module _ (m : ℕ) (s : List ℕ) (v n : ℕ) where
+  decimals-ge : valueSAt m s v ≤ decimalsAt m s v
+  unfolding decimalsAt
+  decimals-ge = string-end-if-ge (stands 8 m) s (valueSAt m s v)
+
+  value-s-on : stands 8 m ≡ true → stringEnd s (valueSAt m s v) ≤ decimalsAt m s v
+  unfolding decimalsAt
+  value-s-on on = le-of-eq (if-on (stands 8 m) _ _ on refl)
+
   value-s-ge : scriptAt m v ≤ valueSAt m s v
   unfolding valueSAt
   value-s-ge = string-end-if-ge (stands 5 m) s (scriptAt m v)
@@ -83,7 +88,9 @@ module _ (m : ℕ) (s : List ℕ) (v n : ℕ) where
 
 pub within : (m : ℕ) (s : List ℕ) (at n : ℕ) → fieldsEnd m s at ≤ n → Within m s (stringEnd s at) n
 within m s at n h =
-    let l = value-s-le m s at n h in
+    let i = decimals-le m s at n h in
+    let j : decimalsAt m s (stringEnd s at) ≤ n = omega arith in
+    let l = le-trans (decimals-ge m s (stringEnd s at) n) j in
     let k = numbers-ge m s (stringEnd s at) n l in
     record {
       value-at = omega arith;
@@ -94,7 +101,9 @@ within m s at n h =
       script-at = le-trans (value-s-ge m s (stringEnd s at) n) l;
       script = λ on. le-trans (script-on m s (stringEnd s at) n on) l;
       value-s-at = l;
-      value-s = λ on. le-trans (le-of-eq (value-s-on m s at n on)) h;
+      value-s = λ on. le-trans (value-s-on m s (stringEnd s at) n on) j;
+      decimals-at = j;
+      decimals = λ on. omega (arith, eqb-true (bit 9 m) 1 on);
     }
 
 -- the same where the code holds the offset of the value

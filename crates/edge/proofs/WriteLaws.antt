@@ -4,7 +4,7 @@ use mathlib.Core.Path.{_≡_, refl, sym, ap, _∙_}
 use mathlib.Core.Bool.{Bool, true, false}
 use mathlib.Core.List.{List, [], _∷_, _++_, append-assoc, append-nil}
 use Prim.Native.Nat.{ℕ, _+_, _*_, _-_, _/_, _%_, _≤_, _<_}
-use native.Mathlib.Nat.{add-sub-cancel-left, le-trans}
+use native.Mathlib.Nat.{add-sub-cancel-left, le-trans, mul-one, mul-zero}
 use native.Mathlib.Omega.{arith}
 use lib.ListN.{length, take, drop, length-append}
 use lib.Seq.{sets}
@@ -23,7 +23,7 @@ use Rattle.edge.specs.declared.Written.the-variants.{To, NoRoom}
 use Rattle.edge.specs.Edge.{Text, numericMap, str, fractionBytes, numericBytes, headBytes, edgeBytes}
 use Rattle.edge.specs.Layout.{bit, stands, only, scriptAt}
 use Rattle.edge.specs.View.{numericOf}
-use Rattle.edge.specs.Write.{written, writtenTo, Put, regular, numeric, numbersBytes, textPastIf, fieldsPast, Writable}
+use Rattle.edge.specs.Write.{written, writtenTo, Put, regular, numeric, numbersBytes, textPastIf, textsPast, fieldsPast, Writable}
 
 -- ---- promises in a row
 pub put-then : {s t u : List ℕ} {at k r : ℕ} {a b : List ℕ} → Put s t at k a → Put t u k r b → Put s u at r (a ++ b)
@@ -69,12 +69,14 @@ number-on-room k at n on h = omega (arith, eqb-true k 1 on)
 pub text-on-room : (b : Bool) (n at m : ℕ) → b ≡ true → textPastIf b n at ≤ m → at + 2 + n ≤ m
 text-on-room b n at m on h = rw on at h
 
-pub put-number-on : (k v : ℕ) (s : List ℕ) {t : List ℕ} (at : ℕ) → eqb k 1 ≡ true → t ≡ sets s at (bytesOf 8 v)
-    → (at + 8 ≡ at + 8 * k) × Put s t at (at + 8) (bytesIf (bytesOf 8) (only (eqb k 1) v))
-put-number-on k v s at on e = (omega (arith, eqb-true k 1 on), rw on (put-number 8 v s at e))
+-- a number of w bytes
+pub put-number-on : (w k v : ℕ) (s : List ℕ) {t : List ℕ} (at : ℕ) → eqb k 1 ≡ true → t ≡ sets s at (bytesOf w v)
+    → (at + w ≡ at + w * k) × Put s t at (at + w) (bytesIf (bytesOf w) (only (eqb k 1) v))
+put-number-on w k v s at on e = (rw (eqb-true k 1 on, mul-one w), rw on (put-number w v s at e))
 
-pub put-number-off : (k v : ℕ) (s : List ℕ) (at : ℕ) → k < 2 → eqb k 1 ≡ false → (at ≡ at + 8 * k) × Put s s at at (bytesIf (bytesOf 8) (only (eqb k 1) v))
-put-number-off k v s at l off = (let d = eqb-false k 1 off in omega arith, rw off (put-nothing s at))
+pub put-number-off : (w k v : ℕ) (s : List ℕ) (at : ℕ) → k < 2 → eqb k 1 ≡ false → (at ≡ at + w * k) × Put s s at at (bytesIf (bytesOf w) (only (eqb k 1) v))
+put-number-off w k v s at l off =
+    (let d = eqb-false k 1 off in let z : k ≡ 0 = omega arith in rw (z, mul-zero w) (omega arith), rw off (put-nothing s at))
 
 -- ---- the numbers
 pub fraction-bytes : (on : Bool) (a b : ℕ) → bytesIf (bytesOf 8) (only on a) ++ bytesIf (bytesOf 8) (only on b) ≡ bytesIf fractionBytes (only on (a, b))
@@ -102,25 +104,28 @@ pub record PastWithin (d : NumFields) (at n : ℕ) : Type 0 where
   pub orig : at + 2 + d .orig .len ≤ n
   pub numbers : scriptAt (d .map) (at + 2 + d .orig .len) ≤ n
   pub script : textPastIf (stands 5 (d .map)) (d .script .len) (scriptAt (d .map) (at + 2 + d .orig .len)) ≤ n
+  pub value-s : textsPast d at ≤ n
 
 pub past-within : (d : NumFields) (at n : ℕ) → fieldsPast d at ≤ n → PastWithin d at n
-unfolding fieldsPast
+unfolding fieldsPast textsPast
 past-within d at n h =
     let a = script-ge (d .map) (at + 2 + d .orig .len) in
     let b = text-past-ge (stands 5 (d .map)) (d .script .len) (scriptAt (d .map) (at + 2 + d .orig .len)) in
-    let c = text-past-ge (stands 8 (d .map)) (d .«value_s» .len) _ in
-    let s = le-trans c h in
-    record { orig = le-trans a (le-trans b s); numbers = le-trans b s; script = s }
+    let c = text-past-ge (stands 8 (d .map)) (d .«value_s» .len) (textPastIf (stands 5 (d .map)) (d .script .len) (scriptAt (d .map) (at + 2 + d .orig .len))) in
+    let t : textsPast d at ≤ n = omega arith in
+    let s = le-trans c t in
+    record { orig = le-trans a (le-trans b s); numbers = le-trans b s; script = s; value-s = t }
 
-fields-bytes : (o c v : List ℕ) (d : NumFields) → str (partOf o (d .orig)) ++ (numbersBytes d ++ (bytesIf str (only (stands 5 (d .map)) (partOf c (d .script))) ++ bytesIf str (only (stands 8 (d .map)) (partOf v (d .«value_s»)))))
+fields-bytes : (o c v : List ℕ) (d : NumFields) → str (partOf o (d .orig)) ++ (numbersBytes d ++ (bytesIf str (only (stands 5 (d .map)) (partOf c (d .script)))
+    ++ (bytesIf str (only (stands 8 (d .map)) (partOf v (d .«value_s»))) ++ bytesIf (bytesOf 1) (only (stands 9 (d .map)) (d .decimals)))))
     ≡ numericBytes (numericOf o c v d)
 unfolding numericBytes numericOf numbersBytes
 fields-bytes o c v d = simp append-assoc
 
-pub put-all-fields : (o c v : List ℕ) (d : NumFields) {s t u w x : List ℕ} {at a b e r : ℕ} → Put s t at a (str (partOf o (d .orig))) → Put t u a b (numbersBytes d)
-    → Put u w b e (bytesIf str (only (stands 5 (d .map)) (partOf c (d .script)))) → Put w x e r (bytesIf str (only (stands 8 (d .map)) (partOf v (d .«value_s»))))
-    → Put s x at r (numericBytes (numericOf o c v d))
-put-all-fields o c v d p q a b = rw (fields-bytes o c v d) at (put-then p (put-then q (put-then a b)))
+pub put-all-fields : (o c v : List ℕ) (d : NumFields) {s t u w x y : List ℕ} {at a b e f r : ℕ} → Put s t at a (str (partOf o (d .orig))) → Put t u a b (numbersBytes d)
+    → Put u w b e (bytesIf str (only (stands 5 (d .map)) (partOf c (d .script)))) → Put w x e f (bytesIf str (only (stands 8 (d .map)) (partOf v (d .«value_s»))))
+    → Put x y f r (bytesIf (bytesOf 1) (only (stands 9 (d .map)) (d .decimals))) → Put s y at r (numericBytes (numericOf o c v d))
+put-all-fields o c v d p q a b e = rw (fields-bytes o c v d) at (put-then p (put-then q (put-then a (put-then b e))))
 
 pub head-room : (d : NumFields) (at n : ℕ) {past : ℕ} → past ≡ fieldsPast d at → past ≤ n → at ≤ n
 head-room d at n e h = let w = past-within d at n (rw e at h) in omega arith
@@ -134,9 +139,17 @@ module _ (d : NumFields) (at n : ℕ) (room : fieldsPast d at ≤ n) {value : �
     pub script-room : textPastIf (stands 5 (d .map)) (d .script .len) script ≤ n
     script-room = rw (after-numbers, after-orig) (past-within d at n room .script)
 
-    pub value-s-room : {value-s : ℕ} → value-s ≡ textPastIf (stands 5 (d .map)) (d .script .len) script → textPastIf (stands 8 (d .map)) (d .«value_s» .len) value-s ≤ n
-    unfolding fieldsPast
-    value-s-room e = rw (e, after-numbers, after-orig) room
+    module _ {value-s : ℕ} (after-script : value-s ≡ textPastIf (stands 5 (d .map)) (d .script .len) script) where
+      texts-past : textPastIf (stands 8 (d .map)) (d .«value_s» .len) value-s ≡ textsPast d at
+      unfolding textsPast
+      texts-past = rw (after-script, after-numbers, after-orig)
+
+      pub value-s-room : textPastIf (stands 8 (d .map)) (d .«value_s» .len) value-s ≤ n
+      value-s-room = rw texts-past (past-within d at n room .value-s)
+
+      pub decimals-room : {decimals : ℕ} → decimals ≡ textPastIf (stands 8 (d .map)) (d .«value_s» .len) value-s → decimals + bit 9 (d .map) ≤ n
+      unfolding fieldsPast
+      decimals-room e = rw (e, texts-past) room
 
 -- ---- the map
 there-only : {A : Type 0} (k : ℕ) (a : A) → k < 2 → there (only (eqb k 1) a) ≡ k
@@ -146,18 +159,19 @@ there-only k a h = go (eqb k 1) refl
     go true e = sym (eqb-true k 1 e)
     go false e = let d = eqb-false k 1 e in omega arith
 
--- a map of bits 0 to 8, bit 0 among them, is the sum of its bits
-halves-sum : (m n₁ n₂ n₃ n₄ n₅ n₆ n₇ n₈ b₀ b₁ b₂ b₃ b₄ b₅ b₆ b₇ b₈ : ℕ) → m ≡ b₀ + 2 * n₁ → n₁ ≡ b₁ + 2 * n₂ → n₂ ≡ b₂ + 2 * n₃ → n₃ ≡ b₃ + 2 * n₄ → n₄ ≡ b₄ + 2 * n₅
-    → n₅ ≡ b₅ + 2 * n₆ → n₆ ≡ b₆ + 2 * n₇ → n₇ ≡ b₇ + 2 * n₈ → n₈ ≡ b₈ → b₀ ≡ 1
-    → 1 + 2 * b₁ + 4 * b₂ + 8 * b₃ + 16 * b₄ + 32 * b₅ + 64 * b₆ + 128 * b₇ + 256 * b₈ ≡ m
-halves-sum m n₁ n₂ n₃ n₄ n₅ n₆ n₇ n₈ b₀ b₁ b₂ b₃ b₄ b₅ b₆ b₇ b₈ a b c d e f g h i j = omega arith
+-- a map of bits 0 to 9, bit 0 among them, is the sum of its bits
+halves-sum : (m n₁ n₂ n₃ n₄ n₅ n₆ n₇ n₈ n₉ b₀ b₁ b₂ b₃ b₄ b₅ b₆ b₇ b₈ b₉ : ℕ) → m ≡ b₀ + 2 * n₁ → n₁ ≡ b₁ + 2 * n₂ → n₂ ≡ b₂ + 2 * n₃ → n₃ ≡ b₃ + 2 * n₄ → n₄ ≡ b₄ + 2 * n₅
+    → n₅ ≡ b₅ + 2 * n₆ → n₆ ≡ b₆ + 2 * n₇ → n₇ ≡ b₇ + 2 * n₈ → n₈ ≡ b₈ + 2 * n₉ → n₉ ≡ b₉ → b₀ ≡ 1
+    → 1 + 2 * b₁ + 4 * b₂ + 8 * b₃ + 16 * b₄ + 32 * b₅ + 64 * b₆ + 128 * b₇ + 256 * b₈ + 512 * b₉ ≡ m
+halves-sum m n₁ n₂ n₃ n₄ n₅ n₆ n₇ n₈ n₉ b₀ b₁ b₂ b₃ b₄ b₅ b₆ b₇ b₈ b₉ a b c d e f g h i j k = omega arith
 
-bits-sum : (m : ℕ) → bit 0 m ≡ 1 → m < 512 → 1 + 2 * bit 1 m + 4 * bit 2 m + 8 * bit 3 m + 16 * bit 4 m + 32 * bit 5 m + 64 * bit 6 m + 128 * bit 7 m + 256 * bit 8 m ≡ m
+bits-sum : (m : ℕ) → bit 0 m ≡ 1 → m < 1024
+    → 1 + 2 * bit 1 m + 4 * bit 2 m + 8 * bit 3 m + 16 * bit 4 m + 32 * bit 5 m + 64 * bit 6 m + 128 * bit 7 m + 256 * bit 8 m + 512 * bit 9 m ≡ m
 bits-sum m h k =
-    halves-sum m (m / 2) (m / 4) (m / 8) (m / 16) (m / 32) (m / 64) (m / 128) (m / 256) (bit 0 m) (bit 1 m) (bit 2 m) (bit 3 m) (bit 4 m) (bit 5 m) (bit 6 m) (bit 7 m) (bit 8 m)
-    (omega arith) (omega arith) (omega arith) (omega arith) (omega arith) (omega arith) (omega arith) (omega arith) (omega arith) h
+    halves-sum m (m / 2) (m / 4) (m / 8) (m / 16) (m / 32) (m / 64) (m / 128) (m / 256) (m / 512) (bit 0 m) (bit 1 m) (bit 2 m) (bit 3 m) (bit 4 m) (bit 5 m) (bit 6 m) (bit 7 m) (bit 8 m) (bit 9 m)
+    (omega arith) (omega arith) (omega arith) (omega arith) (omega arith) (omega arith) (omega arith) (omega arith) (omega arith) (omega arith) h
 
-pub map-is : (o c v : List ℕ) (d : NumFields) → stands 0 (d .map) ≡ true → d .map < 512 → numericMap (numericOf o c v d) ≡ d .map
+pub map-is : (o c v : List ℕ) (d : NumFields) → stands 0 (d .map) ≡ true → d .map < 1024 → numericMap (numericOf o c v d) ≡ d .map
 unfolding numericMap numericOf
 map-is o c v d on l =
     let m = d .map in
@@ -170,6 +184,7 @@ map-is o c v d on l =
       flag-is (bit 6 m) (omega arith),
       flag-is (bit 7 m) (omega arith),
       there-only (bit 8 m) (partOf v (d .«value_s»)) (omega arith),
+      there-only (bit 9 m) (d .decimals) (omega arith),
     ) (bits-sum m (eqb-true (bit 0 m) 1 on) l)
 
 -- ---- the head
@@ -200,12 +215,12 @@ unfolding edgeBytes
 regular-bytes a z ty tx = append-nil (headBytes 0 a z ty tx)
 
 -- ---- the fields' length
-length-number : (k v : ℕ) → k < 2 → length (bytesIf (bytesOf 8) (only (eqb k 1) v)) ≡ 8 * k
-length-number k v h = go (eqb k 1) refl
+length-number : (w k v : ℕ) → k < 2 → length (bytesIf (bytesOf w) (only (eqb k 1) v)) ≡ w * k
+length-number w k v h = go (eqb k 1) refl
   where
-    go : (b : Bool) → eqb k 1 ≡ b → length (bytesIf (bytesOf 8) (only b v)) ≡ 8 * k
-    go true e = length-bytesOf 8 v ∙ (let i = eqb-true k 1 e in omega arith)
-    go false e = let i = eqb-false k 1 e in omega arith
+    go : (b : Bool) → eqb k 1 ≡ b → length (bytesIf (bytesOf w) (only b v)) ≡ w * k
+    go true e = length-bytesOf w v ∙ rw (eqb-true k 1 e, mul-one w)
+    go false e = let i = eqb-false k 1 e in let z : k ≡ 0 = omega arith in rw (z, mul-zero w)
 
 length-text : (b : Bool) (s : List ℕ) (p : Part) (at : ℕ) → (b ≡ true → p .at .0 + p .len ≤ length s) → at + length (bytesIf str (only b (partOf s p))) ≡ textPastIf b (p .len) at
 length-text true s p at h = let l = length-str (partOf s p) in let k = length-part s (p .at .0) (p .len) (h refl) in omega arith
@@ -215,16 +230,16 @@ pub length-numbers : (d : NumFields) (at : ℕ) → at + length (numbersBytes d)
 unfolding numbersBytes scriptAt
 length-numbers d at =
     let m = d .map in
-    let a = length-number (bit 1 m) (d .value) (omega arith) in
-    let b = length-number (bit 2 m) (d .numerator) (omega arith) in
-    let c = length-number (bit 2 m) (d .denominator) (omega arith) in
-    let e = length-number (bit 3 m) (d .base) (omega arith) in
-    let f = length-number (bit 4 m) (d .«base_multiplier») (omega arith) in
+    let a = length-number 8 (bit 1 m) (d .value) (omega arith) in
+    let b = length-number 8 (bit 2 m) (d .numerator) (omega arith) in
+    let c = length-number 8 (bit 2 m) (d .denominator) (omega arith) in
+    let e = length-number 8 (bit 3 m) (d .base) (omega arith) in
+    let f = length-number 8 (bit 4 m) (d .«base_multiplier») (omega arith) in
     rw (← fraction-bytes (stands 2 m) (d .numerator) (d .denominator)) (simp (length-append, a, b, c, e, f) (omega arith))
 
 module _ (o c v : List ℕ) (d : NumFields) (h : Writable o c v d) where
   pub length-fields : (at : ℕ) → at + length (numericBytes (numericOf o c v d)) ≡ fieldsPast d at
-  unfolding fieldsPast
+  unfolding fieldsPast textsPast
   length-fields at =
       let l = length-str (partOf o (d .orig)) in
       let k = length-part o (d .orig .at .0) (d .orig .len) (h .orig) in
@@ -232,6 +247,7 @@ module _ (o c v : List ℕ) (d : NumFields) (h : Writable o c v d) where
       let n = length-numbers d a in
       let x = length-text (stands 5 (d .map)) c (d .script) (scriptAt (d .map) a) (h .script) in
       let y = length-text (stands 8 (d .map)) v (d .«value_s») (textPastIf (stands 5 (d .map)) (d .script .len) (scriptAt (d .map) a)) (h .value-s) in
+      let z = length-number 1 (bit 9 (d .map)) (d .decimals) (omega arith) in
       rw (← fields-bytes o c v d) (simp length-append (omega arith))
 
   pub numeric-bytes : (a z : ℕ) (ty tx : Text) → edgeBytes (numeric a z ty tx o c v d) ≡ headBytes (d .map) a z ty tx ++ numericBytes (numericOf o c v d)

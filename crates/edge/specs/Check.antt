@@ -1,5 +1,5 @@
 -- Refusal 6 (01): what a listing may not hold, and the offset that is answered. Definitions only.
---     allowed given m        the map m may stand: of a given edge only 0, else bits 0 to 8, and without bit 0 no other
+--     allowed given m        the map m may stand: of a given edge only 0, else bits 0 to 9, and without bit 0 no other
 --     sound n e              the edge e may stand over a line of n characters: its span, strings and numbers
 --     good given n s at      the edge at an offset is whole, and may stand
 --     checkEdges ..          k edges are left from an offset on: the first that is not good, or what is left over
@@ -25,7 +25,7 @@ use Rattle.edge.specs.Edge.{Numeric, Edge}
 use Rattle.edge.specs.Layout.{stands, mapAt, nextAt, edgeAt}
 
 unfoldable pub allowed : Bool → ℕ → Bool
-allowed given m = cond given (eqb m 0) (cond (stands 0 m) (ltb m 512) (eqb m 0))
+allowed given m = cond given (eqb m 0) (cond (stands 0 m) (ltb m 1024) (eqb m 0))
 
 -- ---- content
 -- a field that is absent is sound
@@ -39,11 +39,15 @@ upToTop v = leb v TOP
 abbrev pub soundFraction : ℕ × ℕ → Bool
 soundFraction p = (upToTop (p .0) && upToTop (p .1)) && ltb 0 (p .1)
 
-abbrev pub soundNumbers : Option (ℕ × ℕ) → Option ℕ → Bool
-soundNumbers fraction base = each soundFraction fraction && each upToTop base
+-- 02, S-13: "a count outside 1 to 15 is 6"
+abbrev pub soundCount : ℕ → Bool
+soundCount k = leb 1 k && leb k 15
+
+abbrev pub soundNumbers : Option (ℕ × ℕ) → Option ℕ → Option ℕ → Bool
+soundNumbers fraction base decimals = (each soundFraction fraction && each upToTop base) && each soundCount decimals
 
 unfoldable pub soundNumeric : Numeric → Bool
-soundNumeric n = ((soundNumbers (n .fraction) (n .base) && wellFormed (n .orig)) && each wellFormed (n .script)) && each wellFormed (n .value-s)
+soundNumeric n = ((soundNumbers (n .fraction) (n .base) (n .decimals) && wellFormed (n .orig)) && each wellFormed (n .script)) && each wellFormed (n .value-s)
 
 unfoldable pub sound : ℕ → Edge → Bool
 sound n e = ((ltb (e .start) (e .end) && leb (e .end) n) && (wellFormed (e .type) && wellFormed (e .txt))) && each soundNumeric (e .num)

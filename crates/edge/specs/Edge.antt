@@ -35,6 +35,8 @@ pub record Numeric : Type 0 where
   pub large : Bool
   pub active : Bool
   pub value-s : Option Text
+  -- 02, S-13: "Bit 9 of the listing's map then stands for a u8 count of decimals, after value_s"
+  pub decimals : Option ℕ
 
 pub record Edge : Type 0 where
   pub start : ℕ
@@ -52,7 +54,7 @@ f64Bits v = toBits binary64 (ofNat v)
 unfoldable pub numericMap : Numeric → ℕ
 numericMap n =
     1 + 2 * there (n .value) + 4 * there (n .fraction) + 8 * there (n .base) + 16 * there (n .mult) + 32 * there (n .script) + 64 * flag (n .large)
-    + 128 * flag (n .active) + 256 * there (n .value-s)
+    + 128 * flag (n .active) + 256 * there (n .value-s) + 512 * there (n .decimals)
 
 abbrev pub mapOf : Option Numeric → ℕ
 mapOf none = 0
@@ -69,7 +71,7 @@ fractionBytes p = bytesOf 8 (p .0) ++ bytesOf 8 (p .1)
 unfoldable pub numericBytes : Numeric → List ℕ
 numericBytes n =
     str (n .orig) ++ (bytesIf (bytesOf 8) (n .value) ++ (bytesIf fractionBytes (n .fraction) ++ (bytesIf (bytesOf 8) (n .base)
-    ++ (bytesIf (bytesOf 8) (n .mult) ++ (bytesIf str (n .script) ++ bytesIf str (n .value-s))))))
+    ++ (bytesIf (bytesOf 8) (n .mult) ++ (bytesIf str (n .script) ++ (bytesIf str (n .value-s) ++ bytesIf (bytesOf 1) (n .decimals)))))))
 
 -- what every edge begins with; its bytes from the start on tell edges apart
 unfoldable pub headBytes : ℕ → ℕ → ℕ → Text → Text → List ℕ
@@ -94,6 +96,7 @@ pub record NumericFits (n : Numeric) : Type 0 where
   pub mult : (v : ℕ) → n .mult ≡ some v → v < 2 ^ 64
   pub script : (t : Text) → n .script ≡ some t → length t < 2 ^ 16
   pub value-s : (t : Text) → n .value-s ≡ some t → length t < 2 ^ 16
+  pub decimals : (v : ℕ) → n .decimals ≡ some v → v < 2 ^ 8
 
 pub record EdgeFits (e : Edge) : Type 0 where
   pub start : e .start < 2 ^ 16

@@ -63,8 +63,12 @@ scriptAt m v = multAt m v + 8 * bit 4 m
 unfoldable pub valueSAt : ℕ → List ℕ → ℕ → ℕ
 valueSAt m s v = stringEndIf (stands 5 m) s (scriptAt m v)
 
+-- 02, S-13: "Bit 9 of the listing's map then stands for a u8 count of decimals, after value_s"
+unfoldable pub decimalsAt : ℕ → List ℕ → ℕ → ℕ
+decimalsAt m s v = stringEndIf (stands 8 m) s (valueSAt m s v)
+
 unfoldable pub fieldsEnd : ℕ → List ℕ → ℕ → ℕ
-fieldsEnd m s at = stringEndIf (stands 8 m) s (valueSAt m s (stringEnd s at))
+fieldsEnd m s at = decimalsAt m s (stringEnd s at) + bit 9 m
 
 unfoldable pub nextAt : List ℕ → ℕ → ℕ
 nextAt s at = cond (stands 0 (mapAt s at)) (fieldsEnd (mapAt s at) s (headEnd s at)) (headEnd s at)
@@ -86,6 +90,7 @@ numericAt m s at =
       large = stands 6 m;
       active = stands 7 m;
       value-s = only (stands 8 m) (textAt s (valueSAt m s v));
+      decimals = only (stands 9 m) (leAt s (decimalsAt m s v) 1);
     }
 
 unfoldable pub edgeAt : List ℕ → ℕ → Edge

@@ -17,7 +17,7 @@ use Rattle.edge.specs.declared.NumData.{NumData}
 use Rattle.fields.specs.declared.Part.{Part}
 use Rattle.edge.specs.Check.{soundNumbers, soundNumeric}
 use Rattle.edge.specs.Edge.{Text, Numeric, Edge}
-use Rattle.edge.specs.Layout.{stands, only, mapAt, stringEnd, txtAt, headEnd, fractionAt, baseAt, multAt, scriptAt, valueSAt}
+use Rattle.edge.specs.Layout.{stands, only, mapAt, stringEnd, txtAt, headEnd, fractionAt, baseAt, multAt, scriptAt, valueSAt, decimalsAt}
 
 -- the text whose length is at an offset
 abbrev pub partAt : List ℕ → ℕ → Part
@@ -40,6 +40,10 @@ viewAt s at = record {
 abbrev pub numberIf : Bool → List ℕ → ℕ → ℕ
 numberIf on s at = cond on (leAt s at 8) 0
 
+-- a byte whose bit stands
+abbrev pub byteIf : Bool → List ℕ → ℕ → ℕ
+byteIf on s at = cond on (leAt s at 1) 0
+
 -- a text whose bit stands
 abbrev pub partIf : Bool → List ℕ → ℕ → Part
 partIf on s at = cond on (partAt s at) noPart
@@ -57,6 +61,7 @@ fieldsAt m s at =
       orig = partAt s at;
       script = partIf (stands 5 m) s (scriptAt m v);
       «value_s» = partIf (stands 8 m) s (valueSAt m s v);
+      decimals = byteIf (stands 9 m) s (decimalsAt m s v);
     }
 
 unfoldable pub numericOf : List ℕ → List ℕ → List ℕ → NumFields → Numeric
@@ -70,11 +75,13 @@ numericOf o c v d = record {
   large = stands 6 (d .map);
   active = stands 7 (d .map);
   value-s = only (stands 8 (d .map)) (partOf v (d .«value_s»));
+  decimals = only (stands 9 (d .map)) (d .decimals);
 }
 
 -- the numbers of fields, and all of them, may stand; their texts are in s
 unfoldable pub numbersSound : NumFields → Bool
-numbersSound d = soundNumbers (only (stands 2 (d .map)) (d .numerator, d .denominator)) (only (stands 3 (d .map)) (d .base))
+numbersSound d =
+    soundNumbers (only (stands 2 (d .map)) (d .numerator, d .denominator)) (only (stands 3 (d .map)) (d .base)) (only (stands 9 (d .map)) (d .decimals))
 
 abbrev pub fieldsSound : List ℕ → NumFields → Bool
 fieldsSound s d = soundNumeric (numericOf s s s d)

@@ -3,7 +3,7 @@
 --     writtenTo s at bs   what s is then
 --     Put s t at r bs     t is s with the bytes bs from at on, which end at r
 --     numbersBytes d      the numbers of the fields d as they are listed
---     fieldsPast d at     where the fields d end that are written from at on
+--     fieldsPast d at     where the fields d end that are written from at on; textsPast d at: their texts
 --     Writable .. d       the fields d can be listed: their map may stand in a numeric edge, their texts are within the lists and have a u16 length
 --     fieldsOf d          the fields of numeric data, their floats as bits
 --     Assumes nothing.
@@ -23,7 +23,7 @@ use Rattle.edge.specs.declared.NumData.{NumData}
 use Rattle.edge.specs.declared.Written.{Written}
 use Rattle.edge.specs.declared.Written.the-variants.{To, NoRoom}
 use Rattle.edge.specs.Edge.{Text, Edge, fractionBytes}
-use Rattle.edge.specs.Layout.{stands, only, scriptAt}
+use Rattle.edge.specs.Layout.{bit, stands, only, scriptAt}
 use Rattle.edge.specs.View.{numericOf}
 
 abbrev pub written : List ℕ → ℕ → List ℕ → Written
@@ -53,12 +53,16 @@ numbersBytes d =
 abbrev pub textPastIf : Bool → ℕ → ℕ → ℕ
 textPastIf on n at = cond on (at + 2 + n) at
 
+-- behind the texts of fields that are written from at on
+unfoldable pub textsPast : NumFields → ℕ → ℕ
+textsPast d at = textPastIf (stands 8 (d .map)) (d .«value_s» .len) (textPastIf (stands 5 (d .map)) (d .script .len) (scriptAt (d .map) (at + 2 + d .orig .len)))
+
 unfoldable pub fieldsPast : NumFields → ℕ → ℕ
-fieldsPast d at = textPastIf (stands 8 (d .map)) (d .«value_s» .len) (textPastIf (stands 5 (d .map)) (d .script .len) (scriptAt (d .map) (at + 2 + d .orig .len)))
+fieldsPast d at = textsPast d at + bit 9 (d .map)
 
 pub record Writable (o c v : List ℕ) (d : NumFields) : Type 0 where
   pub numeric : stands 0 (d .map) ≡ true
-  pub map : d .map < 512
+  pub map : d .map < 1024
   pub orig : d .orig .at .0 + d .orig .len ≤ length o
   pub script : stands 5 (d .map) ≡ true → d .script .at .0 + d .script .len ≤ length c
   pub value-s : stands 8 (d .map) ≡ true → d .«value_s» .at .0 + d .«value_s» .len ≤ length v
@@ -79,4 +83,5 @@ fieldsOf d = record {
   orig = d .orig;
   script = d .script;
   «value_s» = d .«value_s»;
+  decimals = d .decimals;
 }

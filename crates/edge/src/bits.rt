@@ -16,3 +16,6 @@ pub const LARGE_POWER: u16 = 64;
 pub const ACTIVE: u16 = 128;
 
 pub const VALUE_S: u16 = 256;
+
+// 02, S-13
+pub const DECIMALS: u16 = 512;

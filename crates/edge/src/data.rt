@@ -25,5 +25,6 @@ pub fn num_fields(d: NumData) -> NumFields
         orig,
         script,
         value_s,
+        decimals: d.decimals,
     }
 }

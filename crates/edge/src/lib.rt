@@ -36,6 +36,7 @@ pub struct NumFields {
     pub orig: Part,
     pub script: Part,
     pub value_s: Part,
+    pub decimals: u8,
 }
 
 // The numeric data of an edge. Its floats are no NaN.
@@ -49,6 +50,7 @@ pub struct NumData {
     pub orig: Part,
     pub script: Part,
     pub value_s: Part,
+    pub decimals: u8,
 }
 
 // The answer of `edge_check`: so many edges, or refusal 6 and its offset.

@@ -48,7 +48,8 @@ fn fields_end(map: u16, s: &[u8], at: usize) -> usize
 {
     let script = crate::script_at(map, string_end(s, at));
     let value_s = string_end_if(map, bits::SCRIPT, s, script);
-    string_end_if(map, bits::VALUE_S, s, value_s)
+    let decimals = string_end_if(map, bits::VALUE_S, s, value_s);
+    decimals + (map / bits::DECIMALS % 2) as usize
 }
 
 // Behind the edge at an offset: past the end where it is cut off.

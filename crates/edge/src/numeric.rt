@@ -24,6 +24,14 @@ fn u64_if(map: u16, p: u16, s: &[u8], at: usize) -> u64
     }
 }
 
+// A byte that is there only if a bit stands.
+fn u8_if(map: u16, p: u16, s: &[u8], at: usize) -> u8
+    requires { ⌜ (0 < p) × (eqb (map / p % 2) 1 ≡ true → at + 1 ≤ length (now s)) ⌝ }
+    ensures { λ r. ⌜ r ≡ cond (eqb (map / p % 2) 1) (leAt (now (s .entry)) at 1) 0 ⌝ }
+{
+    if crate::bit(map, p) { s[at] } else { 0 }
+}
+
 // The text whose length stands at an offset.
 fn text_at(s: &[u8], at: usize) -> Part
     requires { ⌜ at + 2 ≤ length (now s) ⌝ }
@@ -62,12 +70,9 @@ pub fn fields_at(map: u16, s: &[u8], at: usize) -> NumFields
     let multiplier = base + 8 * (map / bits::BASE % 2) as usize;
     let script_at = multiplier + 8 * (map / bits::MULT % 2) as usize;
     let script = text_if(map, bits::SCRIPT, s, script_at);
-    let value_s = text_if(
-        map,
-        bits::VALUE_S,
-        s,
-        script_at + 2 * (map / bits::SCRIPT % 2) as usize + script.len,
-    );
+    let value_s_at = script_at + 2 * (map / bits::SCRIPT % 2) as usize + script.len;
+    let value_s = text_if(map, bits::VALUE_S, s, value_s_at);
+    let decimals_at = value_s_at + 2 * (map / bits::VALUE_S % 2) as usize + value_s.len;
     NumFields {
         map,
         value: u64_if(map, bits::VALUE, s, value),
@@ -78,5 +83,6 @@ pub fn fields_at(map: u16, s: &[u8], at: usize) -> NumFields
         orig,
         script,
         value_s,
+        decimals: u8_if(map, bits::DECIMALS, s, decimals_at),
     }
 }

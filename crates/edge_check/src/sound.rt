@@ -22,7 +22,7 @@ fn allowed(given: bool, map: u16) -> bool
         return map == 0;
     }
     if edge::bit(map, bits::NUMERIC) {
-        map < 512
+        map < 1024
     } else {
         map == 0
     }
@@ -53,8 +53,10 @@ fn numbers_sound(d: NumFields) -> bool
     ensures { λ r. ⌜ r ≡ numbersSound d ⌝ }
 {
     let fraction = (d.numerator <= TOP) & (d.denominator <= TOP) & (0 < d.denominator);
+    let count = (1 <= d.decimals) & (d.decimals <= 15);
     (!edge::bit(d.map, bits::FRACTION) | fraction)
         & (!edge::bit(d.map, bits::BASE) | (d.base <= TOP))
+        & (!edge::bit(d.map, bits::DECIMALS) | count)
 }
 
 // Whether the fields of a numeric edge may stand.

@@ -59,6 +59,20 @@ fn put_u64_if(map: u16, p: u16, out: &mut [u8], at: usize, v: u64) -> usize
     }
 }
 
+// A byte, only if a bit stands.
+fn put_u8_if(map: u16, p: u16, out: &mut [u8], at: usize, v: u8) -> usize
+    requires { ⌜ (0 < p) × (at + map / p % 2 ≤ length (now out)) ⌝ }
+    ensures { λ r. ⌜ (r ≡ at + map / p % 2)
+        × Put (now (out .entry)) (now (out .exit)) at r (bytesIf (bytesOf 1) (only (eqb (map / p % 2) 1) v)) ⌝ }
+{
+    if edge::bit(map, p) {
+        out[at] = v;
+        at + 1
+    } else {
+        at
+    }
+}
+
 // The numbers of a numeric edge.
 fn put_numbers(out: &mut [u8], at: usize, d: NumFields) -> usize
     requires { ⌜ scriptAt (d .map) at ≤ length (now out) ⌝ }
@@ -81,7 +95,8 @@ fn put_fields(out: &mut [u8], at: usize, d: NumFields, o: &[u8], c: &[u8], v: &[
     let value = put_part(out, at, o, d.orig);
     let script = put_numbers(out, value, d);
     let value_s = put_part_if(d.map, bits::SCRIPT, out, script, c, d.script);
-    put_part_if(d.map, bits::VALUE_S, out, value_s, v, d.value_s)
+    let decimals = put_part_if(d.map, bits::VALUE_S, out, value_s, v, d.value_s);
+    put_u8_if(d.map, bits::DECIMALS, out, decimals, d.decimals)
 }
 
 // Behind a text that is there only if a bit stands.
@@ -100,7 +115,8 @@ fn fields_past(d: NumFields, at: usize) -> usize
 {
     let script = edge::script_at(d.map, at + 2 + d.orig.len);
     let value_s = text_past_if(d.map, bits::SCRIPT, d.script.len, script);
-    text_past_if(d.map, bits::VALUE_S, d.value_s.len, value_s)
+    let decimals = text_past_if(d.map, bits::VALUE_S, d.value_s.len, value_s);
+    decimals + (d.map / bits::DECIMALS % 2) as usize
 }
 
 // Writes a numeric edge. The texts of its fields are parts of o (orig_txt), c (script) and v (value_s).

@@ -63,6 +63,7 @@ edge a z type txt w v b power active value-s = record {
     large = power;
     active = active;
     value-s = value-s;
+    decimals = none;
   });
 }
 

@@ -84,6 +84,9 @@ fn whole_value_at(work: &[u8], at: usize) -> WholeValue
     if !edge::bit(e.map, bits::VALUE) {
         return WholeValue::Nothing;
     }
+    if edge::bit(e.map, bits::DECIMALS) {
+        return WholeValue::Nothing;
+    }
     let d = edge::numeric::fields_at(e.map, work, e.fields.0);
     WholeValue::Whole(whole::whole_part(f64::from_bits(d.value)))
 }

@@ -95,7 +95,7 @@ module _ {n : ℕ} (few : n ≤ 256) where
   unfolding soundNumeric
   script-formed none h = refl
   script-formed (some x) h =
-      let a = soundNumbers (x .fraction) (x .base) && wellFormed (x .orig) in
+      let a = soundNumbers (x .fraction) (x .base) (x .decimals) && wellFormed (x .orig) in
       and-true a (each wellFormed (x .script)) (and-true (a && each wellFormed (x .script)) (each wellFormed (x .value-s)) h .0) .1
 
   script-short : (r : Edge) → CallEdge n r → (t : Text) → scriptOf (r .num) ≡ some t → length t ≤ 60
@@ -136,6 +136,7 @@ module _ {n : ℕ} (few : n ≤ 256) where
               mult = λ v e. absurd (none-some e);
               script = λ t e. omega (arith, short t e);
               value-s = λ t e. absurd (none-some e);
+              decimals = λ v e. absurd (none-some e);
             });
           };
           map = allowed-map (fractionEdge l lv r rv .num);
@@ -144,7 +145,7 @@ module _ {n : ℕ} (few : n ≤ 256) where
             within = w;
             type = formed-ascii fractionType refl;
             txt = formed;
-            num = and-both (and-both (and-both (and-both (fraction-sound rv lv right small g) refl) formed) (script-formed (r .num) (q .num))) refl;
+            num = and-both (and-both (and-both (and-both (and-both (fraction-sound rv lv right small g) refl) refl) formed) (script-formed (r .num) (q .num))) refl;
           });
         };
         short = λ y p. subst (Short (fractionEdge l lv r rv)) (some-inj p) (record {

@@ -54,6 +54,7 @@ fractionFields n a b Absent = record {
   orig = record { at = record { 0 = 0 }; len = n };
   script = noPart;
   «value_s» = noPart;
+  decimals = 0;
 }
 fractionFields n a b (Bytes k) = record {
   map = 165;
@@ -65,6 +66,7 @@ fractionFields n a b (Bytes k) = record {
   orig = record { at = record { 0 = 0 }; len = n };
   script = record { at = record { 0 = 0 }; len = k };
   «value_s» = noPart;
+  decimals = 0;
 }
 
 -- the fraction with text t, numerator and denominator f, and this script
@@ -84,6 +86,7 @@ fractionWith a z t f script = record {
     large = false;
     active = true;
     value-s = none;
+    decimals = none;
   });
 }
 

@@ -74,6 +74,7 @@ fn fraction_fields(size: usize, ratio: Ratio, copied: Script) -> NumFields
             orig,
             script: none,
             value_s: none,
+            decimals: 0,
         },
         Script::Bytes(k) => NumFields {
             map: 165,
@@ -88,6 +89,7 @@ fn fraction_fields(size: usize, ratio: Ratio, copied: Script) -> NumFields
                 len: k,
             },
             value_s: none,
+            decimals: 0,
         },
     }
 }

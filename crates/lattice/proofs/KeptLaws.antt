@@ -52,11 +52,11 @@ unfolding listingBytes
 length-listing es = let l = length-bytesOf 2 (length es) in length-append (bytesOf 2 (length es)) (edgesBytes es) ∙ rw l
 
 -- a map fits its two bytes
-pub map-lt : (n : Option Numeric) → mapOf n < 512
+pub map-lt : (n : Option Numeric) → mapOf n < 1024
 unfolding numericMap
 map-lt none = omega arith
 map-lt (some n) =
-    omega (arith, there-le (n .value), there-le (n .fraction), there-le (n .base), there-le (n .mult), there-le (n .script), flag-le (n .large), flag-le (n .active), there-le (n .value-s))
+    omega (arith, there-le (n .value), there-le (n .fraction), there-le (n .base), there-le (n .mult), there-le (n .script), flag-le (n .large), flag-le (n .active), there-le (n .value-s), there-le (n .decimals))
 
 -- ---- cells
 pub cell-same : (s : List ℕ) (base i v : ℕ) → base + 2 * i + 2 ≤ length s → v < 65536 → cell (sets s (base + 2 * i) (bytesOf 2 v)) base i ≡ v

@@ -33,19 +33,19 @@ pub map-off : (m : ℕ) → eqb (m / 128 % 2) 1 ≡ false → m ≡ inactiveMap 
 unfolding inactiveMap
 map-off m e = rw e
 
--- low is the bits below active's, high the one above
-active-bit : (low high a : ℕ) → low < 128 → a ≤ 1 → (low + 128 * a + 256 * high) / 128 % 2 ≡ a
-active-bit low high a h k = omega arith
+-- low is the bits below active's, high and top the two above
+active-bit : (low high top a : ℕ) → low < 128 → a ≤ 1 → (low + 128 * a + 256 * high + 512 * top) / 128 % 2 ≡ a
+active-bit low high top a h k = omega arith
 
-map-bit : (b : Bool) (low high : ℕ) → low < 128 → inactiveMap (low + 128 * flag b + 256 * high) ≡ low + 128 * 0 + 256 * high
+map-bit : (b : Bool) (low high top : ℕ) → low < 128 → inactiveMap (low + 128 * flag b + 256 * high + 512 * top) ≡ low + 128 * 0 + 256 * high + 512 * top
 unfolding inactiveMap
-map-bit true low high h = rw (active-bit low high 1 h (omega arith)) (omega arith)
-map-bit false low high h = rw (active-bit low high 0 h (omega arith))
+map-bit true low high top h = rw (active-bit low high top 1 h (omega arith)) (omega arith)
+map-bit false low high top h = rw (active-bit low high top 0 h (omega arith))
 
 quiet-map : (n : Numeric) → numericMap (quiet n) ≡ inactiveMap (numericMap n)
 unfolding numericMap
 quiet-map n =
-    sym (map-bit (n .active) _ (there (n .value-s))
+    sym (map-bit (n .active) _ (there (n .value-s)) (there (n .decimals))
     (omega (arith, there-le (n .value), there-le (n .fraction), there-le (n .base), there-le (n .mult), there-le (n .script), flag-le (n .large))))
 
 -- ---- the edge

@@ -43,6 +43,7 @@ quiet n = record {
   large = n .large;
   active = false;
   value-s = n .value-s;
+  decimals = n .decimals;
 }
 
 unfoldable pub inactive : Edge → Edge

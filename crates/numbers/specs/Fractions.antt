@@ -79,6 +79,7 @@ fractionEdge l lv r rv = record {
     large = false;
     active = true;
     value-s = none;
+    decimals = none;
   });
 }
 

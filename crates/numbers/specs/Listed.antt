@@ -1,6 +1,6 @@
 -- The passes' edges as they are listed (01: "value and base_multiplier (mult) are f64, listed as 8 bytes of their bits"). Definitions only.
 --     listedEdge e      the passes' edge e in the listing's form
---     wholeValue e      the value of a listed edge as a whole number, where it has one
+--     wholeValue e      the value of a listed edge as a whole number, where it has one; an edge with decimals has none
 --     Assumes nothing.
 use Prim.Native.Nat.{ℕ}
 use mathlib.Core.Bool.{Bool}
@@ -25,12 +25,18 @@ listedEdge e = record {
     large = e .large-power;
     active = e .active;
     value-s = e .value-s;
+    decimals = none;
   });
 }
 
+-- of a count of decimals and the bits of a value: 02, S-13: "The rules on whole left and right values pass it by, even at 100.0"
+abbrev pub wholeOf : Option ℕ → Option ℕ → Option ℕ
+wholeOf none bits = Option·map (λ b. toUnsigned 64 (ofBits binary64 b)) bits
+wholeOf (some k) bits = none
+
 abbrev pub valueOf : Option Numeric → Option ℕ
 valueOf none = none
-valueOf (some n) = Option·map (λ b. toUnsigned 64 (ofBits binary64 b)) (n .value)
+valueOf (some n) = wholeOf (n .decimals) (n .value)
 
 unfoldable pub wholeValue : Edge → Option ℕ
 wholeValue e = valueOf (e .num)

@@ -68,4 +68,5 @@ storedFields offs e f len = fieldsOf (record {
   orig = record { at = record { 0 = getD offs (e .start .0) 0 }; len = getD offs (e .end .0) 0 - getD offs (e .start .0) 0 };
   script = partOr (e .num .«has_script») (e .num .script .0) (e .num .«script_len»);
   «value_s» = partOr (eqb (kindNumber (e .kind)) 1) 0 len;
+  decimals = 0;
 })

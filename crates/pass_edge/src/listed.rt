@@ -85,6 +85,7 @@ fn fields_of(offs: &[usize; PLACES], edge: PassEdge, fraction: Fraction, len: us
         orig: orig,
         script: script,
         value_s: value_s,
+        decimals: 0,
     })
 }
 

@@ -161,6 +161,49 @@ fn several<'a>(line: &'a [u8], listing: &'a [u8]) {
     shown_along(line, listing);
 }
 
+// One edge with decimals over ab, txt 1.5, and a regular one over 五: both are read, and the path has the bytes of both.
+fn decimals(line: &[u8], listing: &[u8]) {
+    best(line, listing, Place(0), Place(2), true);
+    left(line, listing, Place(3), false);
+    shown(line, listing, Place(0));
+    let mut out = [0u8; 34];
+    path(line, listing, Place(0), Place(3), false, &mut out);
+    shown(line, &out, Place(2));
+    shown(line, &out, Place(0));
+}
+
+// A count of 15 decimals is read, and a refusal comes for 0, for 16 and for bit 10.
+fn counts(line: &[u8]) {
+    best(
+        line,
+        b"\x01\x00\x81\x02\x00\x00\x02\x00\x00\x00\x00\x00\x00\x00\x0f",
+        Place(0),
+        Place(2),
+        true,
+    );
+    best(
+        line,
+        b"\x01\x00\x81\x02\x00\x00\x02\x00\x00\x00\x00\x00\x00\x00\x00",
+        Place(0),
+        Place(2),
+        true,
+    );
+    best(
+        line,
+        b"\x01\x00\x81\x02\x00\x00\x02\x00\x00\x00\x00\x00\x00\x00\x10",
+        Place(0),
+        Place(2),
+        true,
+    );
+    best(
+        line,
+        b"\x01\x00\x81\x04\x00\x00\x02\x00\x00\x00\x00\x00\x00\x00",
+        Place(0),
+        Place(2),
+        true,
+    );
+}
+
 // The first listing has eight edges. Over ab: "x", "rom decomp", "num" and "romdecomp", regular; D1, inactive; G1, active. Over the line: G4, inactive. Over b: "Rom", regular.
 // The second has fourteen, the worse classes first. Over ab: D1, inactive; "x"; "num", then "rom"; G1, then G2, active. Over a: "x"; "rom decomp" twice. Over b: D1,
 // inactive; "y", then "x". Over 五: G1 twice, inactive.
@@ -173,4 +216,9 @@ fn main() {
         b"ab\xe4\xba\x94",
         b"\x0e\x00\x01\x00\x00\x00\x02\x00\x02\x00D1\x01\x00i\x00\x00\x00\x00\x00\x00\x02\x00\x01\x00x\x01\x00o\x00\x00\x00\x00\x02\x00\x03\x00num\x01\x00n\x00\x00\x00\x00\x02\x00\x03\x00rom\x01\x00r\x81\x00\x00\x00\x02\x00\x02\x00G1\x01\x001\x00\x00\x81\x00\x00\x00\x02\x00\x02\x00G2\x01\x002\x00\x00\x00\x00\x00\x00\x01\x00\x01\x00x\x01\x00o\x00\x00\x00\x00\x01\x00\x0a\x00rom decomp\x01\x00d\x00\x00\x00\x00\x01\x00\x0a\x00rom decomp\x01\x00e\x01\x00\x01\x00\x02\x00\x02\x00D1\x01\x00i\x00\x00\x00\x00\x01\x00\x02\x00\x01\x00y\x01\x00y\x00\x00\x01\x00\x02\x00\x01\x00x\x01\x00x\x01\x00\x02\x00\x03\x00\x02\x00G1\x01\x003\x00\x00\x01\x00\x02\x00\x03\x00\x02\x00G1\x01\x004\x00\x00",
     );
+    decimals(
+        b"ab\xe4\xba\x94",
+        b"\x02\x00\x81\x02\x00\x00\x02\x00\x02\x00D1\x03\x001.5\x02\x00ab\x01\x00\x00\x02\x00\x03\x00\x01\x00x\x01\x00y",
+    );
+    counts(b"ab\xe4\xba\x94");
 }

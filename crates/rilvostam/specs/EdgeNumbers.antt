@@ -1,6 +1,6 @@
 -- What C is told of the edge at an offset of a listing. Definitions only.
 --     numbersOf v d      the numbers of an edge, in their order: map, start, end; offset and length of type, txt and orig_txt; value, numerator, denominator, base and mult; offset
---                        and length of script and value_s; 0. Those whose bit of the map does not stand are 0; value and mult are the bits of their f64
+--                        and length of script and value_s; the count of decimals. Those whose bit of the map does not stand are 0; value and mult are the bits of their f64
 --     edgeStatus w       0, or 6 where no whole edge stands
 --     numbersAfter b w   what the caller's numbers are afterwards: the edge's, or those that they were before
 --     nextAfter at w     the offset behind the edge; the offset itself where no whole edge stands
@@ -18,7 +18,7 @@ numbersOf v d =
     ∷ v .ty .at .0 ∷ v .ty .len ∷ v .txt .at .0 ∷ v .txt .len ∷ d .orig .at .0 ∷ d .orig .len
     ∷ d .value ∷ d .numerator ∷ d .denominator ∷ d .base ∷ d .«base_multiplier»
     ∷ d .script .at .0 ∷ d .script .len ∷ d .«value_s» .at .0 ∷ d .«value_s» .len
-    ∷ 0 ∷ []
+    ∷ d .decimals ∷ []
 
 abbrev pub edgeStatus : WholeEdge → ℕ
 edgeStatus (Edge v d next) = 0

@@ -33,7 +33,7 @@ fn numbers_of(e: EdgeView, d: NumFields) -> [u64; EDGE_NUMBERS]
         d.script.len as u64,
         d.value_s.at.0 as u64,
         d.value_s.len as u64,
-        0,
+        d.decimals as u64,
     ]
 }
 

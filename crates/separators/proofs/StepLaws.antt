@@ -73,8 +73,8 @@ length-fraction p =
     let c = length-append (bytesOf 8 (p .0)) (bytesOf 8 (p .1)) in
     omega arith
 
-eight-le : (n : ℕ) → length (bytesOf 8 n) ≤ 8
-eight-le n = let a = length-bytesOf 8 n in omega arith
+number-le : (w n : ℕ) → length (bytesOf w n) ≤ w
+number-le w n = let a = length-bytesOf w n in omega arith
 
 str-le : (t : Text) (k : ℕ) → length t ≤ k → length (str t) ≤ 2 + k
 str-le t k h = let l = length-str t in omega arith
@@ -83,12 +83,13 @@ fields-short : (e : Edge) (x : Numeric) → Short e x → length (numericBytes x
 unfolding numericBytes
 fields-short e x s =
     let o = str-le (x .orig) 1024 (s .orig) in
-    let a = opt-le (bytesOf 8) 8 (x .value) (λ n p. eight-le n) in
+    let a = opt-le (bytesOf 8) 8 (x .value) (λ n p. number-le 8 n) in
     let b = opt-le fractionBytes 16 (x .fraction) (λ n p. length-fraction n) in
-    let c = opt-le (bytesOf 8) 8 (x .base) (λ n p. eight-le n) in
-    let d = opt-le (bytesOf 8) 8 (x .mult) (λ n p. eight-le n) in
+    let c = opt-le (bytesOf 8) 8 (x .base) (λ n p. number-le 8 n) in
+    let d = opt-le (bytesOf 8) 8 (x .mult) (λ n p. number-le 8 n) in
     let f = opt-le str 62 (x .script) (λ t p. str-le t 60 (s .script t p)) in
     let g = opt-le str 258 (x .value-s) (λ t p. str-le t 256 (s .value-s t p)) in
+    let h = opt-le (bytesOf 1) 1 (x .decimals) (λ n p. number-le 1 n) in
     simp length-append (omega arith)
 
 pub edge-short : {n : ℕ} (e : Edge) → CallEdge n e → isNumeric e ≡ true → length (edgeBytes e) + 2 ≤ 2048

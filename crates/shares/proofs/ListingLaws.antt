@@ -19,7 +19,7 @@ use Rattle.edge.specs.declared.NumFields.{NumFields}
 use Rattle.edge.specs.Edge.{Numeric, Edge}
 use Rattle.edge.specs.Layout.{stands, mapAt, nextAt, numericAt, edgeAt, edgesAt, listed}
 use Rattle.edge.specs.View.{viewAt, fieldsAt}
-use Rattle.edge.specs.Check.{each, upToTop, soundFraction, soundNumbers, soundNumeric}
+use Rattle.edge.specs.Check.{each, upToTop, soundFraction, soundCount, soundNumbers, soundNumeric}
 use Rattle.edge.proofs.CheckLaws.{map-within}
 use Rattle.paths.specs.declared.ReadRefusal.{ReadRefusal}
 use Rattle.paths.specs.declared.ReadCheck.the-variants as ReadCheck
@@ -73,8 +73,8 @@ pub share-sound : (x : Option Numeric) → each soundNumeric x ≡ true → each
 unfolding soundNumeric
 share-sound none h = refl
 share-sound (some m) h =
-    let numbers = first-two (soundNumbers (m .fraction) (m .base)) (wellFormed (m .orig)) (each wellFormed (m .script)) (each wellFormed (m .value-s)) h .0 in
-    cond-cases (λ (o : Option Fraction). each soundFraction o ≡ true) (m .active) (λ _. and-true (each soundFraction (m .fraction)) (each upToTop (m .base)) numbers .0) (λ _. refl)
+    let numbers = first-two (soundNumbers (m .fraction) (m .base) (m .decimals)) (wellFormed (m .orig)) (each wellFormed (m .script)) (each wellFormed (m .value-s)) h .0 in
+    cond-cases (λ (o : Option Fraction). each soundFraction o ≡ true) (m .active) (λ _. and-true (each soundFraction (m .fraction)) (each upToTop (m .base)) (and-true (each soundFraction (m .fraction) && each upToTop (m .base)) (each soundCount (m .decimals)) numbers .0) .0) (λ _. refl)
 
 said-nothing : (o : Option Fraction) → said o ≡ Share.Nothing → o ≡ none
 said-nothing none e = refl

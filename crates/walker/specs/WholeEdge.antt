@@ -24,6 +24,7 @@ noFields m = record {
   orig = noPart;
   script = noPart;
   «value_s» = noPart;
+  decimals = 0;
 }
 
 -- 01: "without bit 0 no other stands"

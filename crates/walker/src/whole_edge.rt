@@ -37,6 +37,7 @@ fn no_fields(map: u16) -> NumFields
         orig: none,
         script: none,
         value_s: none,
+        decimals: 0,
     }
 }
 

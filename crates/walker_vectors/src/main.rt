@@ -83,6 +83,29 @@ fn read_edges() {
         b"\x01\x00\x41\x00\x00\x00\x01\x00\x00\x00\x00\x00\x02\x00op",
         2,
     ); // a large power without any number
+    read_decimals();
+}
+
+// Edges with decimals: every field and 15 decimals, then a regular edge; decimals and nothing else. The walk asks no more of a count than that its byte is there.
+fn read_decimals() {
+    let s =
+        b"\x02\x00\xff\x03\x00\x00\x01\x00\x01\x00t\x01\x00x\x01\x00o\x01\x00\x00\x00\x00\x00\xf8\x7f\x01\x00\x00\x00\x00\x00\x00\x00\x02\x00\x00\x00\x00\x00\x00\x00\x00\x00\x00\x00\x00\x00\x00\x00\xff\xff\xff\xff\xff\xff\xff\xff\x01\x00c\x01\x00v\x0f\x00\x00\x01\x00\x02\x00\x00\x00\x00\x00";
+    walk(s, 3); // both edges, then the end
+    read(s, 2); // 15 decimals, to 64
+    read(s, 64); // the regular edge
+    read(
+        b"\x01\x00\x01\x02\x00\x00\x03\x00\x00\x00\x00\x00\x00\x00\x01",
+        2,
+    ); // one decimal
+    read(
+        b"\x01\x00\x01\x02\x00\x00\x03\x00\x00\x00\x00\x00\x00\x00\x10",
+        2,
+    ); // 16
+    read(
+        b"\x01\x00\x01\x02\x00\x00\x03\x00\x00\x00\x00\x00\x00\x00",
+        2,
+    ); // cut off before the count
+    read(b"\x01\x00\x00\x02\x00\x00\x03\x00\x00\x00\x00\x00", 2); // bit 9 without bit 0: no count
 }
 
 // Two edges, a regular one over place 0 and a numeric one with every field over places 1 and 2: whole, without the last byte, and without the txt of the first.

@@ -16,7 +16,7 @@ use Rattle.fields.proofs.PartLaws.{length-part, part-at, part-add, part-all}
 use Rattle.fields.specs.Flag.{bytesIf}
 use Rattle.edge.specs.declared.ListingCheck.the-variants.{Edges, Refused}
 use Rattle.edge.specs.Edge.{numericMap, mapOf, str, fractionBytes, numericBytes, headBytes, edgeBytes, edgesBytes, listingBytes}
-use Rattle.edge.specs.Layout.{bit, stands, only, mapAt, textAt, stringEnd, stringEndIf, txtAt, headEnd, fractionAt, baseAt, multAt, scriptAt, valueSAt, fieldsEnd, nextAt, numericAt, edgeAt, edgesAt, listed}
+use Rattle.edge.specs.Layout.{bit, stands, only, mapAt, textAt, stringEnd, stringEndIf, txtAt, headEnd, fractionAt, baseAt, multAt, scriptAt, valueSAt, decimalsAt, fieldsEnd, nextAt, numericAt, edgeAt, edgesAt, listed}
 use Rattle.edge.specs.Check.{allowed, good, checkEdges, checkListing}
 use Rattle.edge.specs.View.{fieldsAt}
 use Rattle.edge.proofs.LayoutLaws.{within, string-end-ge}
@@ -67,12 +67,13 @@ module _ (s : List ℕ) (small : (i : ℕ) → getD s i 0 < 256) where
       rw (length-part s (at + 2) (leAt s at 2) h) (run-then (number-run at 2 (omega arith)) (record { width = leAt s at 2; ends = refl; bytes = refl }))
 
   -- ---- a field that may be absent, whose bit is k
-  number-field-run : (k v : ℕ) → k < 2 → (eqb k 1 ≡ true → v + 8 ≤ length s) → Run s v (v + 8 * k) (bytesIf (bytesOf 8) (only (eqb k 1) (leAt s v 8)))
-  number-field-run k v l h = go (eqb k 1) refl
+  number-field-run : (w k v to : ℕ) → k < 2 → (k ≡ 0 → to ≡ v) → (k ≡ 1 → to ≡ v + w) → (eqb k 1 ≡ true → v + w ≤ length s)
+      → Run s v to (bytesIf (bytesOf w) (only (eqb k 1) (leAt s v w)))
+  number-field-run w k v to l off on h = go (eqb k 1) refl
     where
-      go : (b : Bool) → eqb k 1 ≡ b → Run s v (v + 8 * k) (bytesIf (bytesOf 8) (only b (leAt s v 8)))
-      go true e = rw (eqb-true k 1 e) (number-run v 8 (h e))
-      go false e = let z : k ≡ 0 = (let d = eqb-false k 1 e in omega arith) in rw (z, add-zero v) (no-run s v)
+      go : (b : Bool) → eqb k 1 ≡ b → Run s v to (bytesIf (bytesOf w) (only b (leAt s v w)))
+      go true e = rw (on (eqb-true k 1 e)) (number-run v w (h e))
+      go false e = let z : k ≡ 0 = (let d = eqb-false k 1 e in omega arith) in rw (off z) (no-run s v)
 
   fraction-field-run : (k v : ℕ) → k < 2 → (eqb k 1 ≡ true → v + 16 ≤ length s)
       → Run s v (v + 16 * k) (bytesIf fractionBytes (only (eqb k 1) (leAt s v 8, leAt s (v + 8) 8)))
@@ -91,17 +92,18 @@ module _ (s : List ℕ) (small : (i : ℕ) → getD s i 0 < 256) where
 
   -- ---- the fields of a numeric edge
   fields-run : (m at : ℕ) → fieldsEnd m s at ≤ length s → Run s at (fieldsEnd m s at) (numericBytes (numericAt m s at))
-  unfolding numericBytes numericAt fieldsEnd valueSAt scriptAt
+  unfolding numericBytes numericAt fieldsEnd decimalsAt valueSAt scriptAt
   fields-run m at h =
       let w = within m s at (length s) h in
       let v = stringEnd s at in
       run-then (text-run at (w .value-at))
-      (run-then (number-field-run (bit 1 m) v (omega arith) (w .value))
+      (run-then (number-field-run 8 (bit 1 m) v (fractionAt m v) (omega arith) (λ z. omega arith) (λ o. omega arith) (w .value))
       (run-then (fraction-field-run (bit 2 m) (fractionAt m v) (omega arith) (w .fraction))
-      (run-then (number-field-run (bit 3 m) (baseAt m v) (omega arith) (w .base))
-      (run-then (number-field-run (bit 4 m) (multAt m v) (omega arith) (w .mult))
+      (run-then (number-field-run 8 (bit 3 m) (baseAt m v) (multAt m v) (omega arith) (λ z. omega arith) (λ o. omega arith) (w .base))
+      (run-then (number-field-run 8 (bit 4 m) (multAt m v) (scriptAt m v) (omega arith) (λ z. omega arith) (λ o. omega arith) (w .mult))
       (run-then (text-field-run (stands 5 m) (scriptAt m v) (w .script))
-      (text-field-run (stands 8 m) (valueSAt m s v) (w .value-s)))))))
+      (run-then (text-field-run (stands 8 m) (valueSAt m s v) (w .value-s))
+      (number-field-run 1 (bit 9 m) (decimalsAt m s v) (decimalsAt m s v + bit 9 m) (omega arith) (λ z. omega arith) (λ o. omega arith) (w .decimals))))))))
 
   -- ---- an edge
   head-run : (at : ℕ) → headEnd s at ≤ length s → Run s at (headEnd s at) (headBytes (mapAt s at) (leAt s (at + 2) 2) (leAt s (at + 4) 2) (textAt s (at + 6)) (textAt s (txtAt s at)))
@@ -117,7 +119,7 @@ module _ (s : List ℕ) (small : (i : ℕ) → getD s i 0 < 256) where
       (run-then (text-run (at + 6) (omega arith))
       (text-run (txtAt s at) h))))
 
-  numeric-map : (m at : ℕ) → stands 0 m ≡ true → m < 512 → numericMap (numericAt m s at) ≡ m
+  numeric-map : (m at : ℕ) → stands 0 m ≡ true → m < 1024 → numericMap (numericAt m s at) ≡ m
   unfolding fieldsAt
   numeric-map m at on l = ap numericMap (sym (fields-say m s at)) ∙ map-is s s s (fieldsAt m s at) on l
 
@@ -126,8 +128,8 @@ module _ (s : List ℕ) (small : (i : ℕ) → getD s i 0 < 256) where
   unfolding edgeAt allowed
   edge-map at t = go (stands 0 (mapAt s at)) refl t
     where
-      go : (b : Bool) → stands 0 (mapAt s at) ≡ b → cond b (ltb (mapAt s at) 512) (eqb (mapAt s at) 0) ≡ true → mapOf (only b (numericAt (mapAt s at) s (headEnd s at))) ≡ mapAt s at
-      go true e t = numeric-map (mapAt s at) (headEnd s at) e (ltb-true (mapAt s at) 512 t)
+      go : (b : Bool) → stands 0 (mapAt s at) ≡ b → cond b (ltb (mapAt s at) 1024) (eqb (mapAt s at) 0) ≡ true → mapOf (only b (numericAt (mapAt s at) s (headEnd s at))) ≡ mapAt s at
+      go true e t = numeric-map (mapAt s at) (headEnd s at) e (ltb-true (mapAt s at) 1024 t)
       go false e t = sym (eqb-true (mapAt s at) 0 t)
 
   pub edge-run : (given : Bool) (at : ℕ) → nextAt s at ≤ length s → allowed given (mapAt s at) ≡ true → Run s at (nextAt s at) (edgeBytes (edgeAt s at))
@@ -137,12 +139,12 @@ module _ (s : List ℕ) (small : (i : ℕ) → getD s i 0 < 256) where
       head : Run s at (headEnd s at) (headBytes (mapAt s at) (leAt s (at + 2) 2) (leAt s (at + 4) 2) (textAt s (at + 6)) (textAt s (txtAt s at)))
       head = head-run at (head-within s at (length s) h)
 
-      go : (b : Bool) → stands 0 (mapAt s at) ≡ b → (given : Bool) → cond given (eqb (mapAt s at) 0) (cond b (ltb (mapAt s at) 512) (eqb (mapAt s at) 0)) ≡ true
+      go : (b : Bool) → stands 0 (mapAt s at) ≡ b → (given : Bool) → cond given (eqb (mapAt s at) 0) (cond b (ltb (mapAt s at) 1024) (eqb (mapAt s at) 0)) ≡ true
           → Run s at (cond b (fieldsEnd (mapAt s at) s (headEnd s at)) (headEnd s at))
           (headBytes (mapOf (only b (numericAt (mapAt s at) s (headEnd s at)))) (leAt s (at + 2) 2) (leAt s (at + 4) 2) (textAt s (at + 6)) (textAt s (txtAt s at)) ++ bytesIf numericBytes (only b (numericAt (mapAt s at) s (headEnd s at))))
       go true e true t = let z = eqb-true (mapAt s at) 0 t in let o = eqb-true (bit 0 (mapAt s at)) 1 e in absurd (omega arith)
       go true e false t =
-          rw (numeric-map (mapAt s at) (headEnd s at) e (ltb-true (mapAt s at) 512 t)) (run-then head (fields-run (mapAt s at) (headEnd s at) (fields-within s at (length s) h e)))
+          rw (numeric-map (mapAt s at) (headEnd s at) e (ltb-true (mapAt s at) 1024 t)) (run-then head (fields-run (mapAt s at) (headEnd s at) (fields-within s at (length s) h e)))
       go false e true t = rw (sym (eqb-true (mapAt s at) 0 t)) (run-then head (no-run s (headEnd s at)))
       go false e false t = rw (sym (eqb-true (mapAt s at) 0 t)) (run-then head (no-run s (headEnd s at)))
 

@@ -16,7 +16,7 @@ use Rattle.fields.proofs.FieldsLaws.{leAt-of-drop, leAt-bytesOf, length-bytesOf
 use Rattle.fields.specs.Flag.{there, flag, bytesIf}
 use Rattle.fields.proofs.FlagLaws.{there-le, flag-le, flag-stands}
 use Rattle.edge.specs.Edge.{Text, Numeric, Edge, numericMap, mapOf, str, fractionBytes, numericBytes, headBytes, edgeBytes, NumericFits, EdgeFits}
-use Rattle.edge.specs.Layout.{bit, stands, only, mapAt, textAt, stringEnd, stringEndIf, txtAt, headEnd, fractionAt, baseAt, multAt, scriptAt, valueSAt, fieldsEnd, nextAt, numericAt, edgeAt}
+use Rattle.edge.specs.Layout.{bit, stands, only, mapAt, textAt, stringEnd, stringEndIf, txtAt, headEnd, fractionAt, baseAt, multAt, scriptAt, valueSAt, decimalsAt, fieldsEnd, nextAt, numericAt, edgeAt}
 use Rattle.edge.proofs.WriteLaws.{length-str, length-head}
 
 -- ---- fields in a row
@@ -57,10 +57,11 @@ record FieldRead {A : Type 0} (f : A → List ℕ) (x : Option A) (read : Option
   pub then : drop next s ≡ rest
 
 module _ (s : List ℕ) (v k : ℕ) (rest : List ℕ) where
-  number-field : (x : Option ℕ) → k ≡ there x → drop v s ≡ bytesIf (bytesOf 8) x ++ rest → ((n : ℕ) → x ≡ some n → n < 2 ^ 64)
-      → FieldRead (bytesOf 8) x (only (eqb k 1) (leAt s v 8)) s v (v + 8 * k) rest
-  number-field none b e h = rw b (record { is = refl; ends = refl; then = rw (add-zero v) e })
-  number-field (some n) b e h = rw b (record { is = ap some (number-there s v 8 n rest e (h n refl)); ends = rw (length-bytesOf 8 n); then = number-behind s v 8 n rest e })
+  number-field : (w to : ℕ) (x : Option ℕ) → k ≡ there x → (k ≡ 0 → to ≡ v) → (k ≡ 1 → to ≡ v + w) → drop v s ≡ bytesIf (bytesOf w) x ++ rest → ((n : ℕ) → x ≡ some n → n < 2 ^ (8 * w))
+      → FieldRead (bytesOf w) x (only (eqb k 1) (leAt s v w)) s v to rest
+  number-field w to none b off on e h = rw (b, off b) (record { is = refl; ends = sym (add-zero v); then = e })
+  number-field w to (some n) b off on e h =
+      rw (b, on b) (record { is = ap some (number-there s v w n rest e (h n refl)); ends = rw (length-bytesOf w n); then = number-behind s v w n rest e })
 
   fraction-field : (x : Option (ℕ × ℕ)) → k ≡ there x → drop v s ≡ bytesIf fractionBytes x ++ rest → ((p : ℕ × ℕ) → x ≡ some p → (p .0 < 2 ^ 64) × (p .1 < 2 ^ 64))
       → FieldRead fractionBytes x (only {A = ℕ × ℕ} (eqb k 1) (leAt s v 8, leAt s (v + 8) 8)) s v (v + 16 * k) rest
@@ -80,12 +81,12 @@ module _ (s : List ℕ) (v k : ℕ) (rest : List ℕ) where
       rw b (record { is = ap some (text-there s v t rest e (h t refl)); ends = text-ends s v t rest e (h t refl); then = text-behind s v t rest e (h t refl) })
 
 -- ---- the bits of a map
-module _ (a b c d e f g h : ℕ) (la : a ≤ 1) (lb : b ≤ 1) (lc : c ≤ 1) (ld : d ≤ 1) (le : e ≤ 1) (lf : f ≤ 1) (lg : g ≤ 1) (lh : h ≤ 1) where
+module _ (a b c d e f g h i : ℕ) (la : a ≤ 1) (lb : b ≤ 1) (lc : c ≤ 1) (ld : d ≤ 1) (le : e ≤ 1) (lf : f ≤ 1) (lg : g ≤ 1) (lh : h ≤ 1) (li : i ≤ 1) where
   abbrev sum : ℕ
-  sum = 1 + 2 * a + 4 * b + 8 * c + 16 * d + 32 * e + 64 * f + 128 * g + 256 * h
+  sum = 1 + 2 * a + 4 * b + 8 * c + 16 * d + 32 * e + 64 * f + 128 * g + 256 * h + 512 * i
 
-  bits : (bit 0 sum ≡ 1) × (bit 1 sum ≡ a) × (bit 2 sum ≡ b) × (bit 3 sum ≡ c) × (bit 4 sum ≡ d) × (bit 5 sum ≡ e) × (bit 6 sum ≡ f) × (bit 7 sum ≡ g) × (bit 8 sum ≡ h)
-  bits = (omega arith, omega arith, omega arith, omega arith, omega arith, omega arith, omega arith, omega arith, omega arith)
+  bits : (bit 0 sum ≡ 1) × (bit 1 sum ≡ a) × (bit 2 sum ≡ b) × (bit 3 sum ≡ c) × (bit 4 sum ≡ d) × (bit 5 sum ≡ e) × (bit 6 sum ≡ f) × (bit 7 sum ≡ g) × (bit 8 sum ≡ h) × (bit 9 sum ≡ i)
+  bits = (omega arith, omega arith, omega arith, omega arith, omega arith, omega arith, omega arith, omega arith, omega arith, omega arith)
 
 pub record Bits (n : Numeric) (m : ℕ) : Type 0 where
   pub numeric : bit 0 m ≡ 1
@@ -97,19 +98,23 @@ pub record Bits (n : Numeric) (m : ℕ) : Type 0 where
   pub large : bit 6 m ≡ flag (n .large)
   pub active : bit 7 m ≡ flag (n .active)
   pub value-s : bit 8 m ≡ there (n .value-s)
+  pub decimals : bit 9 m ≡ there (n .decimals)
 
 pub map-bits : (n : Numeric) → Bits n (numericMap n)
 unfolding numericMap
 map-bits n =
     let b =
-    bits (there (n .value)) (there (n .fraction)) (there (n .base)) (there (n .mult)) (there (n .script)) (flag (n .large)) (flag (n .active)) (there (n .value-s))
-    (there-le (n .value)) (there-le (n .fraction)) (there-le (n .base)) (there-le (n .mult)) (there-le (n .script)) (flag-le (n .large)) (flag-le (n .active)) (there-le (n .value-s)) in
-    record { numeric = b .0; value = b .1; fraction = b .2; base = b .3; mult = b .4; script = b .5; large = b .6; active = b .7; value-s = b .8 }
+    bits (there (n .value)) (there (n .fraction)) (there (n .base)) (there (n .mult)) (there (n .script)) (flag (n .large)) (flag (n .active)) (there (n .value-s)) (there (n .decimals))
+    (there-le (n .value)) (there-le (n .fraction)) (there-le (n .base)) (there-le (n .mult)) (there-le (n .script)) (flag-le (n .large)) (flag-le (n .active)) (there-le (n .value-s)) (there-le (n .decimals)) in
+    record { numeric = b .0; value = b .1; fraction = b .2; base = b .3; mult = b .4; script = b .5; large = b .6; active = b .7; value-s = b .8; decimals = b .9 }
 
 -- ---- the fields of a numeric edge
 module _ (n : Numeric) (m : ℕ) (b : Bits n m) (fit : NumericFits n) (s : List ℕ) (at : ℕ) (rest : List ℕ) (stand : drop at s ≡ numericBytes n ++ rest) where
+  rest₈ : List ℕ
+  rest₈ = bytesIf (bytesOf 1) (n .decimals) ++ rest
+
   rest₇ : List ℕ
-  rest₇ = bytesIf str (n .value-s) ++ rest
+  rest₇ = bytesIf str (n .value-s) ++ rest₈
 
   rest₅ : List ℕ
   rest₅ = bytesIf str (n .script) ++ rest₇
@@ -127,12 +132,12 @@ module _ (n : Numeric) (m : ℕ) (b : Bits n m) (fit : NumericFits n) (s : List 
   rest₁ = bytesIf (bytesOf 8) (n .value) ++ rest₂
 
   in-a-row : drop at s ≡ str (n .orig) ++ rest₁
-  unfolding numericBytes rest₁ rest₂ rest₃ rest₄ rest₅ rest₇
+  unfolding numericBytes rest₁ rest₂ rest₃ rest₄ rest₅ rest₇ rest₈
   in-a-row = stand ∙ simp append-assoc
 
   value-read : FieldRead (bytesOf 8) (n .value) (only (stands 1 m) (leAt s (stringEnd s at) 8)) s (stringEnd s at) (fractionAt m (stringEnd s at)) rest₂
   unfolding rest₁
-  value-read = number-field s (stringEnd s at) (bit 1 m) rest₂ (n .value) (b .value) (text-behind s at (n .orig) rest₁ in-a-row (fit .orig)) (fit .value)
+  value-read = number-field s (stringEnd s at) (bit 1 m) rest₂ 8 (fractionAt m (stringEnd s at)) (n .value) (b .value) (λ z. omega arith) (λ o. omega arith) (text-behind s at (n .orig) rest₁ in-a-row (fit .orig)) (fit .value)
 
   fraction-read : FieldRead fractionBytes (n .fraction) (only {A = ℕ × ℕ} (stands 2 m) (leAt s (fractionAt m (stringEnd s at)) 8, leAt s (fractionAt m (stringEnd s at) + 8) 8)) s (fractionAt m (stringEnd s at)) (baseAt m (stringEnd s at)) rest₃
   unfolding rest₂
@@ -140,19 +145,23 @@ module _ (n : Numeric) (m : ℕ) (b : Bits n m) (fit : NumericFits n) (s : List 
 
   base-read : FieldRead (bytesOf 8) (n .base) (only (stands 3 m) (leAt s (baseAt m (stringEnd s at)) 8)) s (baseAt m (stringEnd s at)) (multAt m (stringEnd s at)) rest₄
   unfolding rest₃
-  base-read = number-field s (baseAt m (stringEnd s at)) (bit 3 m) rest₄ (n .base) (b .base) (fraction-read .then) (fit .base)
+  base-read = number-field s (baseAt m (stringEnd s at)) (bit 3 m) rest₄ 8 (multAt m (stringEnd s at)) (n .base) (b .base) (λ z. omega arith) (λ o. omega arith) (fraction-read .then) (fit .base)
 
   mult-read : FieldRead (bytesOf 8) (n .mult) (only (stands 4 m) (leAt s (multAt m (stringEnd s at)) 8)) s (multAt m (stringEnd s at)) (scriptAt m (stringEnd s at)) rest₅
   unfolding rest₄ scriptAt
-  mult-read = number-field s (multAt m (stringEnd s at)) (bit 4 m) rest₅ (n .mult) (b .mult) (base-read .then) (fit .mult)
+  mult-read = number-field s (multAt m (stringEnd s at)) (bit 4 m) rest₅ 8 (scriptAt m (stringEnd s at)) (n .mult) (b .mult) (λ z. omega arith) (λ o. omega arith) (base-read .then) (fit .mult)
 
   script-read : FieldRead str (n .script) (only (stands 5 m) (textAt s (scriptAt m (stringEnd s at)))) s (scriptAt m (stringEnd s at)) (valueSAt m s (stringEnd s at)) rest₇
   unfolding rest₅ valueSAt
   script-read = text-field s (scriptAt m (stringEnd s at)) (bit 5 m) rest₇ (n .script) (b .script) (mult-read .then) (fit .script)
 
-  value-s-read : FieldRead str (n .value-s) (only (stands 8 m) (textAt s (valueSAt m s (stringEnd s at)))) s (valueSAt m s (stringEnd s at)) (fieldsEnd m s at) rest
-  unfolding rest₇ fieldsEnd
-  value-s-read = text-field s (valueSAt m s (stringEnd s at)) (bit 8 m) rest (n .value-s) (b .value-s) (script-read .then) (fit .value-s)
+  value-s-read : FieldRead str (n .value-s) (only (stands 8 m) (textAt s (valueSAt m s (stringEnd s at)))) s (valueSAt m s (stringEnd s at)) (decimalsAt m s (stringEnd s at)) rest₈
+  unfolding rest₇ decimalsAt
+  value-s-read = text-field s (valueSAt m s (stringEnd s at)) (bit 8 m) rest₈ (n .value-s) (b .value-s) (script-read .then) (fit .value-s)
+
+  decimals-read : FieldRead (bytesOf 1) (n .decimals) (only (stands 9 m) (leAt s (decimalsAt m s (stringEnd s at)) 1)) s (decimalsAt m s (stringEnd s at)) (fieldsEnd m s at) rest
+  unfolding rest₈ fieldsEnd
+  decimals-read = number-field s (decimalsAt m s (stringEnd s at)) (bit 9 m) rest 1 (fieldsEnd m s at) (n .decimals) (b .decimals) (λ z. omega arith) (λ o. omega arith) (value-s-read .then) (fit .decimals)
 
   pub numeric-there : numericAt m s at ≡ n
   unfolding numericAt
@@ -165,6 +174,7 @@ module _ (n : Numeric) (m : ℕ) (b : Bits n m) (fit : NumericFits n) (s : List 
         mult-read .is,
         script-read .is,
         value-s-read .is,
+        decimals-read .is,
         b .large,
         b .active,
         flag-stands (n .large),
@@ -181,6 +191,7 @@ module _ (n : Numeric) (m : ℕ) (b : Bits n m) (fit : NumericFits n) (s : List 
       let x = mult-read .ends in
       let y = script-read .ends in
       let z = value-s-read .ends in
+      let k = decimals-read .ends in
       simp length-append (omega arith)
 
 -- ---- an edge
@@ -232,7 +243,7 @@ module _ (m a z : ℕ) (ty tx : Text) (s : List ℕ) (at : ℕ) (rest : List ℕ
 map-small : (n : Numeric) → numericMap n < 2 ^ 16
 unfolding numericMap
 map-small n =
-    omega (arith, there-le (n .value), there-le (n .fraction), there-le (n .base), there-le (n .mult), there-le (n .script), flag-le (n .large), flag-le (n .active), there-le (n .value-s))
+    omega (arith, there-le (n .value), there-le (n .fraction), there-le (n .base), there-le (n .mult), there-le (n .script), flag-le (n .large), flag-le (n .active), there-le (n .value-s), there-le (n .decimals))
 
 -- the edge e stands in s from at on
 pub record EdgeRead (e : Edge) (s : List ℕ) (at : ℕ) : Type 0 where

@@ -8,10 +8,10 @@ use Rattle.edge_vectors.proofs.cuts.Statement.{statement}
 use Rattle.edge_vectors.proofs.cuts.Tie as tie
 
 abbrev Inv-loop : tie.InvT-loop
-Inv-loop s n₀ n = n ≤ 76
+Inv-loop s n₀ n = n ≤ 77
 
 abbrev μ-loop : tie.MeasureT-loop
-μ-loop s n₀ n = 76 - n
+μ-loop s n₀ n = 77 - n
 
 listing-requires : tie.Need-listing-requires Inv-loop μ-loop
 listing-requires c κs = search needs

@@ -16,7 +16,7 @@ use Rattle.edge.specs.View.{viewAt, fieldsAt}
 use Rattle.edge.specs.declared.EdgeView.{EdgeView}
 use Rattle.edge.specs.declared.NumFields.{NumFields}
 use Rattle.edge.proofs.theorems.Theorems.{f64-bits-not-nan, f64-bits-back}
-use Rattle.numbers.specs.Listed.{wholeValue}
+use Rattle.numbers.specs.Listed.{wholeOf, wholeValue}
 use Rattle.numbers.specs.Fractions.{isNumeric}
 use Rattle.fraction_choices.specs.Decision.{WholeValued}
 
@@ -34,6 +34,10 @@ module _ {s : List ℕ} {at b : ℕ} (r : Read s at b) where
   pub read-float : ofBits binary64 b ≡ ofNat (r .number)
   read-float = ap (ofBits binary64) (r .bits) ∙ f64-bits-back (r .number)
 
+no-bits : (b : Bool) (k : ℕ) → none ≡ wholeOf (only b k) none
+no-bits true k = refl
+no-bits false k = refl
+
 module _ (s : List ℕ) (at : ℕ) {e : EdgeView} (head : e ≡ viewAt s at) {numeric : Bool} (bit-0 : numeric ≡ stands 0 (e .map)) where
   map-is : (k : ℕ) → stands k (e .map) ≡ stands k (mapAt s at)
   unfolding viewAt
@@ -49,9 +53,13 @@ module _ (s : List ℕ) (at : ℕ) {e : EdgeView} (head : e ≡ viewAt s at) {nu
 
     pub value-absent : not valued ≡ true → none ≡ wholeValue (edgeAt s at)
     unfolding wholeValue edgeAt numericAt
-    value-absent off = let z : stands 1 (mapAt s at) ≡ false = sym (map-is 1) ∙ sym bit-1 ∙ not-true valued off in rw (is-numeric, z)
+    value-absent off = let z : stands 1 (mapAt s at) ≡ false = sym (map-is 1) ∙ sym bit-1 ∙ not-true valued off in rw (is-numeric, z) (no-bits (stands 9 (mapAt s at)) _)
 
-    module _ (there : not valued ≡ false) (whole : WholeValued (edgeAt s at)) where
+    pub value-decimal : {counted : Bool} → counted ≡ stands 9 (e .map) → counted ≡ true → none ≡ wholeValue (edgeAt s at)
+    unfolding wholeValue edgeAt numericAt
+    value-decimal bit-9 there = let z : stands 9 (mapAt s at) ≡ true = sym (map-is 9) ∙ sym bit-9 ∙ there in rw (is-numeric, z)
+
+    module _ (there : not valued ≡ false) {counted : Bool} (bit-9 : counted ≡ stands 9 (e .map)) (uncounted : counted ≡ false) (whole : WholeValued (edgeAt s at)) where
       has-value : stands 1 (mapAt s at) ≡ true
       has-value = sym (map-is 1) ∙ sym bit-1 ∙ not-false valued there
 
@@ -67,7 +75,8 @@ module _ (s : List ℕ) (at : ℕ) {e : EdgeView} (head : e ≡ viewAt s at) {nu
       unfolding wholeValue edgeAt numericAt bits-at
       value-is =
           let v = number-of in
-          rw (is-numeric, has-value) (ap some (ap (λ (b : ℕ). toUnsigned 64 (ofBits binary64 b)) (v .2) ∙ ap (toUnsigned 64) (f64-bits-back (v .0)) ∙ ofNat-to-unsigned (v .1)))
+          let z : stands 9 (mapAt s at) ≡ false = sym (map-is 9) ∙ sym bit-9 ∙ uncounted in
+          rw (is-numeric, has-value, z) (ap some (ap (λ (b : ℕ). toUnsigned 64 (ofBits binary64 b)) (v .2) ∙ ap (toUnsigned 64) (f64-bits-back (v .0)) ∙ ofNat-to-unsigned (v .1)))
 
       value-stands : fieldsAt (mapAt s at) s (headEnd s at) .value ≡ bits-at
       unfolding fieldsAt bits-at

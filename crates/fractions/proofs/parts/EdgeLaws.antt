@@ -25,7 +25,7 @@ use Rattle.lattice.specs.Kept.{noEdge, offset}
 use Rattle.lattice.proofs.HoldsLaws.{kept-of}
 use Rattle.numbers.specs.CallEdge.{CallEdge}
 use Rattle.numbers.proofs.stages.ReadLaws.{every-at, call-legals, EdgeThere, edge-of}
-use Rattle.numbers.specs.Listed.{valueOf, wholeValue}
+use Rattle.numbers.specs.Listed.{wholeOf, valueOf, wholeValue}
 use Rattle.numbers.specs.Fractions.{scriptOf, isNumeric}
 use Rattle.fraction_choices.specs.Choice.{numberOr, valueOr, HasValue, Two, One}
 use Rattle.fractions.specs.NewParts.{HeadIs, HoldsCall}
@@ -119,9 +119,9 @@ pub value-is : {n : ℕ} (e : Edge) → CallEdge n e → HasValue e → ValueIs 
 unfolding wholeValue
 value-is e c (v, p) = by-num (e .num) refl p
   where
-    by-value : (x : Numeric) → e .num ≡ some x → (b : Option ℕ) → x .value ≡ b → Option·map (λ y. toUnsigned 64 (ofBits binary64 y)) b ≡ some v → ValueIs e
-    by-value x q none r s = absurd (none-some s)
-    by-value x q (some b) r s =
+    by-value : (x : Numeric) → e .num ≡ some x → x .decimals ≡ none → (b : Option ℕ) → x .value ≡ b → Option·map (λ y. toUnsigned 64 (ofBits binary64 y)) b ≡ some v → ValueIs e
+    by-value x q w none r s = absurd (none-some s)
+    by-value x q w (some b) r s =
         let k = c .value x b q r in
         record {
           numbers = x;
@@ -129,13 +129,17 @@ value-is e c (v, p) = by-num (e .num) refl p
           whole = k .0;
           bits = r ∙ ap some (k .2);
           small = k .1;
-          is = ap (λ (y : Option Numeric). numberOr (valueOf y)) q ∙ ap (λ (y : Option ℕ). numberOr (Option·map (λ z. toUnsigned 64 (ofBits binary64 z)) y)) (r ∙ ap some (k .2))
+          is = ap (λ (y : Option Numeric). numberOr (valueOf y)) q ∙ ap (λ (k : Option ℕ). numberOr (wholeOf k (x .value))) w ∙ ap (λ (y : Option ℕ). numberOr (Option·map (λ z. toUnsigned 64 (ofBits binary64 z)) y)) (r ∙ ap some (k .2))
               ∙ ap (toUnsigned 64) (f64-bits-back (k .0)) ∙ ofNat-to-unsigned (k .1);
         }
 
+    by-decimals : (x : Numeric) → e .num ≡ some x → (k : Option ℕ) → x .decimals ≡ k → wholeOf k (x .value) ≡ some v → ValueIs e
+    by-decimals x q none w s = by-value x q w (x .value) refl s
+    by-decimals x q (some k) w s = absurd (none-some s)
+
     by-num : (x : Option Numeric) → e .num ≡ x → valueOf x ≡ some v → ValueIs e
     by-num none q s = absurd (none-some s)
-    by-num (some x) q s = by-value x q (x .value) refl s
+    by-num (some x) q s = by-decimals x q (x .decimals) refl s
 
 -- what `fields_at` answers for a value that is there
 pub fields-value : (m : ℕ) (s : List ℕ) (at : ℕ) {b : ℕ} → numericAt m s at .value ≡ some b → fieldsAt m s at .value ≡ b

@@ -16,7 +16,7 @@ use Rattle.edge.specs.declared.Written.the-variants.{To, NoRoom}
 use Rattle.edge.specs.Edge.{Edge, Text, edgeBytes, numericBytes, headBytes}
 use Rattle.edge.specs.Layout.{bit, stands, scriptAt}
 use Rattle.edge.specs.View.{numericOf}
-use Rattle.edge.specs.Write.{written, writtenTo, regular, numeric, textPastIf, fieldsPast, Writable}
+use Rattle.edge.specs.Write.{written, writtenTo, regular, numeric, textPastIf, textsPast, fieldsPast, Writable}
 use Rattle.edge.proofs.WriteLaws.{regular-bytes, length-head, length-fields, numeric-bytes}
 use Rattle.lattice.specs.declared.Lattice.{Lattice}
 use Rattle.lattice.specs.Kept.{END, Fits, Stands, Holds, SameBehind}
@@ -31,8 +31,8 @@ past-le : (on : Bool) (n at : ℕ) → textPastIf on n at ≤ at + 2 + n
 past-le true n at = omega arith
 past-le false n at = omega arith
 
-fields-past-le : (d : NumFields) (at : ℕ) → fieldsPast d at ≤ at + 46 + d .orig .len + d .script .len + d .«value_s» .len
-unfolding fieldsPast scriptAt
+fields-past-le : (d : NumFields) (at : ℕ) → fieldsPast d at ≤ at + 47 + d .orig .len + d .script .len + d .«value_s» .len
+unfolding fieldsPast textsPast scriptAt
 fields-past-le d at =
     let s = at + 2 + d .orig .len + 8 * bit 1 (d .map) + 16 * bit 2 (d .map) + 8 * bit 3 (d .map) + 8 * bit 4 (d .map) in
     let a = past-le (stands 5 (d .map)) (d .script .len) s in
@@ -40,7 +40,7 @@ fields-past-le d at =
     omega arith
 
 length-numeric : (o c v : List ℕ) (d : NumFields) → Writable o c v d → (a z : ℕ) (ty tx : Text)
-    → length (edgeBytes (numeric a z ty tx o c v d)) ≤ 56 + length ty + length tx + d .orig .len + d .script .len + d .«value_s» .len
+    → length (edgeBytes (numeric a z ty tx o c v d)) ≤ 57 + length ty + length tx + d .orig .len + d .script .len + d .«value_s» .len
 length-numeric o c v d h a z ty tx =
     let l = length-head (d .map) a z ty tx in
     let f = length-fields o c v d h 0 in

@@ -20,11 +20,11 @@ use Rattle.numbers.proofs.stages.InactiveLaws.{inactive-some}
 pub allowed-map : (x : Option Numeric) → allowed false (mapOf x) ≡ true
 unfolding allowed
 allowed-map none = refl
-allowed-map (some x) = rw (map-bits x .numeric) (lt-ltb (numericMap x) 512 (map-lt (some x)))
+allowed-map (some x) = rw (map-bits x .numeric) (lt-ltb (numericMap x) 1024 (map-lt (some x)))
 
 -- ---- one edge turned inactive
 quiet-fits : {y : Numeric} → NumericFits y → NumericFits (quiet y)
-quiet-fits f = record { orig = f .orig; value = f .value; fraction = f .fraction; base = f .base; mult = f .mult; script = f .script; value-s = f .value-s }
+quiet-fits f = record { orig = f .orig; value = f .value; fraction = f .fraction; base = f .base; mult = f .mult; script = f .script; value-s = f .value-s; decimals = f .decimals }
 
 inactive-fits : (e : Edge) → EdgeFits e → EdgeFits (inactive e)
 unfolding inactive

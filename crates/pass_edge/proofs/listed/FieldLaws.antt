@@ -54,6 +54,7 @@ pub record FieldsAre (o c v : List ℕ) (d : NumFields) (n : Numeric) : Type 0 w
   pub mult : (a : ℕ) → n .mult ≡ some a → d .«base_multiplier» ≡ a
   pub script : (a : Text) → n .script ≡ some a → partOf c (d .script) ≡ a
   pub value-s : (a : Text) → n .value-s ≡ some a → partOf v (d .«value_s») ≡ a
+  pub decimals : (a : ℕ) → n .decimals ≡ some a → d .decimals ≡ a
 
 bits-of : (d : NumFields) (n : Numeric) → d .map ≡ numericMap n → Bits n (d .map)
 bits-of d n e = subst (Bits n) (sym e) (map-bits n)
@@ -72,6 +73,7 @@ numeric-is o c v d n f =
       ap (λ (k : ℕ). eqb k 1) (b .large) ∙ flag-stands (n .large),
       ap (λ (k : ℕ). eqb k 1) (b .active) ∙ flag-stands (n .active),
       only-there (n .value-s) (partOf v (d .«value_s»)) (bit 8 (d .map)) (b .value-s) (f .value-s),
+      only-there (n .decimals) (d .decimals) (bit 9 (d .map)) (b .decimals) (f .decimals),
     )
 
 -- ---- what a stored edge is listed as
@@ -86,6 +88,7 @@ numericIn w t x = record {
   large = x .large-power;
   active = true;
   value-s = cond (eqb (kindNumber (x .kind)) 1) (some (padded (x .end - x .start) (x .value))) none;
+  decimals = none;
 }
 
 pub listed-is : (w t : List ℕ) (x : StoredEdge) → listedEdge (edgeOf w t x) ≡ record { start = x .start; end = x .end; type = typeOf t x; txt = txtOf w t x; num = some (numericIn w t x) }
@@ -127,7 +130,7 @@ module _ (w t : List ℕ) (x : StoredEdge) (f : Fraction) (h : FractionIs f (sto
       )
       (omega arith)
 
-pub map-small : (e : PassEdge) (f : Bool) → storedMap e f < 512
+pub map-small : (e : PassEdge) (f : Bool) → storedMap e f < 1024
 map-small e f =
     omega (
       arith,
@@ -172,6 +175,7 @@ module _ (line offs t : List ℕ) (x : StoredEdge) (f : Fraction) (sound : Groun
     mult = map-told f64Bits (x .has-mult) (x .mult);
     script = script-told t (x .has-script) (x .script-at) (x .script-len);
     value-s = λ a e. digits-told (eqb (kindNumber (x .kind)) 1) txt (padded (x .end - x .start) (x .value)) a (λ k. is ∙ txt-of-digits (chars line) t x k) e;
+    decimals = λ a e. absurd (Option·some-ne-none a (sym e));
   }
 
 -- ---- what can be written

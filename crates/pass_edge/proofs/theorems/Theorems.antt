@@ -75,6 +75,7 @@ module _ (w t : List ℕ) (x : StoredEdge) (s : Grounded w t x) (scalars : Scala
     mult = λ v e. rw (sym (map-told f64Bits (x .has-mult) (x .mult) v e)) (f64-bits-fit (x .mult));
     script = λ a e. omega (arith, script-short a e);
     value-s = λ a e. omega (arith, digits-short a e);
+    decimals = λ v e. absurd (Option·some-ne-none v (sym e));
   }
 
   numeric-sound : soundNumeric (numericIn w t x) ≡ true

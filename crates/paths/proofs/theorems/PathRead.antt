@@ -4,7 +4,7 @@ use mathlib.Core.Path.{_≡_, refl, sym, ap, _∙_, subst}
 use mathlib.Core.Bool.{Bool, true, false, cond, _&&_}
 use mathlib.Core.List.{List, [], _∷_, _++_, map}
 use mathlib.Core.Option.{Option, none, some, Option·some-injective}
-use Prim.Native.Nat.{ℕ, zero, suc, _+_, _-_, _^_, _≤_, _<_}
+use Prim.Native.Nat.{ℕ, zero, suc, _+_, _*_, _-_, _^_, _≤_, _<_}
 use native.Mathlib.Omega.{arith}
 use lib.ListN.{length, take, drop, getD, length-take}
 use native.Mathlib.Nat.{min-le-left, lt-of-le-of-lt}
@@ -17,7 +17,7 @@ use Rattle.fields.proofs.FieldsLaws.{leAt-lt}
 use Rattle.edge.specs.declared.ListingCheck.{ListingCheck}
 use Rattle.edge.specs.declared.ListingCheck.the-variants.{Edges, Refused}
 use Rattle.edge.specs.Edge.{Edge, Numeric, Text, mapOf, edgeBytes, edgesBytes, listingBytes, EdgeFits, NumericFits}
-use Rattle.edge.specs.Layout.{stands, only, mapAt, textAt, stringEnd, txtAt, headEnd, fractionAt, baseAt, multAt, scriptAt, valueSAt, numericAt, edgeAt, nextAt, listed}
+use Rattle.edge.specs.Layout.{stands, only, mapAt, textAt, stringEnd, txtAt, headEnd, fractionAt, baseAt, multAt, scriptAt, valueSAt, decimalsAt, numericAt, edgeAt, nextAt, listed}
 use Rattle.edge.specs.Check.{allowed, sound, good, checkEdges, checkListing}
 use Rattle.edge.proofs.CheckLaws.{good-whole}
 use Rattle.edge.specs.Legal.{Legal, AllLegal, no-edge, one-more}
@@ -39,8 +39,8 @@ module _ (s : List ℕ) (small : (i : ℕ) → getD s i 0 < 256) where
   unfolding textAt part
   text-short at = rw (length-take (leAt s at 2) (drop (at + 2) s)) (lt-of-le-of-lt (min-le-left _ _) (leAt-lt s at 2 small))
 
-  number-fits : (b : Bool) (at v : ℕ) → only b (leAt s at 8) ≡ some v → v < 2 ^ 64
-  number-fits b at v e = only-holds (λ (k : ℕ). k < 2 ^ 64) b (leAt s at 8) v e (leAt-lt s at 8 small)
+  number-fits : (w : ℕ) (b : Bool) (at v : ℕ) → only b (leAt s at w) ≡ some v → v < 2 ^ (8 * w)
+  number-fits w b at v e = only-holds (λ (k : ℕ). k < 2 ^ (8 * w)) b (leAt s at w) v e (leAt-lt s at w small)
 
   text-fits : (b : Bool) (at : ℕ) (t : Text) → only b (textAt s at) ≡ some t → length t < 2 ^ 16
   text-fits b at t e = only-holds (λ (x : Text). length x < 2 ^ 16) b (textAt s at) t e (text-short at)
@@ -51,12 +51,13 @@ module _ (s : List ℕ) (small : (i : ℕ) → getD s i 0 < 256) where
       let v = stringEnd s at in
       record {
         orig = text-short at;
-        value = number-fits (stands 1 m) v;
+        value = number-fits 8 (stands 1 m) v;
         fraction = λ p e. only-holds (λ (q : ℕ × ℕ). (q .0 < 2 ^ 64) × (q .1 < 2 ^ 64)) (stands 2 m) (leAt s (fractionAt m v) 8, leAt s (fractionAt m v + 8) 8) p e (leAt-lt s (fractionAt m v) 8 small, leAt-lt s (fractionAt m v + 8) 8 small);
-        base = number-fits (stands 3 m) (baseAt m v);
-        mult = number-fits (stands 4 m) (multAt m v);
+        base = number-fits 8 (stands 3 m) (baseAt m v);
+        mult = number-fits 8 (stands 4 m) (multAt m v);
         script = text-fits (stands 5 m) (scriptAt m v);
         value-s = text-fits (stands 8 m) (valueSAt m s v);
+        decimals = number-fits 1 (stands 9 m) (decimalsAt m s v);
       }
 
   pub edge-fits : (at : ℕ) → EdgeFits (edgeAt s at)

@@ -1,6 +1,6 @@
 -- `edge::numeric::fields_at` meets its contract: the fields end within the slice (`Within`), and each is read where the definition reads it. Assumes nothing.
 use Rattle.edge.proofs.LayoutLaws.{orig-within, length-within}
-use Rattle.edge.proofs.numeric.ReadLaws.{inside, value-s-is, value-s-within, fields-read}
+use Rattle.edge.proofs.numeric.ReadLaws.{inside, value-s-is, value-s-within, decimals-within, decimals-there, fields-read}
 use Rattle.edge.specs.Layout.{scriptAt}
 use mathlib.Core.Path.{_≡_, refl}
 use native.Mathlib.Omega.{arith}
@@ -55,41 +55,57 @@ text-if-requires : tie.Need-text-if-requires
 unfolding scriptAt
 text-if-requires c κs = (omega arith, λ on. length-within _ _ _ refl (inside _ _ _ (c .before .text-at .ensures) (c .before .before .before .pre) .script on))
 
-cast-text-if : tie.Need-cast-text-if
-cast-text-if c = search needs
+cast-value-s-at : tie.Need-cast-value-s-at
+cast-value-s-at c = search needs
 
-mul-text-if : tie.Need-mul-text-if
-mul-text-if c = search needs
+mul-value-s-at : tie.Need-mul-value-s-at
+mul-value-s-at c = search needs
 
-add-text-if : tie.Need-add-text-if
-add-text-if c = omega (arith, value-s-within _ _ _ (c .before .before .text-at .ensures) (c .text-if .ensures) (c .before .before .before .before .pre))
+add-value-s-at : tie.Need-add-value-s-at
+add-value-s-at c = omega (arith, value-s-within _ _ _ (c .before .before .text-at .ensures) (c .text-if .ensures) (c .before .before .before .before .pre))
 
-add-text-if-2 : tie.Need-add-text-if-2
-add-text-if-2 c = omega (arith, value-s-within _ _ _ (c .before .before .before .text-at .ensures) (c .before .text-if .ensures) (c .before .before .before .before .before .pre))
+add-value-s-at-2 : tie.Need-add-value-s-at-2
+add-value-s-at-2 c = omega (arith, value-s-within _ _ _ (c .before .before .before .text-at .ensures) (c .before .text-if .ensures) (c .before .before .before .before .before .pre))
 
 text-if-requires-2 : tie.Need-text-if-requires-2
 text-if-requires-2 c κs = (omega arith, λ on. length-within _ _ _ (value-s-is _ _ _ (c .before .text-if .ensures)) (inside _ _ _ (c .before .before .before .text-at .ensures) (c .before .before .before .before .before .pre) .value-s on))
 
+cast-decimals-at : tie.Need-cast-decimals-at
+cast-decimals-at c = search needs
+
+mul-decimals-at : tie.Need-mul-decimals-at
+mul-decimals-at c = search needs
+
+add-decimals-at : tie.Need-add-decimals-at
+add-decimals-at c = omega (arith, decimals-within _ _ _ (c .before .before .before .before .text-at .ensures) (c .before .before .text-if .ensures) (c .text-if2 .ensures) (c .before .before .before .before .before .before .pre))
+
+add-decimals-at-2 : tie.Need-add-decimals-at-2
+add-decimals-at-2 c = omega (arith, decimals-within _ _ _ (c .before .before .before .before .before .text-at .ensures) (c .before .before .before .text-if .ensures) (c .before .text-if2 .ensures) (c .before .before .before .before .before .before .before .pre))
+
 u64-if-requires : tie.Need-u64-if-requires
-u64-if-requires c κs = (omega arith, inside _ _ _ (c .before .before .before .before .text-at .ensures) (c .before .before .before .before .before .before .pre) .value)
+u64-if-requires c κs = (omega arith, inside _ _ _ (c .before .before .before .before .before .text-at .ensures) (c .before .before .before .before .before .before .before .pre) .value)
 
 u64-if-requires-2 : tie.Need-u64-if-requires-2
-u64-if-requires-2 c κs = (omega arith, λ on. let h = inside _ _ _ (c .before .before .before .before .before .text-at .ensures) (c .before .before .before .before .before .before .before .pre) .fraction on in omega arith)
+u64-if-requires-2 c κs = (omega arith, λ on. let h = inside _ _ _ (c .before .before .before .before .before .before .text-at .ensures) (c .before .before .before .before .before .before .before .before .pre) .fraction on in omega arith)
 
 add-u64-if : tie.Need-add-u64-if
-add-u64-if c = let w = inside _ _ _ (c .before .before .before .before .before .before .text-at .ensures) (c .before .before .before .before .before .before .before .before .pre) in omega arith
+add-u64-if c = let w = inside _ _ _ (c .before .before .before .before .before .before .before .text-at .ensures) (c .before .before .before .before .before .before .before .before .before .pre) in omega arith
 
 u64-if-requires-3 : tie.Need-u64-if-requires-3
-u64-if-requires-3 c κs = (omega arith, λ on. let h = inside _ _ _ (c .before .before .before .before .before .before .text-at .ensures) (c .before .before .before .before .before .before .before .before .pre) .fraction on in omega arith)
+u64-if-requires-3 c κs = (omega arith, λ on. let h = inside _ _ _ (c .before .before .before .before .before .before .before .text-at .ensures) (c .before .before .before .before .before .before .before .before .before .pre) .fraction on in omega arith)
 
 u64-if-requires-4 : tie.Need-u64-if-requires-4
-u64-if-requires-4 c κs = (omega arith, inside _ _ _ (c .before .before .before .before .before .before .before .text-at .ensures) (c .before .before .before .before .before .before .before .before .before .pre) .base)
+u64-if-requires-4 c κs = (omega arith, inside _ _ _ (c .before .before .before .before .before .before .before .before .text-at .ensures) (c .before .before .before .before .before .before .before .before .before .before .pre) .base)
 
 u64-if-requires-5 : tie.Need-u64-if-requires-5
-u64-if-requires-5 c κs = (omega arith, inside _ _ _ (c .before .before .before .before .before .before .before .before .text-at .ensures) (c .before .before .before .before .before .before .before .before .before .before .pre) .mult)
+u64-if-requires-5 c κs = (omega arith, inside _ _ _ (c .before .before .before .before .before .before .before .before .before .text-at .ensures) (c .before .before .before .before .before .before .before .before .before .before .before .pre) .mult)
+
+u8-if-requires : tie.Need-u8-if-requires
+u8-if-requires c κs = (omega arith, decimals-there _ _ _ (c .before .before .before .before .before .before .before .before .before .before .text-at .ensures) (c .before .before .before .before .before .before .before .before .text-if .ensures) (c .before .before .before .before .before .before .text-if2 .ensures) (c .before .before .before .before .before .before .before .before .before .before .before .before .pre))
 
 returns : tie.Need-returns
-returns c = fields-read _ _ _ (c .before .before .before .before .before .before .before .before .before .text-at .ensures) (c .before .before .before .before .before .before .before .text-if .ensures) (c .before .before .before .before .before .text-if2 .ensures) (c .before .before .before .before .u64-if .ensures) (c .before .before .before .u64-if2 .ensures) (c .before .before .u64-if3 .ensures) (c .before .u64-if4 .ensures) (c .u64-if5 .ensures)
+returns c =
+    fields-read _ _ _ (c .before .before .before .before .before .before .before .before .before .before .before .text-at .ensures) (c .before .before .before .before .before .before .before .before .before .text-if .ensures) (c .before .before .before .before .before .before .before .text-if2 .ensures) (c .before .before .before .before .before .u64-if .ensures) (c .before .before .before .before .u64-if2 .ensures) (c .before .before .before .u64-if3 .ensures) (c .before .before .u64-if4 .ensures) (c .before .u64-if5 .ensures) (c .u8-if .ensures)
 
 pub fields-at-spec : {M : Type 1} → statement M
 fields-at-spec =
@@ -110,15 +126,20 @@ fields-at-spec =
     mul-script-at
     add-script-at
     text-if-requires
-    cast-text-if
-    mul-text-if
-    add-text-if
-    add-text-if-2
+    cast-value-s-at
+    mul-value-s-at
+    add-value-s-at
+    add-value-s-at-2
     text-if-requires-2
+    cast-decimals-at
+    mul-decimals-at
+    add-decimals-at
+    add-decimals-at-2
     u64-if-requires
     u64-if-requires-2
     add-u64-if
     u64-if-requires-3
     u64-if-requires-4
     u64-if-requires-5
+    u8-if-requires
     returns)

@@ -10,8 +10,11 @@ bit-requires c κs = search needs
 bit-requires-2 : tie.Need-bit-requires-2
 bit-requires-2 c κs = search needs
 
+bit-requires-3 : tie.Need-bit-requires-3
+bit-requires-3 c κs = search needs
+
 returns : tie.Need-returns
-returns c = numbers-tested _ (c .before .before .bit .ensures) (c .before .bit2 .ensures)
+returns c = numbers-tested _ (c .before .before .before .bit .ensures) (c .before .before .bit2 .ensures) (c .bit3 .ensures)
 
 pub numbers-sound-spec : {M : Type 1} → statement M
-numbers-sound-spec = tie.close (tie.spec bit-requires bit-requires-2 returns)
+numbers-sound-spec = tie.close (tie.spec bit-requires bit-requires-2 bit-requires-3 returns)

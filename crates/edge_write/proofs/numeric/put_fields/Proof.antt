@@ -1,5 +1,5 @@
--- `edge_write::numeric::put_fields` meets its contract: four promises in a row, each with the room that the last offset leaves. Assumes nothing.
-use Rattle.edge.proofs.WriteLaws.{past-within, numbers-room, script-room, value-s-room, put-all-fields}
+-- `edge_write::numeric::put_fields` meets its contract: five promises in a row, each with the room that the last offset leaves. Assumes nothing.
+use Rattle.edge.proofs.WriteLaws.{past-within, numbers-room, script-room, value-s-room, decimals-room, put-all-fields}
 use mathlib.Core.Path.{_∙_}
 use Prim.Native.Nat.{_<_}
 use native.Mathlib.Omega.{arith}
@@ -12,6 +12,9 @@ script-bit = omega arith
 
 value-s-bit : 0 < 256
 value-s-bit = omega arith
+
+decimals-bit : 0 < 512
+decimals-bit = omega arith
 
 put-part-requires : tie.Need-put-part-requires
 put-part-requires c κs = let q = c .before .before .before .before .before .pre in (past-within _ _ _ (q .0) .orig, q .1 .orig-len, q .1 .orig)
@@ -36,11 +39,20 @@ put-part-if-requires-2 c κs =
     let script = c .before .before .before .put-part-if in
     (value-s-bit, kept-room (value-s-room _ _ _ (q .0) (part .ensures .0) (numbers .ensures .0) (script .ensures .0)) (script .kept .1 .1 .0 ∙ numbers .kept .0 ∙ part .kept .0), q .1 .value-s-len, q .1 .value-s)
 
+put-u8-if-requires : tie.Need-put-u8-if-requires
+put-u8-if-requires c κs =
+    let q = c .before .before .before .before .before .before .before .before .before .before .before .before .before .before .before .before .before .before .before .before .before .pre in
+    let part = c .before .before .before .before .before .before .before .before .before .before .before .before .before .before .before .put-part in
+    let numbers = c .before .before .before .before .before .before .before .before .before .before .before .put-numbers in
+    let script = c .before .before .before .before .before .before .before .put-part-if in
+    let value-s = c .before .before .before .put-part-if2 in
+    (decimals-bit, kept-room (decimals-room _ _ _ (q .0) (part .ensures .0) (numbers .ensures .0) (script .ensures .0) (value-s .ensures .0)) (value-s .kept .1 .1 .0 ∙ script .kept .1 .1 .0 ∙ numbers .kept .0 ∙ part .kept .0))
+
 same-length : tie.Need-same-length
-same-length c = c .before .before .put-part-if2 .kept .1 .1 .0 ∙ c .before .before .before .before .before .before .put-part-if .kept .1 .1 .0 ∙ c .before .before .before .before .before .before .before .before .before .before .put-numbers .kept .0 ∙ c .before .before .before .before .before .before .before .before .before .before .before .before .before .before .put-part .kept .0
+same-length c = c .before .before .put-u8-if .kept .1 .1 .0 ∙ c .before .before .before .before .before .before .put-part-if2 .kept .1 .1 .0 ∙ c .before .before .before .before .before .before .before .before .before .before .put-part-if .kept .1 .1 .0 ∙ c .before .before .before .before .before .before .before .before .before .before .before .before .before .before .put-numbers .kept .0 ∙ c .before .before .before .before .before .before .before .before .before .before .before .before .before .before .before .before .before .before .put-part .kept .0
 
 returns : tie.Need-returns
-returns c = put-all-fields _ _ _ _ (c .before .before .before .before .before .before .before .before .before .before .before .before .before .before .put-part .ensures .1) (c .before .before .before .before .before .before .before .before .before .before .put-numbers .ensures .1) (c .before .before .before .before .before .before .put-part-if .ensures .1) (c .before .before .put-part-if2 .ensures .1)
+returns c = put-all-fields _ _ _ _ (c .before .before .before .before .before .before .before .before .before .before .before .before .before .before .before .before .before .before .put-part .ensures .1) (c .before .before .before .before .before .before .before .before .before .before .before .before .before .before .put-numbers .ensures .1) (c .before .before .before .before .before .before .before .before .before .before .put-part-if .ensures .1) (c .before .before .before .before .before .before .put-part-if2 .ensures .1) (c .before .before .put-u8-if .ensures .1)
 
 pub put-fields-spec : {M : Type 1} → statement M
 put-fields-spec =
@@ -50,5 +62,6 @@ put-fields-spec =
     put-numbers-requires
     put-part-if-requires
     put-part-if-requires-2
+    put-u8-if-requires
     same-length
     returns)

@@ -20,10 +20,10 @@ same-length : tie.Need-same-length
 same-length c = c .before .before .put-u64 .kept .0
 
 returns : tie.Need-returns
-returns c = put-number-on _ _ _ _ (sym (c .before .before .before .before .before .bit .ensures) ∙ c .before .before .before .before .if1 .taken) (c .before .before .put-u64 .ensures)
+returns c = put-number-on 8 _ _ _ _ (sym (c .before .before .before .before .before .bit .ensures) ∙ c .before .before .before .before .if1 .taken) (c .before .before .put-u64 .ensures)
 
 returns-2 : tie.Need-returns-2
-returns-2 c = let a = c .before .before .before .args in put-number-off (a .map / a .p % 2) (a .v) (a .out .now) (a .at) (omega arith) (sym (c .before .bit .ensures) ∙ c .if1 .left)
+returns-2 c = let a = c .before .before .before .args in put-number-off 8 (a .map / a .p % 2) (a .v) (a .out .now) (a .at) (omega arith) (sym (c .before .bit .ensures) ∙ c .if1 .left)
 
 pub put-u64-if-spec : {M : Type 1} → statement M
 put-u64-if-spec =
