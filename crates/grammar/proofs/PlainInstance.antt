@@ -2,15 +2,13 @@
 -- with each character replaced by its record, with the same value, and a line has a reading by one exactly where it has one by the other: what is shown of any two alphabets
 -- that say the same (`table_grammar`, proofs/Alphabets.antt). No pass is named.
 -- In order: the characters; the two alphabets say the same; the instance.
-use Prim.Native.Nat.{ℕ}
 use mathlib.Core.Path.{_≡_, refl, sym, ap, _∙_}
 use mathlib.Core.Logic.{_↔_}
 use mathlib.Core.Bool.{true}
 use mathlib.Core.List.{List, [], _∷_, map}
-use mathlib.Core.Option.{Option, none, some, Option·some-injective}
+use mathlib.Core.Option.{Option, some, Option·some-injective}
 use lib.Dec.{eqb}
 use Rattle.text.specs.Bytes.{same}
-use Rattle.table.specs.Table.{find}
 use Rattle.passes.specs.Passes.{powerOfTen, powerWithin}
 use Rattle.passes.specs.Renaming.{gapChar}
 use Rattle.table_grammar.specs.Grammar.{digit, ten, large, small, block, lone, divisionValue, ReadingOf}

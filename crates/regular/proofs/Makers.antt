@@ -21,7 +21,7 @@ use Rattle.passes.specs.Passes.{digitType, cjk}
 use Rattle.grammar.specs.Plain.{plainRecord}
 use Rattle.grammar.specs.OtherCharacters.{recordOf, tableOf}
 use Rattle.grammar.specs.Formal.{formal}
-use Rattle.grammar.proofs.Marked.{answerWith, one, two}
+use Rattle.grammar.proofs.Marked.{answerWith, one}
 use Rattle.table_grammar.specs.TableGrammar.{Reading}
 use Rattle.table_grammar.proofs.RegularDemand3.{OneEdgeBy, SettledTable, regular-demand3, one-edge-where-valued}
 

@@ -1,17 +1,17 @@
 -- Where a line is not refused 7, the value of the one edge is at most TOP, so that its f64 is exact: for the bytes of any regular table. This is the last part of demand 3 as the
 -- call has it: the check of the table refuses values above TOP (01, cause 5), and refusal 7 values that the passes make.
 -- In order: the values of a table's records; the edges of a line; the theorem. Assumes nothing.
-use Prim.Native.Nat.{ℕ, zero, suc, _+_, _≤_}
-use mathlib.Core.Path.{_≡_, refl, sym, ap, _∙_}
-use mathlib.Core.Bool.{Bool, true, false, cond, _&&_}
+use Prim.Native.Nat.{ℕ, suc, _≤_}
+use mathlib.Core.Path.{_≡_, refl, sym}
+use mathlib.Core.Bool.{Bool, true, false, cond}
 use mathlib.Core.List.{List, [], _∷_}
 use mathlib.Core.Option.{Option, none, some, Option·some-ne-none, Option·some-injective}
-use lib.Dec.{leb, ltb, eqb}
+use lib.Dec.{ltb, eqb}
 use borrow.Author.Tests.{le-ltb}
 use Rattle.text.specs.Text.{chars}
 use Rattle.table.specs.Table.{Record, Table, find}
 use Rattle.table.specs.Layout.{numbersIn}
-use Rattle.table.specs.Check.{Fine, allOf, small, legalCodePoint, legalTexts, legalNumbers, legalRecord, digitRule, readTable}
+use Rattle.table.specs.Check.{Fine, allOf, small, legalCodePoint, legalTexts, legalNumbers, legalRecord, readTable}
 use Rattle.whole.specs.Whole.{TOP}
 use Rattle.passes.specs.NumEdge.{NumEdge, orZero, above, firstAbove}
 use Rattle.passes.specs.Characters.{charEdge, withEdge, charEdges}

@@ -3,7 +3,7 @@
 -- In order: what is replaced; the characters of a division; a division of the second that spells such a line is a replaced one; values, bases and rules; readings.
 --     f, g, h      the other digit, unit, large power
 --     Same A B     they have the same values and bases, and are a lone 零, or count by base/10, alike
-use Prim.Native.Nat.{ℕ, _≤_}
+use Prim.Native.Nat.{ℕ}
 use mathlib.Core.Path.{_≡_, refl, sym, ap, _∙_, subst}
 use mathlib.Core.Logic.{_↔_}
 use mathlib.Core.List.{List, [], _∷_, map}

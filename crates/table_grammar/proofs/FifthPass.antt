@@ -16,7 +16,7 @@ use Rattle.passes.proofs.ChainsLaws.{from-not-empty}
 use Rattle.passes.specs.Passes.{G4, Chain, cjk, isScript, begin, longer, touches, over, joined, next, g4Rule, retags, countedValue, countedBase, powerOfTen}
 use Rattle.table_grammar.specs.Row.{Row, one, _▷_, _<>>_, last, head}
 use Rattle.table_grammar.specs.Grammar.{run, times, power, small, block, lone, atomValue, atomBase, smallValue, smallBase, memberValue, memberBase, IsAtom, Follows, loneZero, nearBase, IsSmall, IsMember, IsBlock, singleDigit, countValue, countBase, IsNumeral, divisionValue}
-use Rattle.table_grammar.specs.Kinds.{Digit, Large, Ten, digitValue, largeBase, largeValue, tenBase, tenValue}
+use Rattle.table_grammar.specs.Kinds.{Digit, Large, Ten, digitValue, largeBase, largeValue, tenValue}
 use Rattle.table_grammar.specs.TableGrammar.{kinds, Atom, Member, Division}
 use Rattle.table_grammar.proofs.ChainParts.{OnSome, on-cond, Tiles, Next, Along}
 use Rattle.table_grammar.proofs.Tests.{le-true, true-le, and-left, and-right, eqb-self, eqb-true, eqb-false, regroup}

@@ -21,11 +21,11 @@ use Rattle.passes.specs.Renaming.{gapChar}
 use Rattle.passes.proofs.GapTexts.{one-char}
 use Rattle.table_grammar.specs.Row.{Row, one, _▷_, last}
 use Rattle.table_grammar.specs.Grammar.{digit, ten, large, run, times, power, small, block, lone, runValue, atomValue, atomBase, smallValue, smallBase, loneZero, nearBase}
-use Rattle.table_grammar.specs.Kinds.{Char, Digit, Large, Ten, charAt, charOf, charsOf, digitValue, entryOf, largeBase, largeValue, put, tenBase, tenValue}
+use Rattle.table_grammar.specs.Kinds.{Char, Digit, Large, Ten, charAt, charOf, charsOf, entryOf, largeBase, largeValue, put, tenBase, tenValue}
 use Rattle.table_grammar.specs.TableGrammar.{kinds, Atom, Member}
 use Rattle.passes.proofs.ChainsAlike.{Both}
 use Rattle.table_grammar.proofs.ChainParts.{Tiles, sim, tiles-map}
-use Rattle.table_grammar.proofs.Tests.{le-true, and-right, eqb-self, eqb-false}
+use Rattle.table_grammar.proofs.Tests.{le-true, eqb-self, eqb-false}
 use Rattle.table_grammar.proofs.Pieces.{TokenOf, digits, ten₁, large₁, PieceOf, atom, large₂, PartOf, atoms, large₃, begin₁, next₁, begin₂, next₂, begin₃, next₃, begin₄, next₄, joins, tokens, pieces, smalls, members}
 use Rattle.table_grammar.proofs.KindLaws.{digit-law, unit-law, large-law, found-code, entry-of, gap-char, Spelled, spelled-append, no-gap-append, not-le}
 

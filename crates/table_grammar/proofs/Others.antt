@@ -1,10 +1,10 @@
 -- A line that is one valued edge after the fifth pass is made of characters that numerals are made of: no pass finds a place that had no edge, so that each character
 -- has a record; and an edge of the fourth kind of records joins no other, so that none is of that kind.
 -- In order: places; edges that join no other; edges with a value; the line.
-use Prim.Native.Nat.{ℕ, suc, _+_, _*_, _/_, _≤_, _<_}
+use Prim.Native.Nat.{ℕ, suc, _+_, _*_, _/_, _≤_}
 use mathlib.Core.Path.{_≡_, refl, sym, _∙_}
 use mathlib.Core.Bool.{Bool, true, false, _&&_, _||_, not, cond, and-false, true≢false, false≢true}
-use mathlib.Core.List.{List, [], _∷_, map}
+use mathlib.Core.List.{List, [], _∷_}
 use mathlib.Core.Option.{Option, none, some, Option·some-ne-none, Option·some-injective}
 use native.Mathlib.Omega.{arith}
 use lib.Dec.{leb, ltb, eqb}

@@ -3,7 +3,7 @@
 -- The words are defined in `specs/Kinds.antt` (regular), `specs/TableGrammar.antt` (Reading), and in the specs/ of `passes` (fifthList), `text` (chars) and `whole` (TOP).
 -- Assumes nothing.
 use Prim.Native.Nat.{ℕ, _≤_}
-use mathlib.Core.Path.{_≡_, sym, ap, _∙_}
+use mathlib.Core.Path.{_≡_}
 use mathlib.Core.Logic.{_↔_}
 use mathlib.Core.Bool.{true, false}
 use mathlib.Core.List.{List, [], _∷_}

@@ -1,20 +1,19 @@
 -- A numeral whose value is at most TOP is not refused 7: no edge that the five passes join is above TOP, since each is a part of the numeral.
 -- In order: what holds of each; `firstAbove` of lists and of a pass; each member, part, piece and token is at most TOP; the passes.
 use Prim.Native.Nat.{ℕ, _+_, _*_, _/_, _≤_}
-use mathlib.Core.Path.{_≡_, refl, ap, _∙_}
+use mathlib.Core.Path.{_≡_, refl}
 use mathlib.Core.Bool.{Bool, true, false, cond, _&&_, and-false}
-use mathlib.Core.List.{List, [], _∷_, _++_, map}
+use mathlib.Core.List.{List, [], _∷_, _++_}
 use mathlib.Core.Option.{none, some}
 use native.Mathlib.Omega.{arith}
 use native.Mathlib.Nat.{le-refl, mul-le-mul-left, mul-le-mul-right}
 use lib.Dec.{leb}
-use lib.ListN.{length}
 use borrow.Author.Tests.{le-ltb}
 use Rattle.table.specs.Table.{Table}
 use Rattle.whole.specs.Whole.{TOP}
 use Rattle.passes.specs.NumEdge.{NumEdge, above, firstAbove}
 use Rattle.passes.specs.Characters.{firstList}
-use Rattle.passes.specs.Passes.{Pass, D1, G1, G2, G3, G4, Chain, cjk, isScript, chainsOf, edgesOf, joinedOf, after, added, through, addedBy, five, aboveAt}
+use Rattle.passes.specs.Passes.{Pass, D1, G1, G2, G3, G4, Chain, cjk, isScript, chainsOf, edgesOf, joinedOf, after, added, through, addedBy, aboveAt}
 use Rattle.passes.proofs.AboveLaws.{first-above-cons, first-above-head, first-above-tail}
 use Rattle.passes.proofs.ChainsAlike.{Each}
 use Rattle.table_grammar.specs.Row.{Row, one, _▷_, _<>>_, last}
@@ -23,7 +22,7 @@ use Rattle.table_grammar.specs.Kinds.{Char, digitValue, tenValue, largeV
 use Rattle.table_grammar.specs.TableGrammar.{kinds, Atom, Member, Division, Reading}
 use Rattle.table_grammar.proofs.Tests.{true-le, and-left, and-right}
 use Rattle.table_grammar.proofs.ChainParts.{flat, flat-chains, Tiles}
-use Rattle.table_grammar.proofs.Pieces.{row-map, digits, ten₁, large₁, atom, large₂, atoms, large₃, begin₂, next₂, parts₂, Ok₂, parts-begin₂, ok-begin₂, next-parts₂, begin₃, next₃, parts₃, Ok₃, parts-begin₃, ok-begin₃, next-parts₃, begin₄, next₄, parts₄, Ok₄, parts-begin₄, next-parts₄, tokens, pieces, smalls, members}
+use Rattle.table_grammar.proofs.Pieces.{row-map, atom, large₂, atoms, large₃, begin₂, next₂, parts₂, Ok₂, parts-begin₂, ok-begin₂, next-parts₂, begin₃, next₃, parts₃, Ok₃, parts-begin₃, ok-begin₃, next-parts₃, begin₄, next₄, parts₄, Ok₄, parts-begin₄, next-parts₄, tokens, pieces, smalls, members}
 use Rattle.table_grammar.proofs.Readings.{members-found}
 use Rattle.table_grammar.proofs.KindLaws.{unit-law, large-law}
 use Rattle.table_grammar.proofs.FourPasses.{Token, Piece, Part, View, Shows, tokenView, pieceView, partView, memberView, line, pass-d1, pass-g1, pass-g2, pass-g3}
