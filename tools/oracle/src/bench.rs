@@ -53,11 +53,11 @@ impl Buffers {
 }
 
 /// The least of fifty rounds of at least 20 ms each, as the time of one call: short rounds find the moments in which nothing else runs.
-pub fn least(cases: usize, mut call: impl FnMut(usize)) -> f64 {
+fn least(cases: usize, mut call: impl FnMut(usize)) -> f64 {
     (0..50).map(|_| round(cases, &mut call)).fold(f64::INFINITY, f64::min)
 }
 
-fn round(cases: usize, call: &mut impl FnMut(usize)) -> f64 {
+pub fn round(cases: usize, call: &mut impl FnMut(usize)) -> f64 {
     let (start, mut count) = (Instant::now(), 0);
     loop {
         for index in 0..cases {

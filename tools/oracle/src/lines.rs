@@ -3,7 +3,7 @@
 
 use std::hint::black_box;
 
-use crate::bench::{Buffers, least};
+use crate::bench::{Buffers, round};
 use crate::cases::{Case, Decoder, Inputs};
 use crate::table::{Record, Table};
 
@@ -55,7 +55,14 @@ impl Lines<'_> {
     fn rows(&self, records: usize) {
         let (count, mut buffers) = (self.inputs.len(), Buffers::new());
         let empty = self.text.lines().filter(|line| buffers.add_numbers(line.as_bytes(), &self.table, &[0, 0]) == (0, 2)).count();
-        let times: Vec<_> = self.ways().into_iter().map(|(name, mut way)| (name, least(1, |_| way()) / count as f64)).collect();
+        let mut ways = self.ways();
+        let mut times: Vec<_> = ways.iter().map(|(name, _)| (*name, f64::INFINITY)).collect();
+        // in turn, so that what else the machine does meets all of them
+        for _ in 0..50 {
+            for ((_, way), (_, least)) in ways.iter_mut().zip(&mut times) {
+                *least = least.min(round(1, &mut |_| way()) / count as f64);
+            }
+        }
         let (_, rust) = times[0];
         for (name, time) in &times[1..] {
             println!("| {records} | {count} | {empty} | {name} | {time:.0} | {rust:.0} | {:.1} |", rust / time);
