@@ -8,6 +8,8 @@ pub mod Answers
 pub mod Digit
 -- record: The definitions that the contracts of `table::record` cite.
 pub mod Walk
+-- filter: The definitions that the contracts of `table::filter` cite.
+pub mod Filter
 -- index: The definitions that the contracts of `table::index` cite.
 pub mod Index
 -- theorems: The bytes of a table.

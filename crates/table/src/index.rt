@@ -1,5 +1,5 @@
 // The record of a character, and where it stands. Records have no fixed size, so an index keeps the offset of every stride-th one, INDEX_SIZE at most.
-// The check of the table makes it in its own walk. The cost: for each character at most nine looks into the index and stride records, a 256th of all. So the
+// Behind them stands a filter (`table::filter`), by which most characters without a record are told. The check of the table makes both in its own walk. The cost: for each character at most nine looks into the index and stride records, a 256th of all. So the
 // 256 characters of the longest line cost about one walk more, and not a walk each. For a table of up to 255 records the stride is 1.
 ghost use mathlib.Core.Path.{_≡_};
 ghost use mathlib.Core.List.{List};
@@ -7,13 +7,18 @@ ghost use Prim.Native.Nat.{ℕ, _-_, _*_, _<_};
 ghost use lib.ListN.{length};
 ghost use Rattle.table.specs.Table.{Record};
 ghost use Rattle.table.specs.Layout.{recordsAt};
-ghost use Rattle.table.specs.Index.{FoundIs, Entry, strideOf, Indexed, IndexGrowing, Whole, RecordsAhead, indexSize};
+ghost use Rattle.table.specs.Filter.{mark, indexSize};
+ghost use Rattle.table.specs.Index.{FoundIs, Entry, strideOf, Entered, Indexed, IndexGrowing, Whole, RecordsAhead};
+use crate::filter::may_have;
 use crate::layout::NumProp;
 use crate::record::known::record_here;
 use crate::record::walk::record_end;
 
 // The most entries of an index.
-pub const INDEX_SIZE: usize = 256;
+pub const MOST_ENTRIES: usize = 256;
+
+// The words of an index: its entries, then 256 of the filter.
+pub const INDEX_SIZE: usize = 512;
 
 // The records from an offset on, so many.
 pub struct RecordRun {
@@ -58,7 +63,7 @@ fn find_from(table: &[u8], from: RecordRun, c: u32) -> CharRecord
 fn stride_of(n: usize) -> usize
     ensures { λ r. ⌜ r ≡ strideOf n ⌝ }
 {
-    1 + n / INDEX_SIZE
+    1 + n / MOST_ENTRIES
 }
 
 fn less(a: usize, b: usize) -> usize
@@ -79,6 +84,7 @@ pub fn index_record(offs: &mut [u32], index: Index, all: usize, here: RecordRun)
     ensures next { λ r. ⌜ r .due ≡ all - r .n * strideOf all ⌝ }
     ensures grows { λ r. ⌜ ((t : List ℕ) (rs : List Record) → Entry t rs (here .at) (here .left)
         → IndexGrowing t rs (now (offs .entry)) all index → IndexGrowing t rs (now (offs .exit)) all r) ⌝ }
+    ensures marks { λ _. ⌜ ((c : ℕ) → mark (now (offs .exit)) c ≡ mark (now (offs .entry)) c) ⌝ }
 {
     if here.left != index.due {
         return index;
@@ -103,7 +109,7 @@ fn nearest_entry(
     c: u32,
 ) -> RecordRun
     requires { ⌜ Whole (now table) (all .at) (all .left)
-        × Indexed (now table) (recordsAt (all .left) (now table) (all .at)) (now offs) (all .left) n ⌝ }
+        × Entered (now table) (recordsAt (all .left) (now table) (all .at)) (now offs) (all .left) n ⌝ }
     ensures { λ r. ⌜ RecordsAhead (now (table .entry)) (recordsAt (all .left) (now (table .entry)) (all .at)) c (r .at)
         (r .left) ⌝ }
 {
@@ -139,6 +145,9 @@ pub fn find_char(
         × Indexed (now table) (recordsAt (all .left) (now table) (all .at)) (now offs) (all .left) n ⌝ }
     ensures { λ r. ⌜ FoundIs (now (table .entry)) (recordsAt (all .left) (now (table .entry)) (all .at)) c r ⌝ }
 {
+    if !may_have(offs, c) {
+        return CharRecord::Nothing;
+    }
     let from = nearest_entry(table, all, offs, n, c);
     find_from(table, from, c)
 }

@@ -5,5 +5,6 @@ pub mod layout; // layout.rt: a string at an offset, and what reading a record g
 pub mod shape; // shape.rt: the answers of the check
 pub mod digit; // digit.rt: the type "digit", and the rom that it asks for
 pub mod record; // record.rt: a record whose layout was checked before
+pub mod filter; // filter.rt: a filter over the code points of the records
 pub mod index; // index.rt: the record of a character, by an index over the records
 pub mod theorems; // theorems.rt: the bytes of a table as a value, and what the check accepts (theorems)

@@ -4,13 +4,15 @@ ghost use Rattle.table.specs.Layout.{text};
 ghost use Rattle.table.specs.Check.{item, legalMark, readTexts, readList, readRecords};
 ghost use Rattle.table.specs.Answers.{endOf};
 ghost use lib.ListN.{length};
-ghost use Rattle.table.specs.Index.{IndexIf, indexSize};
+ghost use Rattle.table.specs.Filter.{indexSize};
 ghost use Rattle.record_check.specs.RecordCheck.{RecordCheckIs};
+ghost use Rattle.table_check.specs.Indexed.{ItemsIndexed};
 use record_check::plain::Plain;
 use record_check::plain::plain_at;
 use record_check::record::RecordCheck;
 use record_check::record::check_record;
 use record_check::texts::legal_mark;
+use table::filter::mark_char;
 use table::index::Index;
 use table::index::RecordRun;
 use table::index::index_record;
@@ -76,7 +78,7 @@ fn record_item(s: &[u8], at: usize, least: u64) -> RecordCheck
     }
 }
 
-// The records, n of them, their code points rising. Their index is made on the way, and how many entries it has.
+// The records, n of them, their code points rising. Their index is made on the way, with its filter, and how many entries it has.
 pub fn records_end(
     s: &[u8],
     from: usize,
@@ -86,7 +88,7 @@ pub fn records_end(
 ) -> ItemsCheck
     requires { ⌜ length (now offs) ≡ indexSize ⌝ }
     ensures { λ r. ⌜ r ≡ endOf (readRecords n 0 (now (s .entry)) from) ⌝ }
-    ensures indexed { λ _. ⌜ IndexIf (now (s .entry)) from n (now (offs .exit)) (now (entries .exit)) ⌝ }
+    ensures indexed { λ r. ⌜ ItemsIndexed (now (s .entry)) from n (now (offs .exit)) (now (entries .exit)) r ⌝ }
 {
     let mut at = from;
     let mut left = n;
@@ -95,6 +97,7 @@ pub fn records_end(
     while 0 < left {
         match record_item(s, at, least) {
             RecordCheck::Next(code, next) => {
+                mark_char(offs, code);
                 index = index_record(offs, index, n, RecordRun { at: at, left: left });
                 at = next;
                 least = code as u64 + 1;

@@ -1,6 +1,6 @@
 -- Laws of `specs/Index.antt`. No contract cites this file.
--- In order: the records from an offset on, one at a time; a turn of `find_from`; a turn of `index_record`; the index with an entry more; where a search in it ends.
-use mathlib.Core.Path.{_≡_, refl, sym, ap, _∙_}
+-- In order: the records from an offset on, one at a time; a turn of `find_from`; a turn of `index_record`; the index with an entry more, with a bit more in its filter; where a search in it ends.
+use mathlib.Core.Path.{_≡_, refl, sym, ap, subst, _∙_}
 use mathlib.Core.Bool.{Bool, true, false, cond}
 use mathlib.Core.List.{List, [], _∷_}
 use mathlib.Core.Option.{none, some}
@@ -24,7 +24,9 @@ use Rattle.table.proofs.LayoutLaws.{many-nil, many-fault, many-cons}
 use Rattle.table.proofs.LookupLaws.{rising-lower, drop-stops, found-other}
 use Rattle.table.specs.Walk.{Stands}
 use Rattle.table.proofs.record.WalkLaws.{record-begins}
-use Rattle.table.specs.Index.{FoundAt, FoundIs, Whole, RecordsTail, RecordsAhead, Entry, strideOf, Indexed, IndexGrowing}
+use Rattle.table.specs.Filter.{mark, withMark, Filtered}
+use Rattle.table.proofs.filter.FilterLaws.{entry-kept}
+use Rattle.table.specs.Index.{FoundAt, FoundIs, Whole, RecordsTail, RecordsAhead, Entry, strideOf, Entered, IndexGrowing, Filtering}
 use Rattle.table.specs.declared.index.Index.{Index}
 use Rattle.table.specs.declared.index.CharRecord.{CharRecord}
 use Rattle.table.specs.declared.index.CharRecord.the-variants.{At, Nothing}
@@ -143,7 +145,7 @@ pub tail-all : (t : List ℕ) (at left : ℕ) → Whole t at left → RecordsTai
 tail-all t at left h = record { full = h .full; rises = h .rises; finds = λ c k. refl }
 
 -- ---- the index
-pub index-none : (t : List ℕ) (rs : List Record) (os : List ℕ) (all : ℕ) → length os ≡ 256 → IndexGrowing t rs os all (record { n = 0; due = all })
+pub index-none : (t : List ℕ) (rs : List Record) (os : List ℕ) (all : ℕ) → length os ≡ 512 → IndexGrowing t rs os all (record { n = 0; due = all })
 index-none t rs os all l = record {
   made = record { few = omega arith; long = l; inner = λ i h. absurd (omega arith); entries = λ i h. absurd (omega arith) };
   next = omega arith;
@@ -194,8 +196,37 @@ module _ (t : List ℕ) (rs : List Record) (os : List ℕ) (all : ℕ) (x : Inde
       other : (i : ℕ) → i < n → (i ≡ n → ⊥) → Entry t rs (getD (set os n at) i 0) (all - i * strideOf all)
       other i q d = rw (getD-set-other os n i at 0 d) (g .made .entries i q)
 
+-- ---- the filter
+pub growing-marked : (t : List ℕ) (rs : List Record) (os : List ℕ) (all : ℕ) (x : Index) (c : ℕ) → length (withMark os c) ≡ length os → IndexGrowing t rs os all x → IndexGrowing t rs (withMark os c) all x
+growing-marked t rs os all x c l g =
+    let few = g .made .few in
+    record {
+      made = record {
+        few = few;
+        long = l ∙ g .made .long;
+        inner = g .made .inner;
+        entries = λ i h. subst (λ (o : ℕ). Entry t rs o (all - i * strideOf all)) (sym (entry-kept os c i (omega arith))) (g .made .entries i h);
+      };
+      next = g .next;
+    }
+
+pub filtering-all : (t : List ℕ) (os : List ℕ) (at left : ℕ) → Filtering t (recordsAt left t at) os at left
+filtering-all t os at left c u = refl
+
+-- no record is left
+pub filtering-done : (t : List ℕ) (rs : List Record) (os : List ℕ) (at left : ℕ) → Filtering t rs os at left → left ≤ 0 → Filtered rs os
+filtering-done t rs os at left f h c u = f c u ∙ ap (λ (l : List Record). find l c) (rest-none t left at h) ∙ find-nil c
+
+-- a record more, whose bit is set; the bits that were set stay
+pub filtering-next : (t : List ℕ) (rs : List Record) (os : List ℕ) (at left : ℕ) → Filtering t rs os at left → (r : Record) (next : ℕ) → readRecord t at ≡ Is r next → 0 < left
+    → (ns : List ℕ) → ((d : ℕ) → mark os d ≡ 1 → mark ns d ≡ 1) → mark ns (r .code-point) ≡ 1 → Filtering t rs ns next (left - 1)
+filtering-next t rs os at left f r next reads h ns kept here d u =
+    f d (λ m. u (kept d m))
+    ∙ ap (λ (l : List Record). find l d) (rest-cons t left at reads h)
+    ∙ find-behind d r (recordsAt (left - 1) t next) (λ e. u (subst (λ (x : ℕ). mark ns x ≡ 1) e here))
+
 -- from an entry that is not above c one may look for c
-pub index-ahead : (t : List ℕ) (rs : List Record) (os : List ℕ) (all n : ℕ) → Indexed t rs os all n → (i c at : ℕ) → i < n → at ≡ getD os i 0 → leAt t at 4 ≤ c
+pub index-ahead : (t : List ℕ) (rs : List Record) (os : List ℕ) (all n : ℕ) → Entered t rs os all n → (i c at : ℕ) → i < n → at ≡ getD os i 0 → leAt t at 4 ≤ c
     → RecordsAhead t rs c at (all - i * strideOf all)
 index-ahead t rs os all n x i c at h a k =
     let e : Entry t rs at (all - i * strideOf all) = rw a (x .entries i h) in

@@ -1,8 +1,8 @@
 -- `table_check::check_table` meets its contract: what each call answered is what the definition reads there, and the first refusal decides.
-use mathlib.Core.Path.{_≡_, sym, _∙_}
+use mathlib.Core.Path.{_≡_, sym, subst, _∙_}
 use Rattle.table.specs.Answers.{tableOf}
 use Rattle.table.proofs.CheckLaws.{list-ends, list-refused, records-end, records-refused, table-short, first-refused, second-refused, third-refused, fourth-refused, record-refused, table-left, table-is}
-use Rattle.table_check.specs.Indexed.{TableIndexed}
+use Rattle.table_check.specs.Indexed.{ItemsIndexed, TableIndexed}
 use Rattle.table_check.specs.Shape.{ShapeIs}
 use Rattle.table_check.proofs.ShapeLaws.{shape-is}
 use borrow.Author.Needs.{needs}
@@ -89,8 +89,8 @@ unfolding TableIndexed ShapeIs
 returns-7 c = let k4 = c .before .before .before .before .before .before in let k3 = k4 .before .before .before .before in let k2 = k3 .before .before .before .before in let k1 = k2 .before .before .before .before in let u = k1 .before .before .before .before in (record { table = record-refused _ (u .before .if1 .left) (u .u16-at .ensures) (list-ends _ _ (k1 .before .before .before .list-end .ensures) (k1 .before .connectors .given .1)) (list-ends _ _ (k2 .before .before .before .list-end2 .ensures) (k2 .before .plus .given .1)) (list-ends _ _ (k3 .before .before .before .list-end3 .ensures) (k3 .before .minus .given .1)) (list-ends _ _ (k4 .before .before .before .list-end4 .ensures) (k4 .before .records .given .1)) (records-refused _ _ _ (c .before .before .before .records-end .ensures .0) (c .before .number5 .given .1)); shape = tt }, tt)
 
 returns-8 : tie.Need-returns-8
-unfolding tableOf TableIndexed ShapeIs
-returns-8 c = let k = c .before in let k4 = k .before .before .before .before .before .before in let k3 = k4 .before .before .before .before in let k2 = k3 .before .before .before .before in let k1 = k2 .before .before .before .before in let u = k1 .before .before .before .before in (record { table = table-is _ (u .before .if1 .left) (u .u16-at .ensures) (list-ends _ _ (k1 .before .before .before .list-end .ensures) (k1 .before .connectors .given .1)) (list-ends _ _ (k2 .before .before .before .list-end2 .ensures) (k2 .before .plus .given .1)) (list-ends _ _ (k3 .before .before .before .list-end3 .ensures) (k3 .before .minus .given .1)) (list-ends _ _ (k4 .before .before .before .list-end4 .ensures) (k4 .before .records .given .1)) (records-end _ _ _ (k .before .before .before .records-end .ensures .0) (k .before .end .given .1)) (c .if2 .left); shape = shape-is _ (u .u16-at .ensures) (list-ends _ _ (k1 .before .before .before .list-end .ensures) (k1 .before .connectors .given .1)) (list-ends _ _ (k2 .before .before .before .list-end2 .ensures) (k2 .before .plus .given .1)) (list-ends _ _ (k3 .before .before .before .list-end3 .ensures) (k3 .before .minus .given .1)) (list-ends _ _ (k4 .before .before .before .list-end4 .ensures) (k4 .before .records .given .1)) }, rw (u .u16-at .ensures) at (k .before .before .before .records-end .ensures .1))
+unfolding tableOf ItemsIndexed TableIndexed ShapeIs
+returns-8 c = let k = c .before in let k4 = k .before .before .before .before .before .before in let k3 = k4 .before .before .before .before in let k2 = k3 .before .before .before .before in let k1 = k2 .before .before .before .before in let u = k1 .before .before .before .before in (record { table = table-is _ (u .before .if1 .left) (u .u16-at .ensures) (list-ends _ _ (k1 .before .before .before .list-end .ensures) (k1 .before .connectors .given .1)) (list-ends _ _ (k2 .before .before .before .list-end2 .ensures) (k2 .before .plus .given .1)) (list-ends _ _ (k3 .before .before .before .list-end3 .ensures) (k3 .before .minus .given .1)) (list-ends _ _ (k4 .before .before .before .list-end4 .ensures) (k4 .before .records .given .1)) (records-end _ _ _ (k .before .before .before .records-end .ensures .0) (k .before .end .given .1)) (c .if2 .left); shape = shape-is _ (u .u16-at .ensures) (list-ends _ _ (k1 .before .before .before .list-end .ensures) (k1 .before .connectors .given .1)) (list-ends _ _ (k2 .before .before .before .list-end2 .ensures) (k2 .before .plus .given .1)) (list-ends _ _ (k3 .before .before .before .list-end3 .ensures) (k3 .before .minus .given .1)) (list-ends _ _ (k4 .before .before .before .list-end4 .ensures) (k4 .before .records .given .1)) }, rw (u .u16-at .ensures) at (subst (ItemsIndexed _ _ _ _ _) (k .before .end .given .1) (k .before .before .before .records-end .ensures .1)))
 
 pub check-table-spec : {M : Type 1} → statement M
 check-table-spec =
