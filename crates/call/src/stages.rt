@@ -8,6 +8,7 @@ ghost use Rattle.numbers.specs.Ready.{workSize};
 ghost use Rattle.table_check.specs.Indexed.{RecordIndex};
 ghost use Rattle.call.specs.Checks.{Accepted};
 ghost use Rattle.call.specs.Stages.{StagesAre};
+use first_stages::bare::is_bare;
 use first_stages::five_passes::PassesAnswer;
 use lattice::Lattice;
 use table::index::INDEX_SIZE;
@@ -21,8 +22,8 @@ pub enum StagesAnswer {
     Made(Lattice),
 }
 
-// The stages, for a line, a table and given edges that passed their checks; silencing says whether singles that may not stand turn inactive.
-pub fn run_stages(
+// All stages in turn.
+fn all_stages(
     work: &mut [u8],
     line: &[u8],
     table: &[u8],
@@ -65,4 +66,41 @@ pub fn run_stages(
             silencing,
         )),
     }
+}
+
+// The stages, for a line, a table and given edges that passed their checks; silencing says whether singles that may not stand turn inactive. A line
+// without given edges that no stage adds an edge to is answered before its offsets are made.
+pub fn run_stages(
+    work: &mut [u8],
+    line: &[u8],
+    table: &[u8],
+    shape: Shape,
+    places: usize,
+    edges: &[u8],
+    count: usize,
+    index: &[u32; INDEX_SIZE],
+    entries: usize,
+    silencing: bool,
+) -> StagesAnswer
+    requires { ⌜ (workSize ≤ length (now work)) × Accepted (now line) (now table) (now edges) places shape count
+        × RecordIndex (now table) shape (now index) entries ⌝ }
+    ensures { λ r. ⌜ StagesAre silencing (tableOf (now (table .entry)) shape) (chars (now (line .entry)))
+        (listed (now (edges .entry))) (now (work .exit)) r ⌝ }
+{
+    let bare = is_bare(line, table, shape, index, entries);
+    if bare & (count == 0) {
+        return StagesAnswer::Made(lattice::ends::empty(work));
+    }
+    all_stages(
+        work,
+        line,
+        table,
+        shape,
+        places,
+        edges,
+        count,
+        index,
+        entries,
+        silencing,
+    )
 }

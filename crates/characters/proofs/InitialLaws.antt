@@ -36,7 +36,7 @@ module _ (t : List ℕ) (h : Shape) (ok : readTable t ≡ Fine (tableOf t h) (le
   said-count : length (tableOf t h .records) ≡ left
   said-count = table-told t ok .counted ∙ sym count
 
-  said-same : recordsAt left t (h .records) ≡ tableOf t h .records
+  pub said-same : recordsAt left t (h .records) ≡ tableOf t h .records
   unfolding tableOf
   said-same = rw (← said-count) (records-first (h .count) t (h .records))
 

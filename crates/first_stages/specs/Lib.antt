@@ -5,3 +5,5 @@ pub mod Stages
 pub mod Five
 -- chars: What the stage of the line's characters leaves.
 pub mod CharStage
+-- bare: A line that no stage adds an edge to.
+pub mod Bare

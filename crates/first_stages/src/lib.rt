@@ -2,6 +2,7 @@
 pub mod given; // given.rt: the given edges
 pub mod five_passes; // five_passes.rt: the five passes, and their joined edges
 pub mod chars; // chars.rt: the characters of the line
+pub mod bare; // bare.rt: whether a line has a character that a stage adds an edge for
 
 ghost use mathlib.Core.Path.{_≡_};
 ghost use mathlib.Core.Bool.{true};

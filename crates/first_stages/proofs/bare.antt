@@ -1,0 +1,2 @@
+-- The proofs of `first_stages::bare`.
+pub mod BareLaws
