@@ -101,6 +101,17 @@ uint32_t rilvostam_add_numbers_without_singles(const uint8_t *line, size_t line_
                                                const uint8_t *edges, size_t edges_len, uint8_t *work, size_t work_len,
                                                uint8_t *out, size_t out_len, uint64_t *at);
 
+/* Many lines with one table, which is checked once: a page of entries, one for each line, in their order. A line ends before a newline (0x0A) or at the end of the bytes; what
+ * follows the last newline is a line only where it is not empty. So no bytes are no line, and a newline alone is one empty line.
+ * An entry is a status (4 bytes), a number (8 bytes) and, where the status is 0, so many bytes of listing. Status and number are what rilvostam_add_numbers answers for the line with
+ * this table, no given edges and RILVOSTAM_OUT bytes of output; an offset in them counts from the start of the line. rilvostam_add_numbers_to_lines itself refuses 1, 4 and 5 alone.
+ * A page holds as many whole entries as out has room for, and none if the first does not fit; RILVOSTAM_ENTRY bytes hold any entry. Call again with the lines from *next on, until
+ * *next is lines_len: the pages in a row are the entries of all lines.
+ * 0: *at is the length of the page in out, *next the offset behind the last line answered, its newline included; 0 where none was, lines_len where all were. On a refusal *next is 0. */
+#define RILVOSTAM_ENTRY 32780
+uint32_t rilvostam_add_numbers_to_lines(const uint8_t *lines, size_t lines_len, const uint8_t *table, size_t table_len,
+                                        uint8_t *work, size_t work_len, uint8_t *out, size_t out_len, uint64_t *at, uint64_t *next);
+
 /* The best edge from place start to place end: the first of its class in listing order. A skip other than 0: no numeric edge.
  * 0: *at is the offset of the edge in the listing, or RILVOSTAM_NONE. The neighbours, the path and the text shown below take their edges so too. */
 uint32_t rilvostam_best_edge(const uint8_t *line, size_t line_len, const uint8_t *listing, size_t listing_len,

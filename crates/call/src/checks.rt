@@ -17,7 +17,7 @@ pub enum CallCheck {
 }
 
 // The refusal of a table, by its number.
-fn table_refusal(number: u8, at: Offset) -> Refusal
+pub fn table_refusal(number: u8, at: Offset) -> Refusal
     ensures { λ r. ⌜ r ≡ tableRefusal number at ⌝ }
 {
     if number == BAD_LAYOUT {
