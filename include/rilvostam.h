@@ -112,6 +112,35 @@ uint32_t rilvostam_add_numbers_without_singles(const uint8_t *line, size_t line_
 uint32_t rilvostam_add_numbers_to_lines(const uint8_t *lines, size_t lines_len, const uint8_t *table, size_t table_len,
                                         uint8_t *work, size_t work_len, uint8_t *out, size_t out_len, uint64_t *at, uint64_t *next);
 
+/* An entry of a page: the answer for one line. */
+typedef struct {
+    uint32_t status;        /* RILVOSTAM_OK, or the refusal of this line */
+    uint64_t at;            /* with a refusal what goes with it; else the length of the listing */
+    const uint8_t *listing; /* with RILVOSTAM_OK the listing, a part of the page; with a refusal no bytes */
+    size_t listing_len;
+} rilvostam_entry;
+
+/* The entries of a page one after the other, from *at = 0 on:
+ *     uint64_t at = 0; rilvostam_entry e;
+ *     while (rilvostam_next_entry(page, len, &at, &e)) ..
+ * 1: *e is the next entry and *at the offset behind it. 0: no whole entry stands at *at, and both are as they were. Of a page that the library wrote *at is then its length. */
+static inline int rilvostam_next_entry(const uint8_t *page, size_t page_len, uint64_t *at, rilvostam_entry *e) {
+    uint64_t here = *at, number = 0;
+    uint32_t status = 0;
+    int i;
+    if (here > page_len || page_len - here < 12) return 0;
+    for (i = 3; i >= 0; i--) status = status << 8 | page[here + i];
+    for (i = 11; i >= 4; i--) number = number << 8 | page[here + i];
+    here += 12;
+    if (status == RILVOSTAM_OK && page_len - here < number) return 0;
+    e->status = status;
+    e->at = number;
+    e->listing = page + here;
+    e->listing_len = status == RILVOSTAM_OK ? (size_t)number : 0;
+    *at = here + e->listing_len;
+    return 1;
+}
+
 /* The best edge from place start to place end: the first of its class in listing order. A skip other than 0: no numeric edge.
  * 0: *at is the offset of the edge in the listing, or RILVOSTAM_NONE. The neighbours, the path and the text shown below take their edges so too. */
 uint32_t rilvostam_best_edge(const uint8_t *line, size_t line_len, const uint8_t *listing, size_t listing_len,

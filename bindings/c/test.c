@@ -109,6 +109,54 @@ static void numbers(void) {
     CHECK(rilvostam_which_numbers(bytes("x"), 1, two_values, sizeof two_values - 1, n, 3) == 2 && n[0].value == 5 && n[1].value == 3);
 }
 
+/* What the entries of a page say, behind what was said before: the length of each listing, or a refusal with what goes with it. */
+static void say_entries(const uint8_t *page, size_t len, char *said) {
+    rilvostam_entry e;
+    uint64_t at = 0;
+    while (rilvostam_next_entry(page, len, &at, &e)) {
+        if (e.status) sprintf(said + strlen(said), "refused %u ", (unsigned)e.status);
+        sprintf(said + strlen(said), "%llu,", (unsigned long long)e.at);
+        CHECK(e.status ? e.listing_len == 0 : e.listing_len == e.at && e.listing + e.listing_len <= page + len);
+    }
+    CHECK(at == len);
+}
+
+/* A register: a line with a number, an empty one, one that is refused, one without a newline behind it. */
+static void many_lines(void) {
+    static uint8_t page[RILVOSTAM_ENTRY];
+    const char *lines = "墓三号\n\nx\xff\n一万五";
+    size_t lines_len = strlen(lines), room, behind;
+    char whole[256] = "", said[256] = "", expected[256] = "";
+    uint64_t at, next;
+    rilvostam_entry e;
+    sprintf(expected, "%u,2,refused 2 1,%u,", (unsigned)list("墓三号"), (unsigned)list("一万五"));
+    CHECK(rilvostam_add_numbers_to_lines(bytes(lines), lines_len, table, sizeof table, work, sizeof work, page, sizeof page, &at, &next) == RILVOSTAM_OK && next == lines_len);
+    say_entries(page, (size_t)at, whole);
+    CHECK(strcmp(whole, expected) == 0);
+    /* the last entry has the listing that the line alone has */
+    for (behind = (size_t)at, at = 0; at < behind;) CHECK(rilvostam_next_entry(page, behind, &at, &e));
+    CHECK(e.listing_len == list("一万五") && memcmp(e.listing, listing, e.listing_len) == 0);
+    /* by pages of just one entry: the same in a row; a page too short for the first has none */
+    room = 12 + list("一万五");
+    for (behind = 0; behind < lines_len; behind += (size_t)next) {
+        CHECK(rilvostam_add_numbers_to_lines(bytes(lines) + behind, lines_len - behind, table, sizeof table, work, sizeof work, page, room, &at, &next) == RILVOSTAM_OK);
+        if (next == 0) break;
+        say_entries(page, (size_t)at, said);
+    }
+    CHECK(strcmp(said, whole) == 0);
+    CHECK(rilvostam_add_numbers_to_lines(bytes(lines), lines_len, table, sizeof table, work, sizeof work, page, 13, &at, &next) == RILVOSTAM_OK && at == 0 && next == 0);
+    CHECK(rilvostam_add_numbers_to_lines(bytes("\n"), 0, table, sizeof table, work, sizeof work, page, sizeof page, &at, &next) == RILVOSTAM_OK && at == 0 && next == 0);
+    CHECK(rilvostam_add_numbers_to_lines(bytes("\n"), 1, table, sizeof table, work, sizeof work, page, sizeof page, &at, &next) == RILVOSTAM_OK && at == 14 && next == 1);
+    CHECK(rilvostam_add_numbers_to_lines(bytes(lines), lines_len, bytes("\0\0"), 2, work, sizeof work, page, sizeof page, &at, &next) == RILVOSTAM_TABLE_LAYOUT && at == 2 && next == 0);
+    /* an entry that is cut off anywhere is none, and *at stays */
+    for (room = 0; room < 14; room++) {
+        at = 0;
+        CHECK(!rilvostam_next_entry(bytes("\0\0\0\0\2\0\0\0\0\0\0\0\0\0"), room, &at, &e) && at == 0);
+    }
+    at = UINT64_MAX;
+    CHECK(!rilvostam_next_entry(page, sizeof page, &at, &e) && at == UINT64_MAX);
+}
+
 static void tables(void) {
     uint64_t at;
     list("");
@@ -154,6 +202,7 @@ int main(void) {
     words();
     edges();
     numbers();
+    many_lines();
     tables();
     reading();
     numerals();

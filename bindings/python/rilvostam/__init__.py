@@ -29,6 +29,7 @@ __all__ = [
     "NO_EDGES",
     "TOP",
     "add_numbers",
+    "add_numbers_to_lines",
     "add_numbers_without_singles",
     "check_table",
     "formal_table",
@@ -51,6 +52,7 @@ NO_EDGES = b"\x00\x00"
 
 _WORK = 65_536
 _OUT = 32_768
+_PAGE = 1 << 20
 _NONE = 2**64 - 1
 
 # Each refusal in the words of include/rilvostam.h: its name, a sentence, and what `at` says with it, "" where it is 0.
@@ -280,6 +282,55 @@ def add_numbers(line: Text, table: Optional[bytes] = None, edges: bytes = NO_EDG
 def add_numbers_without_singles(line: Text, table: Optional[bytes] = None, edges: bytes = NO_EDGES) -> Listing:
     """The same, but 兩参參伍陆陸什 and characters of a value above 1000 that stand alone are inactive."""
     return _called("add_numbers_without_singles", line, table, edges)
+
+
+def add_numbers_to_lines(lines: Text, table: Optional[bytes] = None) -> Iterator[Union[Listing, Refused]]:
+    """The edges of the lines of a register, in their order: for each line what `add_numbers` answers for it, or the refusal, which is not raised. A refusal of the table is.
+
+    A line ends before a newline or at the end; what follows the last newline is a line only where it is not empty. The table is checked once for many lines.
+
+    >>> for answer in add_numbers_to_lines("墓三号\\n一万五\\n無\\n"):
+    ...     print([edge.txt for edge in answer.path()])
+    ['3']
+    ['15000']
+    []
+    """
+    text, chars = _utf8(lines), plain_table() if table is None else table
+    pages = _pages(text, chars)
+    first = next(pages, b"")
+    return _answers(text, first, pages)
+
+
+def _pages(text: bytes, table: bytes) -> Iterator[bytes]:
+    """The pages for the lines; the first call is made also where there is no line, so that a table is refused."""
+    lines = ctypes.create_string_buffer(text, len(text) + 1)
+    work, out = ctypes.create_string_buffer(_WORK), ctypes.create_string_buffer(_PAGE)
+    behind, at, after = 0, ctypes.c_uint64(), ctypes.c_uint64()
+    while True:
+        status = function("add_numbers_to_lines")(
+            ctypes.byref(lines, behind), len(text) - behind, table, len(table), work, _WORK, out, _PAGE, ctypes.byref(at), ctypes.byref(after)
+        )
+        yield out.raw[: _granted(status, at.value)]
+        behind += after.value
+        if behind == len(text):
+            return
+
+
+def _answers(text: bytes, page: bytes, pages: Iterator[bytes]) -> Iterator[Union[Listing, Refused]]:
+    start, at = 0, 0
+    while start < len(text):
+        if at == len(page):
+            page, at = next(pages), 0
+        end = text.find(b"\n", start)
+        line = text[start:] if end < 0 else text[start:end]
+        status, number = struct.unpack_from("<IQ", page, at)
+        at += 12
+        if status:
+            yield Refused(status, number)
+        else:
+            yield Listing(line, page[at : at + number])
+            at += number
+        start += len(line) + 1
 
 
 def _written(name: str, room: int, *given: object) -> bytes:

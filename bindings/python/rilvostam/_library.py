@@ -10,6 +10,7 @@ from typing import Any, Callable, Dict, List
 
 _BYTES = [ctypes.c_char_p, ctypes.c_size_t]
 _OUT = [ctypes.c_void_p, ctypes.c_size_t]
+_PART = [ctypes.c_void_p, ctypes.c_size_t]
 _U64 = ctypes.c_uint64
 _U8 = ctypes.c_uint8
 _AT = ctypes.POINTER(ctypes.c_uint64)
@@ -23,6 +24,7 @@ _FUNCTIONS: Dict[str, List[Any]] = {
     "version": [],
     "add_numbers": _CALL,
     "add_numbers_without_singles": _CALL,
+    "add_numbers_to_lines": _PART + _BYTES + _OUT * 2 + [_AT, _AT],
     "best_edge": _READ + [_U64, _U64, _U8, _AT],
     "right_neighbor": _READ + [_U64, _U8, _AT],
     "left_neighbor": _READ + [_U64, _U8, _AT],

@@ -89,6 +89,47 @@ class Lines(unittest.TestCase):
             self.assertIn(" ", str(refused.exception))
 
 
+class ManyLines(unittest.TestCase):
+    def answers(self, lines):
+        """Bytes of a listing, or number and place of a refusal."""
+        return [(a.number, a.at) if isinstance(a, Refused) else bytes(a) for a in rilvostam.add_numbers_to_lines(lines)]
+
+    def alone(self, lines):
+        found = []
+        for line in lines:
+            try:
+                found.append(bytes(rilvostam.add_numbers(line)))
+            except Refused as refused:
+                found.append((refused.number, refused.at))
+        return found
+
+    def test_each_as_the_line_alone(self):
+        lines = ["墓三号", "", "一万五", "九" * 17, "x" * 257, "百分之五\r", "無"]
+        self.assertEqual(self.answers("\n".join(lines)), self.alone(lines))
+        self.assertEqual(self.answers("\n".join(lines) + "\n"), self.alone(lines))
+        self.assertEqual(self.answers(b"\xff\nx"), [(2, 0), rilvostam.NO_EDGES])
+        self.assertEqual(self.answers(""), [])
+        self.assertEqual(self.answers("\n"), [rilvostam.NO_EDGES])
+        self.assertEqual(self.answers("\n\n"), [rilvostam.NO_EDGES] * 2)
+
+    def test_the_lines_are_the_listings(self):
+        first, second = rilvostam.add_numbers_to_lines("墓三号\nx五")
+        self.assertEqual((first.line, second.line), ("墓三号", "x五"))
+        self.assertEqual(second.nearest_number(0).value, 5)
+
+    def test_pages_in_a_row(self):
+        lines = ["墓一万五号", "墓二百五十六号"] * 3000
+        answers = self.answers("\n".join(lines))
+        self.assertEqual(answers, self.alone(lines[:2]) * 3000)
+        self.assertGreater(sum(map(len, answers)), 2 << 20)
+
+    def test_refusals(self):
+        for lines in ("", "x"):
+            with self.assertRaises(Refused) as refused:
+                rilvostam.add_numbers_to_lines(lines, b"\0\0")
+            self.assertEqual((refused.exception.number, refused.exception.at), (4, 2))
+
+
 class Reading(unittest.TestCase):
     def setUp(self):
         self.listing = rilvostam.add_numbers("三分之一と六分之一")

@@ -12,12 +12,14 @@
 #![deny(missing_docs)]
 
 mod edges;
+mod lines;
 mod refusal;
 mod sheet;
 mod tables;
 mod which;
 
 pub use edges::{Edge, Edges, NumData, edge_at, edges};
+pub use lines::{ENTRY, Entries, LineAnswers, Page, add_numbers_to_lines, add_numbers_to_lines_into, entries};
 pub use refusal::{Cause, Refusal};
 pub use sheet::{ROW, SHEET_ROWS, proof_sheet};
 pub use tables::{TABLE, check_table, formal_table, formal_table_into, irregular_record, plain_table, plain_table_into};

@@ -19,8 +19,11 @@ fn rows(columns: usize) -> impl Iterator<Item = Vec<&'static str>> {
 }
 
 #[test]
-fn dumps_are_table_and_listing() {
-    let [table, listing] = &dumps()[..] else { panic!("two dumps") };
+fn dumps_are_table_listing_and_page() {
+    let [table, listing, page] = &dumps()[..] else { panic!("three dumps") };
+    let (mut work, mut out) = (vec![0; WORK], vec![0; ENTRY]);
+    assert_eq!(add_numbers_to_lines_into(b"x\nx\xFF", table, &mut work, &mut out), Ok(Page { len: page.len(), next: 4 }));
+    assert_eq!(&out[..page.len()], page);
     assert_eq!(check_table(table), Ok(1));
     assert_eq!(&add_numbers("-五", table, NO_EDGES).unwrap(), listing);
     let (first, next) = edge_at(listing, 2).unwrap();
