@@ -33,7 +33,7 @@ use Rattle.passes.specs.Characters.{charEdge}
 use Rattle.passes.specs.Passes as passes
 use Rattle.passes.specs.Passes.{digitEdge, isScript, cjk}
 use Rattle.pass_list.specs.StoredEdge.{StoredEdge, Small}
-use Rattle.pass_list.specs.Edges.{between, edgeOf, WellMade}
+use Rattle.pass_list.specs.Edges.{between, edgeOf, WellMade, noPoint}
 use Rattle.pass_list.specs.Kind.{kindNumber}
 use Rattle.characters.specs.CharStored.{numberIf, charStored}
 
@@ -159,7 +159,7 @@ module _ (w t : List ℕ) (p : NumProp) (at i c : ℕ) where
           let one : i + 1 - i ≡ 1 = omega arith in
           rw one (digit-txt (partOf t (p .«num_type»)) (bit (p .map) 1) (p .numbers .value) (optionally (bit (p .map) 0) (partOf t (p .rom))) (encode c) legal d)
 
-      pub char-made : digitRule (recordOf t p) ≡ true → WellMade w t stored-edge
+      pub char-made : digitRule (recordOf t p) ≡ true → WellMade noPoint w t stored-edge
       unfolding charStored
       char-made legal = record {
         ordered = omega arith;
@@ -170,6 +170,9 @@ module _ (w t : List ℕ) (p : NumProp) (at i c : ℕ) where
         gap = ap passes.gap char-edge-is ∙ gap-is;
         script = ap (λ (e : NumEdge). isScript (e .script) cjk) char-edge-is ∙ script-same;
         digit-text = λ d. ap (λ (e : NumEdge). e .txt) char-edge-is ∙ digit-text legal d;
+        digit-whole = λ d. refl;
+        mark = refl;
+        point-before = λ h. absurd (omega arith);
       }
 
 -- ---- the bounds
@@ -177,6 +180,10 @@ module _ (t : List ℕ) (p : NumProp) (at i c : ℕ) where
   pub char-kind : kindNumber (charStored t p at i c .kind) ≡ 0
   unfolding charStored
   char-kind = refl
+
+  pub char-whole : charStored t p at i c .decimals ≡ 0
+  unfolding charStored
+  char-whole = refl
 
   pub char-small : legalNumbers (numbersIn (recordOf t p)) ≡ true → Small (charStored t p at i c)
   unfolding legalNumbers recordOf charStored

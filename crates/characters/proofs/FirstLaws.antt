@@ -19,12 +19,13 @@ use Rattle.table.specs.declared.layout.NumProp.{NumProp}
 use Rattle.table.proofs.LayoutLaws.{numbers-are}
 use Rattle.table.proofs.record.WalkLaws.{numbersAt, known-is, stands-told}
 use Rattle.pass_list.specs.StoredEdge.{StoredEdge, Every, nil, cons}
+use Rattle.pass_list.specs.Edges.{noPoint}
 use Rattle.pass_list.specs.FirstStored.{FirstStored}
 use Rattle.pass_list.proofs.in_turn.EveryLaws.{every-append}
 use Rattle.pass_list.proofs.in_turn.FirstStoredLaws.{first-stored-edges-none, first-stored-edges-skip, first-stored-edges-more}
 use Rattle.pass_edge.specs.Grounded.{Grounded, AllGrounded}
 use Rattle.characters.specs.CharStored.{charStored}
-use Rattle.characters.proofs.CharLaws.{char-edge-is, char-kind}
+use Rattle.characters.proofs.CharLaws.{char-edge-is, char-kind, char-whole}
 use Rattle.characters.proofs.LegalLaws.{Lawful, table-told, found-lawful}
 use Rattle.characters.proofs.InitialLaws.{lawful-grounded}
 
@@ -42,7 +43,7 @@ module _ (s : List ℕ) (at : ℕ) {next : ℕ} (stands : Stands s at next) wher
 -- ---- the stored edges of the first n characters, by the records rs of the table's bytes s
 pub record FirstGrounded (w s : List ℕ) (rs : List Record) (n : ℕ) : Type 0 where
   pub stored-edges : List StoredEdge
-  pub first : FirstStored w s rs n stored-edges
+  pub first : FirstStored noPoint w s rs n stored-edges
   pub grounded : AllGrounded w s stored-edges
 
 module _ (w s : List ℕ) (rs : List Record) (lawful : Every (Lawful s) rs) (scalars : Scalars w) where
@@ -60,8 +61,8 @@ module _ (w s : List ℕ) (rs : List Record) (lawful : Every (Lawful s) rs) (sca
         let ground = lawful-grounded s rs lawful w scalars n c inside refl p (l .at) found in
         record {
           stored-edges = so-far .stored-edges ++ (x ∷ []);
-          first = first-stored-edges-more w s rs n c (so-far .stored-edges) inside refl (so-far .first) (recordOf s p) x (found .found)
-              (char-edge-is w s p (l .at) n c inside refl reads) (ground .made) (char-kind s p (l .at) n c);
+          first = first-stored-edges-more noPoint w s rs n c (so-far .stored-edges) inside refl (so-far .first) (recordOf s p) x (found .found)
+              (char-edge-is w s p (l .at) n c inside refl reads) (ground .made) (char-kind s p (l .at) n c) (char-whole s p (l .at) n c);
           grounded = every-append (Grounded w s) (so-far .stored-edges) (x ∷ []) (so-far .grounded) (cons ground nil);
         }
 
@@ -69,11 +70,11 @@ module _ (w s : List ℕ) (rs : List Record) (lawful : Every (Lawful s) rs) (sca
     one-more = go (find rs c) refl
       where
         go : (o : Option Record) → find rs c ≡ o → FirstGrounded w s rs (n + 1)
-        go none e = record { stored-edges = so-far .stored-edges; first = first-stored-edges-skip w s rs n c (so-far .stored-edges) inside refl (so-far .first) e; grounded = so-far .grounded }
+        go none e = record { stored-edges = so-far .stored-edges; first = first-stored-edges-skip noPoint w s rs n c (so-far .stored-edges) inside refl (so-far .first) e; grounded = so-far .grounded }
         go (some r) e = with-record r e
 
   until : (n : ℕ) → n ≤ length w → FirstGrounded w s rs n
-  until zero h = record { stored-edges = []; first = first-stored-edges-none w s rs; grounded = nil }
+  until zero h = record { stored-edges = []; first = first-stored-edges-none noPoint w s rs; grounded = nil }
   until (suc n) h = rw (← (add-one n)) (one-more n (omega arith) (until n (omega arith)))
 
 -- ---- the whole line

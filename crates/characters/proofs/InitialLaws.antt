@@ -23,11 +23,12 @@ use Rattle.table.specs.declared.index.RecordRun.{RecordRun}
 use Rattle.pass_list.specs.StoredEdge.{Every, Small, nil, cons}
 use Rattle.pass_list.specs.Stored.{storedListAt}
 use Rattle.pass_list.proofs.in_turn.EveryLaws.{every-append}
+use Rattle.pass_list.specs.Edges.{noPoint}
 use Rattle.pass_list.proofs.in_turn.FirstStoredLaws.{first-stored-edges-none, first-stored-edges-skip, first-stored-edges-more}
 use Rattle.pass_edge.specs.Grounded.{Rooted, Grounded}
 use Rattle.characters.specs.CharStored.{charStored}
 use Rattle.characters.specs.Initial.{recordsIn, Records, SoFar, Initial}
-use Rattle.characters.proofs.CharLaws.{legal-parts, char-edge-is, char-made, char-kind, char-small}
+use Rattle.characters.proofs.CharLaws.{legal-parts, char-edge-is, char-made, char-kind, char-whole, char-small}
 use Rattle.characters.proofs.LegalLaws.{Lawful, table-told, records-first, found-lawful}
 use Rattle.characters.proofs.RootLaws.{char-rooted}
 
@@ -73,7 +74,7 @@ module _ (t : List ℕ) (all : RecordRun) (ok : Records t all) where
       pub so-far-skip : find (recordsIn t all) c ≡ none → SoFar w t (recordsIn t all) (k + 1) s n
       so-far-skip e =
           let few = so .few in
-          record { stored-edges = first-stored-edges-skip w t (recordsIn t all) k c (storedListAt s 0 n) inside here (so .stored-edges) e; few = omega arith; small = so .small; rooted = so .rooted }
+          record { stored-edges = first-stored-edges-skip noPoint w t (recordsIn t all) k c (storedListAt s 0 n) inside here (so .stored-edges) e; few = omega arith; small = so .small; rooted = so .rooted }
 
       pub so-far-more : (p : NumProp) (at : ℕ) (u : List ℕ) → FoundAt t (recordsIn t all) c p at → storedListAt u 0 (n + 1) ≡ storedListAt s 0 n ++ (charStored t p at k c ∷ [])
           → SoFar w t (recordsIn t all) (k + 1) u (n + 1)
@@ -82,8 +83,8 @@ module _ (t : List ℕ) (all : RecordRun) (ok : Records t all) where
           let x = charStored t p at k c in
           let sound = found-sound p at f in
           record {
-            stored-edges = rw put (first-stored-edges-more w t (recordsIn t all) k c (storedListAt s 0 n) inside here (so .stored-edges) (recordOf t p) x (f .found)
-                (char-edge-is w t p at k c inside here (f .reads)) (sound .made) (char-kind t p at k c));
+            stored-edges = rw put (first-stored-edges-more noPoint w t (recordsIn t all) k c (storedListAt s 0 n) inside here (so .stored-edges) (recordOf t p) x (f .found)
+                (char-edge-is w t p at k c inside here (f .reads)) (sound .made) (char-kind t p at k c) (char-whole t p at k c));
             few = omega arith;
             small = rw put (every-append Small (storedListAt s 0 n) (x ∷ []) (so .small) (cons (sound .small) nil));
             rooted = rw put (every-append (Rooted t) (storedListAt s 0 n) (x ∷ []) (so .rooted) (cons (sound .rooted) nil));
@@ -91,7 +92,7 @@ module _ (t : List ℕ) (all : RecordRun) (ok : Records t all) where
 
 pub so-far-none : (w t : List ℕ) (rs : List Record) (s : List ℕ) → SoFar w t rs 0 s 0
 unfolding storedListAt
-so-far-none w t rs s = record { stored-edges = first-stored-edges-none w t rs; few = omega arith; small = nil; rooted = nil }
+so-far-none w t rs s = record { stored-edges = first-stored-edges-none noPoint w t rs; few = omega arith; small = nil; rooted = nil }
 
 -- the line ends at place k
 pub so-far-all : (line t : List ℕ) (rs : List Record) (k at n : ℕ) (s : List ℕ) → Reached line k at → chars (drop at line) ≡ [] → SoFar (chars line) t rs k s n

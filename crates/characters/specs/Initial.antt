@@ -17,6 +17,7 @@ use Rattle.table.specs.declared.shape.Shape.{Shape}
 use Rattle.table.specs.declared.index.RecordRun.{RecordRun}
 use Rattle.pass_list.specs.StoredEdge.{Every, AllSmall}
 use Rattle.pass_list.specs.Stored.{storedListAt}
+use Rattle.pass_list.specs.Edges.{noPoint}
 use Rattle.pass_list.specs.FirstStored.{FirstStored}
 use Rattle.pass_edge.specs.Grounded.{Rooted}
 
@@ -30,7 +31,7 @@ pub record Records (t : List ℕ) (all : RecordRun) : Type 0 where
   pub full : length (recordsIn t all) ≡ all .left
 
 pub record SoFar (w t : List ℕ) (rs : List Record) (k : ℕ) (s : List ℕ) (n : ℕ) : Type 0 where
-  pub stored-edges : FirstStored w t rs k (storedListAt s 0 n)
+  pub stored-edges : FirstStored noPoint w t rs k (storedListAt s 0 n)
   pub few : n ≤ k
   pub small : AllSmall (storedListAt s 0 n)
   pub rooted : Every (Rooted t) (storedListAt s 0 n)

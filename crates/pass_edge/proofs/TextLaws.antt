@@ -19,7 +19,8 @@ use Rattle.whole.specs.Decimal.{decimal, padded}
 use Rattle.whole.proofs.DecimalLaws.{length-padded, length-decimal-top}
 use Rattle.pass_list.specs.declared.record.PassEdge.{PassEdge}
 use Rattle.pass_list.specs.StoredEdge.{StoredEdge, EdgeIs}
-use Rattle.pass_list.specs.Edges.{between, kindName, txtOf, edgeOf}
+use Rattle.pass_list.specs.Edges.{between, rowText, kindName, txtOf, edgeOf}
+use Rattle.pass_list.proofs.in_turn.Theorems.{no-decimals}
 use Rattle.pass_list.specs.Kind.{kindNumber}
 use Rattle.numbers.specs.Ready.{Offsets}
 use Rattle.pass_edge.proofs.places.PlacesLaws.{offset-rises, part-between}
@@ -118,8 +119,8 @@ module _ (w t : List ℕ) (e : PassEdge) (x : StoredEdge) (h : EdgeIs e x) where
   unfolding charTxt
   txt-char z = let k : kindNumber (x .kind) ≡ 0 = sym kind-is ∙ z in rw (eq-eqb (kindNumber (x .kind)) 0 k, h .is)
 
-  pub txt-digits : {v : ℕ} → (kindNumber (e .kind) ≡ 0 → ⊥) → kindNumber (e .kind) ≡ 1 → v ≡ x .value → padded (e .end .0 - e .start .0) v ≡ txtOf w t x
-  txt-digits n z q = let k : kindNumber (x .kind) ≡ 1 = sym kind-is ∙ z in rw (ne-eqb (kindNumber (x .kind)) 0 (λ o. omega arith), eq-eqb (kindNumber (x .kind)) 1 k, h .is, q)
+  pub txt-digits : {v : ℕ} → (kindNumber (e .kind) ≡ 0 → ⊥) → kindNumber (e .kind) ≡ 1 → x .decimals ≡ 0 → v ≡ x .value → padded (e .end .0 - e .start .0) v ≡ txtOf w t x
+  txt-digits n z d q = let k : kindNumber (x .kind) ≡ 1 = sym kind-is ∙ z in rw (ne-eqb (kindNumber (x .kind)) 0 (λ o. omega arith), eq-eqb (kindNumber (x .kind)) 1 k, d, h .is, q)
 
   pub txt-value : {v : ℕ} → (kindNumber (e .kind) ≡ 0 → ⊥) → (kindNumber (e .kind) ≡ 1 → ⊥) → v ≡ x .value → decimal v ≡ txtOf w t x
   txt-value n z q = rw (ne-eqb (kindNumber (x .kind)) 0 (λ o. n (kind-is ∙ o)), ne-eqb (kindNumber (x .kind)) 1 (λ o. z (kind-is ∙ o)), q)
@@ -150,9 +151,9 @@ pub txt-short : (w t : List ℕ) (x : StoredEdge) → Grounded w t x → length 
 unfolding charTxt
 txt-short w t x s n = go (eqb (kindNumber (x .kind)) 0) (eqb (kindNumber (x .kind)) 1) refl
   where
-    go : (b c : Bool) → eqb (kindNumber (x .kind)) 0 ≡ b → length (cond b (charTxt w t (x .record-at) (x .start) (x .end)) (cond c (padded (x .end - x .start) (x .value)) (decimal (x .value)))) ≤ 256
+    go : (b c : Bool) → eqb (kindNumber (x .kind)) 0 ≡ b → length (cond b (charTxt w t (x .record-at) (x .start) (x .end)) (cond c (rowText x) (decimal (x .value)))) ≤ 256
     go true c e = let k = eqb-true (kindNumber (x .kind)) 0 e in omega (arith, own-short w t (x .record-at) (x .start) (x .end) (s .rooted .legal k) (s .rooted .one k))
-    go false true e = omega (arith, length-padded (x .end - x .start) (x .value), s .made .inside)
+    go false true e = rw (no-decimals (s .made)) (omega (arith, length-padded (x .end - x .start) (x .value), s .made .inside))
     go false false e = omega (arith, length-decimal-top (x .value) (s .small .value))
 
 module _ (line t : List ℕ) (e : PassEdge) (x : StoredEdge) (h : StoredIs line t e x) where

@@ -18,7 +18,7 @@ use Rattle.table.specs.Layout.{Is, readRecord, numbersIn, maxString}
 use Rattle.table.specs.Check.{legalTexts, legalNumbers}
 use Rattle.pass_list.specs.declared.record.PassEdge.{PassEdge}
 use Rattle.pass_list.specs.StoredEdge.{StoredEdge, Small, Every, EdgeIs}
-use Rattle.pass_list.specs.Edges.{WellMade}
+use Rattle.pass_list.specs.Edges.{WellMade, noPoint}
 use Rattle.pass_list.specs.Kind.{kindNumber}
 
 pub record LegalAt (t : List ℕ) (at : ℕ) : Type 0 where
@@ -39,7 +39,7 @@ pub record Rooted (t : List ℕ) (x : StoredEdge) : Type 0 where
   pub script : x .has-script ≡ true → ScriptAt t (x .script-at) (x .script-len)
 
 pub record Grounded (w t : List ℕ) (x : StoredEdge) : Type 0 where
-  pub made : WellMade w t x
+  pub made : WellMade noPoint w t x
   pub small : Small x
   pub rooted : Rooted t x
 

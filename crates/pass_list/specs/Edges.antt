@@ -2,15 +2,17 @@
 -- Definitions only.
 --     between w a b     the bytes of the characters of w from place a to place b
 --     ofRecord t at f d what f takes from the record of t at an offset; d where there is none
---     edgeOf w t x      the edge that x stands for
---     chainOf w t c     the chain that c stands for
---     WellMade w t x    the marks of x say what the texts of its edge say, and its absent numbers are 0
+--     digitsText k n v  the digits v over n places, with a point before the last k of them where k is not 0
+--     edgeOf w t x, chainOf w t c                 the edge that x stands for, the chain that c stands for
+--     decimalEdgeOf w t x, decimalChainOf w t c   the same, with the decimals
+--     WellMade point w t x  the marks of x say what the texts of its edge say, its absent numbers are 0, and its points are those of `point`, by their places
+--     noPoint           the points of the first call
 -- Assumes nothing.
 use mathlib.Core.Path.{_≡_}
 use mathlib.Core.Bool.{Bool, true, false, cond}
-use mathlib.Core.List.{List, []}
+use mathlib.Core.List.{List, [], _∷_, _++_}
 use mathlib.Core.Option.{Option, none, some, Option·getD, Option·map}
-use Prim.Native.Nat.{ℕ, _-_, _≤_, _<_}
+use Prim.Native.Nat.{ℕ, zero, suc, _-_, _≤_, _<_}
 use lib.ListN.{length, take, drop}
 use lib.Dec.{eqb}
 use Rattle.fields.specs.Part.{part}
@@ -23,6 +25,7 @@ use Rattle.passes.specs.NumEdge.{NumEdge}
 use Rattle.passes.specs.Characters.{lowest}
 use Rattle.passes.specs.Passes as passes
 use Rattle.passes.specs.Passes.{passName, D1, G1, G2, G3, G4, digitEdge, isScript, cjk}
+use Rattle.passes.specs.DecimalPasses.{DecimalEdge, DecimalChain, pointCharacter}
 use Rattle.pass_list.specs.StoredEdge.{StoredEdge}
 use Rattle.pass_list.specs.StoredPass.{StoredChain}
 use Rattle.pass_list.specs.Kind.{kindNumber}
@@ -37,11 +40,22 @@ ofRecord t at f d = onField (readRecord t at) (λ r next. f r) d
 abbrev pub kindName : ℕ → Text
 kindName k = cond (eqb k 1) (passName D1) (cond (eqb k 2) (passName G1) (cond (eqb k 3) (passName G2) (cond (eqb k 4) (passName G3) (passName G4))))
 
+-- "orig_txt, txt and value_s keep the point in its place" (02, S-13)
+abbrev pub pointed : ℕ → Text → Text
+pointed k ds = take (length ds - k) ds ++ (pointCharacter ∷ drop (length ds - k) ds)
+
+abbrev pub digitsText : ℕ → ℕ → ℕ → Text
+digitsText zero n v = padded n v
+digitsText (suc k) n v = pointed (suc k) (padded (n - 1) v)
+
+abbrev pub rowText : StoredEdge → Text
+rowText x = digitsText (x .decimals) (x .end - x .start) (x .value)
+
 -- an edge joined by D1 has its digits for txt and value_s, the others their value; a character's is rom, or else the character
 abbrev pub txtOf : List ℕ → List ℕ → StoredEdge → Text
 txtOf w t x =
     cond (eqb (kindNumber (x .kind)) 0) (ofRecord t (x .record-at) (λ r. Option·getD (r .rom) (between w (x .start) (x .end))) [])
-    (cond (eqb (kindNumber (x .kind)) 1) (padded (x .end - x .start) (x .value)) (decimal (x .value)))
+    (cond (eqb (kindNumber (x .kind)) 1) (rowText x) (decimal (x .value)))
 
 unfoldable pub edgeOf : List ℕ → List ℕ → StoredEdge → NumEdge
 edgeOf w t x = record {
@@ -57,13 +71,19 @@ edgeOf w t x = record {
   script = optionally (x .has-script) (part t (x .script-at) (x .script-len));
   large-power = x .large-power;
   active = true;
-  value-s = cond (eqb (kindNumber (x .kind)) 1) (some (padded (x .end - x .start) (x .value))) none;
+  value-s = cond (eqb (kindNumber (x .kind)) 1) (some (rowText x)) none;
 }
 
 unfoldable pub chainOf : List ℕ → List ℕ → StoredChain → passes.Chain
 chainOf w t c = record { edge = edgeOf w t (c .edge); more = c .more; near = optionally (c .has-near) (c .near) }
 
-pub record WellMade (w t : List ℕ) (x : StoredEdge) : Type 0 where
+abbrev pub decimalEdgeOf : List ℕ → List ℕ → StoredEdge → DecimalEdge
+decimalEdgeOf w t x = record { edge = edgeOf w t x; decimals = x .decimals }
+
+abbrev pub decimalChainOf : List ℕ → List ℕ → StoredChain → DecimalChain
+decimalChainOf w t c = record { chain = chainOf w t c; decimals = c .edge .decimals }
+
+pub record WellMade (point : ℕ → Bool) (w t : List ℕ) (x : StoredEdge) : Type 0 where
   pub ordered : x .start < x .end
   pub inside : x .end ≤ length w
   pub value-absent : x .has-value ≡ false → x .value ≡ 0
@@ -73,3 +93,11 @@ pub record WellMade (w t : List ℕ) (x : StoredEdge) : Type 0 where
   pub script : isScript (edgeOf w t x .script) cjk ≡ x .cjk
   -- a digit's txt is that digit, as the table's check has it
   pub digit-text : x .digit ≡ true → edgeOf w t x .txt ≡ padded (x .end - x .start) (x .value)
+  pub digit-whole : x .digit ≡ true → x .decimals ≡ 0
+  pub mark : x .point ≡ point (x .end)
+  -- before its decimals stands a point
+  pub point-before : 0 < x .decimals → point (x .end - suc (x .decimals)) ≡ true
+
+-- "For lines without a point the call agrees with the first": no edge has decimals then
+abbrev pub noPoint : ℕ → Bool
+noPoint p = false

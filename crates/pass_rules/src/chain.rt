@@ -12,10 +12,12 @@ use crate::g2_rule;
 use crate::g3_rule;
 use crate::g4_rule;
 use crate::joined::joined_edge;
-use crate::joined::joined_value;
+use crate::meets::joined_decimals;
+use crate::meets::meets;
+use crate::value::Over;
+use crate::value::value_over;
 use pass_list::record::PassEdge;
 use pass_list::run::Pass;
-use whole::Bounded;
 
 pub struct Chain {
     // the edge over the chain: its value is the sum so far, its base the last one's
@@ -92,18 +94,20 @@ impl Chain {
         ensures { λ r. ⌜ ((x : StoredChain) (y : StoredEdge) → ChainIs self x → EdgeIs e y
             → r ≡ answer (passOf pass) x y) ⌝ }
     {
-        if self.edge.end.0 != e.start.0 {
+        let last = self.edge;
+        if !meets(pass, last, e) {
             return Next::Ends;
         }
-        let last = self.edge;
         let r = counted(pass, last, e);
         if !ruled(pass, self, r) {
             return Next::Ends;
         }
-        match joined_value(pass, last.num.value, r.num.value) {
-            Bounded::Above => Next::Above,
-            Bounded::Fits(v) => {
-                let over = joined_edge(pass, last, r, v);
+        match value_over(pass, last, r) {
+            Over::Apart => Next::Ends,
+            Over::Above => Next::Above,
+            Over::Value(v) => {
+                let decimals = joined_decimals(pass, last, e);
+                let over = joined_edge(pass, last, r, v, decimals);
                 self.edge = over;
                 self.more = true;
                 if !e.num.gap {

@@ -23,10 +23,10 @@ fn with_digit(l: f64, r: f64) -> Bounded
     }
 }
 
-// The value over a chain of value l and a next edge that counts r.
+// The value over a chain of value l and a next edge that counts r, both without decimals; D1's with any.
 pub fn joined_value(pass: Pass, l: f64, r: f64) -> Bounded
     ensures { λ v. ⌜ ((m n : ℕ) → m ≤ TOP → n ≤ TOP → l ≡ ofNat m → r ≡ ofNat n
-        → v ≡ value (valueOf (passOf pass) m n)) ⌝ }
+        → v ≡ value (valueOf (passOf pass) 0 m n)) ⌝ }
 {
     match pass {
         Pass::D1 => with_digit(l, r),
@@ -50,10 +50,10 @@ fn makes_large_power(pass: Pass) -> bool
     }
 }
 
-// The edge over l and r, of value v.
-pub fn joined_edge(pass: Pass, l: PassEdge, r: PassEdge, v: f64) -> PassEdge
+// The edge over l and r, of value v with so many decimals.
+pub fn joined_edge(pass: Pass, l: PassEdge, r: PassEdge, v: f64, decimals: u16) -> PassEdge
     ensures { λ e. ⌜ ((x y : StoredEdge) (n : ℕ) → l ≡ passEdge x → r ≡ passEdge y → v ≡ ofNat n
-        → e ≡ passEdge (over (passOf pass) x y n)) ⌝ }
+        → e ≡ passEdge (over (passOf pass) x y n decimals)) ⌝ }
 {
     let large_power = makes_large_power(pass);
     let start = l.start;
@@ -66,7 +66,7 @@ pub fn joined_edge(pass: Pass, l: PassEdge, r: PassEdge, v: f64) -> PassEdge
     num.large_power = large_power;
     num.digit = false;
     num.gap = false;
-    num.decimals = 0;
+    num.decimals = decimals;
     PassEdge {
         start: start,
         end: end,

@@ -2,6 +2,8 @@
 // those of the passes on numbers and marks: x is the chain there, y the next edge as it counts. `pass_rules::chain` reads the fields.
 pub mod counted; // counted.rt: the next edge as it counts in a pass
 pub mod joined; // joined.rt: the edge over two that a pass joins
+pub mod meets; // meets.rt: where a chain and the next edge meet
+pub mod value; // value.rt: the value over two edges, by their decimals
 pub mod chain; // chain.rt: what the next edge does to a chain
 
 ghost use mathlib.Core.Path.{_≡_};

@@ -30,7 +30,7 @@ use Rattle.fields.proofs.PartLaws.{length-part, part-at, part-take, part-sets, 
 use Rattle.pass_list.specs.StoredEdge.{StoredEdge, Small, nil, cons, AllSmall, Fits, EdgeIs}
 use Rattle.pass_list.specs.Layout.{SIZE}
 use Rattle.pass_list.specs.Stored.{recordBytes, storedAt, storedListAt}
-use Rattle.pass_list.specs.StoredPass.{StoredChain, begin, touches, g1Rule, g3Rule, rule, counted, kindOf, joins, joinedValue, longer, next, over, chainsOf, edgesOf, joinedOf, after, added, firstAbove}
+use Rattle.pass_list.specs.StoredPass.{StoredChain, begin, meets, g1Rule, g3Rule, rule, counted, kindOf, joins, joinedValue, longer, next, over, chainsOf, edgesOf, joinedOf, after, added, firstAbove}
 use Rattle.pass_list.specs.Answers.{PassAnswerIs}
 use Rattle.pass_rules.specs.Chain.{passChain, ChainIs, answer}
 use Rattle.pass_run.specs.Ended.{Ended}
@@ -40,7 +40,7 @@ use Rattle.pass_run.specs.declared.ChainRun.the-variants as ChainRun
 use Rattle.pass_run.specs.declared.ChainRun.the-variants.{To}
 use Rattle.pass_run.specs.Run.{First, Ran, RunIs}
 use Rattle.pass_list.proofs.NextLaws.{joins-of-next}
-use Rattle.pass_rules.proofs.chain.ChainLaws.{counted-fits}
+use Rattle.pass_rules.proofs.chain.ChainLaws.{counted-fits, few-decimals}
 use Rattle.pass_list.proofs.StoredLaws.{stored-edge-behind, stored-edges-cons, stored-edges-none, stored-edges-snoc, stored-edges-other, length-stored-edges, stored-edges-put, behind-put, behind-next}
 
 -- ---- what `Chain::join` answers says of the chain
@@ -75,19 +75,23 @@ module _ (p : Pass) (x : StoredChain) (y : StoredEdge) where
       go false b t e = absurd (let z : _≡_ {A = ℕ} 0 1 = cc in omega arith)
 
 -- ---- the longer chain
-pub longer-fits : (p : Pass) (x : StoredChain) (y : StoredEdge) → Fits (x .edge) → Fits y → joinedValue p x y ≤ TOP → Fits (longer p x y .edge)
+pub longer-fits : (p : Pass) (x : StoredChain) (y : StoredEdge) → joins p x y ≡ true → Fits (x .edge) → Fits y → joinedValue p x y ≤ TOP → Fits (longer p x y .edge)
 unfolding longer over
-longer-fits p x y f g h =
+longer-fits p x y j f g h =
     let r = counted-fits p (x .edge) y f g in
-    record { small = record { value = h; base = r .small .base; mult = omega arith }; start = f .start; end = r .end; record-at = omega arith; script-at = r .script-at; script-len = r .script-len; decimals = omega arith }
+    record { small = record { value = h; base = r .small .base; mult = omega arith }; start = f .start; end = r .end; record-at = omega arith; script-at = r .script-at; script-len = r .script-len; decimals = few-decimals p x y j }
+
+ruled : (p : Pass) (x : StoredChain) (y : StoredEdge) → joins p x y ≡ true → rule p x (counted p (x .edge) y) ≡ true
+unfolding joins
+ruled p x y j = and-true (rule p x (counted p (x .edge) y)) _ (and-true (meets p x y) _ j .1) .0
 
 -- a chain of two and more that takes another edge has no lower value: only sums and rows of digits go on
 pub joined-grows : (p : Pass) (x : StoredChain) (y : StoredEdge) → x .more ≡ true → joins p x y ≡ true → x .edge .value ≤ joinedValue p x y
 unfolding joins g1Rule g3Rule
 joined-grows D1 x y m j = omega arith
-joined-grows G1 x y m j = absurd (let f : false ≡ true = sym (rw m) ∙ and-true (touches x y) (rule G1 x (counted G1 (x .edge) y)) j .1 in let z : _≡_ {A = ℕ} 0 1 = cc in omega arith)
+joined-grows G1 x y m j = absurd (let f : false ≡ true = sym (rw m) ∙ ruled G1 x y j in let z : _≡_ {A = ℕ} 0 1 = cc in omega arith)
 joined-grows G2 x y m j = omega arith
-joined-grows G3 x y m j = absurd (let f : false ≡ true = sym (rw m) ∙ and-true (touches x y) (rule G3 x (counted G3 (x .edge) y)) j .1 in let z : _≡_ {A = ℕ} 0 1 = cc in omega arith)
+joined-grows G3 x y m j = absurd (let f : false ≡ true = sym (rw m) ∙ ruled G3 x y j in let z : _≡_ {A = ℕ} 0 1 = cc in omega arith)
 joined-grows G4 x y m j = omega arith
 
 -- ---- lists
@@ -311,7 +315,7 @@ module _ (p : Pass) (s : List ℕ) (n i : ℕ) where
             before = omega arith;
             inside = g .inside;
             model = longer p (g .model) y;
-            is = record { is = a .1; fits = longer-fits p (g .model) y (g .is .fits) f (a .2) };
+            is = record { is = a .1; fits = longer-fits p (g .model) y (joins-of-next p (g .model) y (longer p (g .model) y) (a .0) .0) (g .is .fits) f (a .2) };
             closed = λ z. let q = g .closed z .0 in absurd (omega arith);
             so-far = sym (from-some begin (next p) (g .model) (longer p (g .model) y) y _ (a .0)) ∙ open-next;
           }

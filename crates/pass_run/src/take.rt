@@ -23,7 +23,7 @@ pub fn may_take(c: Chain, list: &[u8], at: usize, pass: Pass) -> bool
     let next = fields::u64_at(list, at + layout::BASE_AT);
     let touches = c.edge.end.0 == start;
     match pass {
-        Pass::D1 => touches & (r / layout::DIGIT % 2 == 1),
+        Pass::D1 => (touches | c.edge.num.point) & (r / layout::DIGIT % 2 == 1),
         Pass::G1 => touches & !c.more,
         Pass::G2 => touches & ((next < c.near) | (r / layout::GAP % 2 == 1)),
         Pass::G3 => touches & !c.more,

@@ -14,7 +14,9 @@ use Rattle.whole.specs.Whole.{TOP}
 use Rattle.passes.specs.Passes.{Pass, D1, G1, G2, G3, G4}
 use Rattle.pass_list.specs.StoredEdge.{StoredEdge, Small, Every, AllSmall, nil, cons}
 use Rattle.pass_list.specs.StoredPass.{StoredChain, begin, joins, longer, over, counted, withNumbers, retags, retagged, next, chainsOf, edgesOf, joinedOf, after, added, firstAbove}
+use Rattle.pass_list.specs.Edges.{noPoint}
 use Rattle.pass_list.specs.InTurn.{through, addedBy}
+use Rattle.pass_list.proofs.in_turn.Theorems.{no-points}
 use Rattle.pass_list.proofs.in_turn.Simulation.{chains-every, after-made}
 use Rattle.pass_list.proofs.in_turn.InTurnLaws.{above-here, above-later}
 use Rattle.pass_list.proofs.in_turn.EveryLaws.{every-append}
@@ -89,7 +91,7 @@ joined-every {P} (c ∷ cs) (cons h hs) = go (c .more) (joined-every cs hs)
 
 module _ (w t : List ℕ) (scalars : Scalars w) where
   pub after-grounded : (p : Pass) (l : List StoredEdge) → AllGrounded w t l → firstAbove (added p l) ≡ none → AllGrounded w t (after p l)
-  after-grounded p l s e = sounds-of (after-made w t scalars p l (sounds-made s)) (after-small p l (sounds-small s) e) (after-rooted t p l (sounds-rooted s))
+  after-grounded p l s e = sounds-of (after-made noPoint w t scalars (no-points w) p l (sounds-made s)) (after-small p l (sounds-small s) e) (after-rooted t p l (sounds-rooted s))
 
   added-grounded : (p : Pass) (l : List StoredEdge) → AllGrounded w t (after p l) → AllGrounded w t (added p l)
   unfolding after added

@@ -8,8 +8,8 @@ use Prim.Native.Nat.{ℕ}
 use native.Mathlib.Omega.{arith}
 use Rattle.passes.specs.Passes.{Pass, D1, G1, G2, G3, G4}
 use Rattle.pass_list.specs.StoredEdge.{StoredEdge, Every, AllSmall, nil, cons}
-use Rattle.pass_list.specs.StoredPass.{StoredChain, kindOf, begin, joins, longer, over, counted, withNumbers, retags, retagged, joinedValue, next, chainsOf, edgesOf, after}
-use Rattle.pass_list.specs.Edges.{WellMade}
+use Rattle.pass_list.specs.StoredPass.{StoredChain, kindOf, begin, joins, longer, over, counted, withNumbers, retags, retagged, joinedValue, joinedDecimals, next, chainsOf, edgesOf, after}
+use Rattle.pass_list.specs.Edges.{WellMade, noPoint}
 use Rattle.pass_list.proofs.in_turn.Simulation.{chains-every}
 use Rattle.pass_edge.specs.Grounded.{ScriptAt, Rooted, AllGrounded}
 
@@ -37,9 +37,9 @@ module _ (t : List ℕ) where
   kind-of G3 e = omega arith
   kind-of G4 e = omega arith
 
-  over-rooted : (p : Pass) (l e : StoredEdge) (v : ℕ) → Script e → Rooted t (over p l e v)
+  over-rooted : (p : Pass) (l e : StoredEdge) (v k : ℕ) → Script e → Rooted t (over p l e v k)
   unfolding over
-  over-rooted p l e v h = record { legal = λ z. absurd (kind-of p z); one = λ z. absurd (kind-of p z); script = h }
+  over-rooted p l e v k h = record { legal = λ z. absurd (kind-of p z); one = λ z. absurd (kind-of p z); script = h }
 
   -- ---- a pass
   abbrev RootedChain : StoredChain → Type 0
@@ -51,7 +51,7 @@ module _ (t : List ℕ) where
 
   longer-rooted : (p : Pass) (c : StoredChain) (x : StoredEdge) → Rooted t x → RootedChain (longer p c x)
   unfolding longer
-  longer-rooted p c x h = over-rooted p (c .edge) (counted p (c .edge) x) (joinedValue p c x) (counted-script p (c .edge) x (h .script))
+  longer-rooted p c x h = over-rooted p (c .edge) (counted p (c .edge) x) (joinedValue p c x) (joinedDecimals p c x) (counted-script p (c .edge) x (h .script))
 
   next-rooted : (p : Pass) (c : StoredChain) (x : StoredEdge) (d : StoredChain) → Rooted t x → next p c x ≡ some d → RootedChain d
   unfolding next
@@ -71,11 +71,11 @@ module _ (t : List ℕ) where
 
 -- ---- sound stored edges
 module _ {w t : List ℕ} where
-  pub sounds-of : {l : List StoredEdge} → Every (WellMade w t) l → AllSmall l → Every (Rooted t) l → AllGrounded w t l
+  pub sounds-of : {l : List StoredEdge} → Every (WellMade noPoint w t) l → AllSmall l → Every (Rooted t) l → AllGrounded w t l
   sounds-of {l = []} nil nil nil = nil
   sounds-of {l = x ∷ l} (cons m ms) (cons s ss) (cons r rs) = cons (record { made = m; small = s; rooted = r }) (sounds-of ms ss rs)
 
-  pub sounds-made : {l : List StoredEdge} → AllGrounded w t l → Every (WellMade w t) l
+  pub sounds-made : {l : List StoredEdge} → AllGrounded w t l → Every (WellMade noPoint w t) l
   sounds-made {l = []} nil = nil
   sounds-made {l = x ∷ l} (cons s ss) = cons (s .made) (sounds-made ss)
 

@@ -8,7 +8,6 @@ use native.Mathlib.Omega.{arith}
 use lib.ListN.{length, getD}
 use lib.Dec.{eqb}
 use borrow.Author.Tests.{eq-eqb, ne-eqb, eqb-true}
-use Rattle.whole.specs.Decimal.{padded}
 use Rattle.whole.proofs.WholeLaws.{ofNat-not-nan}
 use Rattle.fields.specs.Part.{part, partOf}
 use Rattle.fields.proofs.PartLaws.{part-all}
@@ -19,7 +18,7 @@ use Rattle.table.specs.Check.{small}
 use Rattle.table.specs.Answers.{optionally}
 use Rattle.pass_list.specs.declared.record.PassEdge.{PassEdge}
 use Rattle.pass_list.specs.StoredEdge.{StoredEdge, passEdge}
-use Rattle.pass_list.specs.Edges.{between, edgeOf, txtOf}
+use Rattle.pass_list.specs.Edges.{between, rowText, edgeOf, txtOf}
 use Rattle.pass_list.specs.Kind.{kindNumber}
 use Rattle.numbers.specs.Ready.{Offsets}
 use Rattle.edge.specs.declared.NumFields.{NumFields}
@@ -87,7 +86,7 @@ numericIn w t x = record {
   script = optionally (x .has-script) (part t (x .script-at) (x .script-len));
   large = x .large-power;
   active = true;
-  value-s = cond (eqb (kindNumber (x .kind)) 1) (some (padded (x .end - x .start) (x .value))) none;
+  value-s = cond (eqb (kindNumber (x .kind)) 1) (some (rowText x)) none;
   decimals = none;
 }
 
@@ -126,7 +125,7 @@ module _ (w t : List ℕ) (x : StoredEdge) (f : Fraction) (h : FractionIs f (sto
         there-map f64Bits (optionally (x .has-mult) (x .mult)),
         there-only (x .has-mult) (x .mult),
         there-only (x .has-script) (part t (x .script-at) (x .script-len)),
-        there-digits (eqb (kindNumber (x .kind)) 1) (padded (x .end - x .start) (x .value)),
+        there-digits (eqb (kindNumber (x .kind)) 1) (rowText x),
       )
       (omega arith)
 
@@ -160,7 +159,7 @@ digits-told : (b : Bool) (txt u a : Text) → (b ≡ true → txt ≡ u) → con
 digits-told true txt u a h e = part-all txt ∙ h refl ∙ Option·some-injective u a e
 digits-told false txt u a h e = absurd (Option·some-ne-none a (sym e))
 
-txt-of-digits : (w t : List ℕ) (x : StoredEdge) → eqb (kindNumber (x .kind)) 1 ≡ true → txtOf w t x ≡ padded (x .end - x .start) (x .value)
+txt-of-digits : (w t : List ℕ) (x : StoredEdge) → eqb (kindNumber (x .kind)) 1 ≡ true → txtOf w t x ≡ rowText x
 txt-of-digits w t x e = let k : kindNumber (x .kind) ≡ 1 = eqb-true (kindNumber (x .kind)) 1 e in rw (ne-eqb (kindNumber (x .kind)) 0 (λ o. omega arith), e)
 
 module _ (line offs t : List ℕ) (x : StoredEdge) (f : Fraction) (sound : Grounded (chars line) t x) (o : Offsets line offs) (h : FractionIs f (storedFraction t (kindNumber (x .kind)) (x .record-at))) (txt : Text) (is : txt ≡ txtOf (chars line) t x) where
@@ -174,7 +173,7 @@ module _ (line offs t : List ℕ) (x : StoredEdge) (f : Fraction) (sound : Groun
     base = only-told (x .has-base) (x .base);
     mult = map-told f64Bits (x .has-mult) (x .mult);
     script = script-told t (x .has-script) (x .script-at) (x .script-len);
-    value-s = λ a e. digits-told (eqb (kindNumber (x .kind)) 1) txt (padded (x .end - x .start) (x .value)) a (λ k. is ∙ txt-of-digits (chars line) t x k) e;
+    value-s = λ a e. digits-told (eqb (kindNumber (x .kind)) 1) txt (rowText x) a (λ k. is ∙ txt-of-digits (chars line) t x k) e;
     decimals = λ a e. absurd (Option·some-ne-none a (sym e));
   }
 

@@ -24,7 +24,8 @@ use Rattle.passes.specs.Characters.{lowest}
 use Rattle.passes.proofs.ratio.RatioLaws.{lowest-at-most, lowest-positive}
 use Rattle.edge.specs.Check.{each, upToTop, soundFraction}
 use Rattle.pass_list.specs.StoredEdge.{StoredEdge, Every, nil, cons}
-use Rattle.pass_list.specs.Edges.{between, kindName, txtOf}
+use Rattle.pass_list.specs.Edges.{between, rowText, kindName, txtOf}
+use Rattle.pass_list.proofs.in_turn.Theorems.{no-decimals}
 use Rattle.pass_list.proofs.in_turn.EveryLaws.{every-append}
 use Rattle.pass_list.specs.Kind.{kindNumber}
 use Rattle.pass_edge.specs.Grounded.{LegalAt, Grounded}
@@ -93,6 +94,10 @@ module _ (w t : List ℕ) (x : StoredEdge) (s : Grounded w t x) where
       go false e = name-formed (kindNumber (x .kind))
 
 -- ---- the txt
+-- a row of digits
+pub row-formed : (w t : List ℕ) (x : StoredEdge) → Grounded w t x → wellFormed (rowText x) ≡ true
+row-formed w t x s = rw (no-decimals (s .made)) (padded-formed (x .end - x .start) (x .value))
+
 pub between-formed : (w : List ℕ) (a b : ℕ) → Scalars w → wellFormed (between w a b) ≡ true
 unfolding between
 between-formed w a b h = encodes-well-formed (take (b - a) (drop a w)) (scalars-take (b - a) (drop a w) (scalars-drop a w h))
@@ -107,11 +112,11 @@ module _ (w t : List ℕ) (x : StoredEdge) (s : Grounded w t x) (scalars : Scala
   unfolding charTxt
   txt-formed = go (eqb (kindNumber (x .kind)) 0) (eqb (kindNumber (x .kind)) 1) refl
     where
-      go : (b c : Bool) → eqb (kindNumber (x .kind)) 0 ≡ b → wellFormed (cond b (charTxt w t (x .record-at) (x .start) (x .end)) (cond c (padded (x .end - x .start) (x .value)) (decimal (x .value)))) ≡ true
+      go : (b c : Bool) → eqb (kindNumber (x .kind)) 0 ≡ b → wellFormed (cond b (charTxt w t (x .record-at) (x .start) (x .end)) (cond c (rowText x) (decimal (x .value)))) ≡ true
       go true c e =
           let l = s .rooted .legal (eqb-true (kindNumber (x .kind)) 0 e) in
           rw (l .reads) (get-formed (l .prop .rom) (between w (x .start) (x .end)) (record-texts (l .prop) (l .texts) .1) (between-formed w (x .start) (x .end) scalars))
-      go false true e = padded-formed (x .end - x .start) (x .value)
+      go false true e = row-formed w t x s
       go false false e = decimal-formed (x .value)
 
 -- ---- the fraction

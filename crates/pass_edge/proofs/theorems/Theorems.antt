@@ -10,7 +10,6 @@ use lib.ListN.{length}
 use lib.Dec.{eqb, ltb, leb}
 use borrow.Author.Tests.{lt-ltb, le-leb}
 use Rattle.whole.specs.Whole.{TOP}
-use Rattle.whole.specs.Decimal.{padded}
 use Rattle.whole.proofs.DecimalLaws.{length-padded}
 use Rattle.fields.specs.Part.{part}
 use Rattle.fields.proofs.PartLaws.{length-part}
@@ -22,7 +21,8 @@ use Rattle.edge.specs.Check.{each, upToTop, soundFraction, soundNumbers, soundN
 use Rattle.edge.specs.Legal.{Legal}
 use Rattle.edge.proofs.theorems.Theorems.{f64-bits-fit}
 use Rattle.pass_list.specs.StoredEdge.{StoredEdge, Every, nil, cons}
-use Rattle.pass_list.specs.Edges.{between, edgeOf, txtOf}
+use Rattle.pass_list.specs.Edges.{between, rowText, edgeOf, txtOf}
+use Rattle.pass_list.proofs.in_turn.Theorems.{no-decimals}
 use Rattle.pass_list.specs.Kind.{kindNumber}
 use Rattle.numbers.specs.CallEdge.{Short, CallEdge, CallEdges}
 use Rattle.numbers.proofs.stages.CallLaws.{allowed-map}
@@ -32,7 +32,7 @@ use Rattle.pass_edge.specs.Texts.{typeOf}
 use Rattle.pass_edge.specs.Fields.{storedFraction}
 use Rattle.pass_edge.proofs.TextLaws.{between-short, txt-short, type-short}
 use Rattle.pass_edge.proofs.listed.FieldLaws.{numericIn, listed-is, only-told, map-told}
-use Rattle.pass_edge.proofs.theorems.FormedLaws.{padded-formed, type-formed, between-formed, txt-formed, FractionFits, AllFits, fraction-fits, fits-sound}
+use Rattle.pass_edge.proofs.theorems.FormedLaws.{row-formed, type-formed, between-formed, txt-formed, FractionFits, AllFits, fraction-fits, fits-sound}
 
 -- ---- fields that may be absent
 only-on : {A : Type 0} (b : Bool) (u a : A) → optionally b u ≡ some a → b ≡ true
@@ -62,8 +62,11 @@ module _ (w t : List ℕ) (x : StoredEdge) (s : Grounded w t x) (scalars : Scala
       let u : part t (x .script-at) (x .script-len) ≡ a = only-told (x .has-script) (part t (x .script-at) (x .script-len)) a e in
       omega (arith, ap length u, c .short)
 
-  digits-short : (a : Text) → optionally (eqb (kindNumber (x .kind)) 1) (padded (x .end - x .start) (x .value)) ≡ some a → length a ≤ 256
-  digits-short a e = omega (arith, ap length (only-told (eqb (kindNumber (x .kind)) 1) (padded (x .end - x .start) (x .value)) a e), length-padded (x .end - x .start) (x .value), s .made .inside)
+  row-length : length (rowText x) ≡ x .end - x .start
+  row-length = rw (no-decimals (s .made)) (length-padded (x .end - x .start) (x .value))
+
+  digits-short : (a : Text) → optionally (eqb (kindNumber (x .kind)) 1) (rowText x) ≡ some a → length a ≤ 256
+  digits-short a e = omega (arith, ap length (only-told (eqb (kindNumber (x .kind)) 1) (rowText x) a e), row-length, s .made .inside)
 
   numeric-fits : NumericFits (numericIn w t x)
   unfolding numericIn
@@ -86,7 +89,7 @@ module _ (w t : List ℕ) (x : StoredEdge) (s : Grounded w t x) (scalars : Scala
         each-number (x .has-base) (x .base) (s .small .base),
         between-formed w (x .start) (x .end) scalars,
         each-text (x .has-script) (part t (x .script-at) (x .script-len)) (λ b. s .rooted .script b .formed),
-        each-text (eqb (kindNumber (x .kind)) 1) (padded (x .end - x .start) (x .value)) (λ b. padded-formed (x .end - x .start) (x .value)),
+        each-text (eqb (kindNumber (x .kind)) 1) (rowText x) (λ b. row-formed w t x s),
       )
 
   -- ---- the edge

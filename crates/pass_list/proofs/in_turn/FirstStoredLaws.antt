@@ -5,6 +5,7 @@ use native.Mathlib.Omega.{arith}
 use native.Mathlib.Numerals.{add-one}
 use native.Mathlib.Nat.{add-zero, add-suc, suc-add}
 use mathlib.Core.Path.{_≡_, refl, sym, _∙_}
+use mathlib.Core.Bool.{Bool}
 use mathlib.Core.List.{List, [], _∷_, _++_, map, map-append, append-nil}
 use mathlib.Core.Option.{Option, none, some}
 use lib.ListN.{length, getD, take}
@@ -29,30 +30,31 @@ char-edges-snoc rs (d ∷ w) i c = rw (char-edges-snoc rs w (suc i) c, add-suc, 
     go none = refl
     go (some r) = refl
 
-module _ (w t : List ℕ) (rs : List Record) where
-  pub first-stored-edges-none : FirstStored w t rs 0 []
+module _ (point : ℕ → Bool) (w t : List ℕ) (rs : List Record) where
+  pub first-stored-edges-none : FirstStored point w t rs 0 []
   unfolding charEdges
-  first-stored-edges-none = record { edges = refl; made = nil; kinds = nil }
+  first-stored-edges-none = record { edges = refl; made = nil; kinds = nil; whole = nil }
 
   -- ---- a turn: l are the stored edges of the characters before place n, where c stands
-  module _ (n c : ℕ) (l : List StoredEdge) (inside : n < length w) (here : getD w n 0 ≡ c) (so-far : FirstStored w t rs n l) where
+  module _ (n c : ℕ) (l : List StoredEdge) (inside : n < length w) (here : getD w n 0 ≡ c) (so-far : FirstStored point w t rs n l) where
     edges-next : charEdges rs 0 (take (n + 1) w) ≡ map (edgeOf w t) l ++ withEdge n c (find rs c) []
     edges-next =
         let place : 0 + length (take n w) ≡ n = omega (arith, length-take-le n w (omega arith)) in
         rw (add-one, take-suc w n 0 inside, here, char-edges-snoc rs (take n w) 0 c, place, so-far .edges)
 
     -- a character without a record
-    pub first-stored-edges-skip : find rs c ≡ none → FirstStored w t rs (n + 1) l
-    first-stored-edges-skip e = record { edges = sym (edges-next ∙ rw (e, append-nil)); made = so-far .made; kinds = so-far .kinds }
+    pub first-stored-edges-skip : find rs c ≡ none → FirstStored point w t rs (n + 1) l
+    first-stored-edges-skip e = record { edges = sym (edges-next ∙ rw (e, append-nil)); made = so-far .made; kinds = so-far .kinds; whole = so-far .whole }
 
     -- a character with a record, whose stored edge is x
-    pub first-stored-edges-more : (r : Record) (x : StoredEdge) → find rs c ≡ some r → edgeOf w t x ≡ charEdge n c r → WellMade w t x → kindNumber (x .kind) ≡ 0
-        → FirstStored w t rs (n + 1) (l ++ (x ∷ []))
-    first-stored-edges-more r x e is made kind = record {
+    pub first-stored-edges-more : (r : Record) (x : StoredEdge) → find rs c ≡ some r → edgeOf w t x ≡ charEdge n c r → WellMade point w t x → kindNumber (x .kind) ≡ 0 → x .decimals ≡ 0
+        → FirstStored point w t rs (n + 1) (l ++ (x ∷ []))
+    first-stored-edges-more r x e is made kind whole = record {
       edges = map-append (edgeOf w t) l (x ∷ []) ∙ rw is (sym (edges-next ∙ rw e));
-      made = every-append (WellMade w t) l (x ∷ []) (so-far .made) (cons made nil);
+      made = every-append (WellMade point w t) l (x ∷ []) (so-far .made) (cons made nil);
       kinds = every-append (λ (y : StoredEdge). kindNumber (y .kind) ≡ 0) l (x ∷ []) (so-far .kinds) (cons kind nil);
+      whole = every-append (λ (y : StoredEdge). y .decimals ≡ 0) l (x ∷ []) (so-far .whole) (cons whole nil);
     }
 
-  pub first-stored-edges-all : (l : List StoredEdge) → FirstStored w t rs (length w) l → map (edgeOf w t) l ≡ charEdges rs 0 w
+  pub first-stored-edges-all : (l : List StoredEdge) → FirstStored point w t rs (length w) l → map (edgeOf w t) l ≡ charEdges rs 0 w
   first-stored-edges-all l h = h .edges ∙ rw take-length

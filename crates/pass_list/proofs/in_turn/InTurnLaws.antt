@@ -6,45 +6,57 @@ use mathlib.Core.Bool.{Bool, true, false, cond}
 use mathlib.Core.List.{List, [], _∷_, _++_, map, map-append}
 use mathlib.Core.Option.{Option, none, some}
 use lib.Dec.{ltb}
+use lib.ListN.{getD}
 use Rattle.text.specs.Text.{Scalars}
 use Rattle.whole.specs.Whole.{TOP}
 use Rattle.passes.specs.NumEdge as edges
+use Rattle.passes.specs.NumEdge.{NumEdge}
 use Rattle.passes.specs.Passes.{Pass}
-use Rattle.passes.specs.Passes as passes
+use Rattle.passes.specs.DecimalPasses as decimal
+use Rattle.passes.specs.DecimalPasses.{DecimalEdge, pointCharacter, bareEdges}
 use Rattle.pass_list.specs.StoredEdge.{StoredEdge, Every, nil, cons}
 use Rattle.pass_list.specs.StoredPass.{after, added, firstAbove}
-use Rattle.pass_list.specs.Edges.{edgeOf, WellMade}
+use Rattle.pass_list.specs.Edges.{edgeOf, decimalEdgeOf, WellMade}
 use Rattle.pass_list.proofs.in_turn.Simulation.{after-agrees, after-made, added-agrees, added-made, above-map}
 use Rattle.pass_list.specs.InTurn.{through, addedBy}
 use Rattle.pass_list.proofs.in_turn.EveryLaws.{every-append}
 
-module _ (w t : List ℕ) (scalars : Scalars w) where
-  pub through-made : (ps : List Pass) (l : List StoredEdge) → Every (WellMade w t) l → Every (WellMade w t) (through ps l)
+module _ (point : ℕ → Bool) (w t : List ℕ) (scalars : Scalars w) (points : (p : ℕ) → point p ≡ true → getD w p 0 ≡ pointCharacter) where
+  abbrev Made : StoredEdge → Type 0
+  Made = WellMade point w t
+
+  pub through-made : (ps : List Pass) (l : List StoredEdge) → Every Made l → Every Made (through ps l)
   unfolding through
   through-made [] l h = h
-  through-made (p ∷ ps) l h = through-made ps (after p l) (after-made w t scalars p l h)
+  through-made (p ∷ ps) l h = through-made ps (after p l) (after-made point w t scalars points p l h)
 
-  pub through-agrees : (ps : List Pass) (l : List StoredEdge) → Every (WellMade w t) l → map (edgeOf w t) (through ps l) ≡ passes.through ps (map (edgeOf w t) l)
-  unfolding through passes.through
+  pub through-agrees : (ps : List Pass) (l : List StoredEdge) → Every Made l → map (decimalEdgeOf w t) (through ps l) ≡ decimal.through point ps (map (decimalEdgeOf w t) l)
+  unfolding through decimal.through
   through-agrees [] l h = refl
-  through-agrees (p ∷ ps) l h = through-agrees ps (after p l) (after-made w t scalars p l h) ∙ ap (passes.through ps) (after-agrees w t scalars p l h)
+  through-agrees (p ∷ ps) l h = through-agrees ps (after p l) (after-made point w t scalars points p l h) ∙ ap (decimal.through point ps) (after-agrees point w t scalars points p l h)
 
-  pub added-by-made : (ps : List Pass) (l : List StoredEdge) → Every (WellMade w t) l → Every (WellMade w t) (addedBy ps l)
+  pub added-by-made : (ps : List Pass) (l : List StoredEdge) → Every Made l → Every Made (addedBy ps l)
   unfolding addedBy
   added-by-made [] l h = nil
   added-by-made (p ∷ ps) l h =
-      every-append (WellMade w t) (added p l) (addedBy ps (after p l)) (added-made w t scalars p l h) (added-by-made ps (after p l) (after-made w t scalars p l h))
+      every-append Made (added p l) (addedBy ps (after p l)) (added-made point w t scalars points p l h) (added-by-made ps (after p l) (after-made point w t scalars points p l h))
 
-  pub added-by-agrees : (ps : List Pass) (l : List StoredEdge) → Every (WellMade w t) l → map (edgeOf w t) (addedBy ps l) ≡ passes.addedBy ps (map (edgeOf w t) l)
-  unfolding addedBy passes.addedBy
+  pub added-by-agrees : (ps : List Pass) (l : List StoredEdge) → Every Made l → map (decimalEdgeOf w t) (addedBy ps l) ≡ decimal.addedBy point ps (map (decimalEdgeOf w t) l)
+  unfolding addedBy decimal.addedBy
   added-by-agrees [] l h = refl
   added-by-agrees (p ∷ ps) l h =
-      map-append (edgeOf w t) (added p l) (addedBy ps (after p l))
-      ∙ rw (added-by-agrees ps (after p l) (after-made w t scalars p l h), added-agrees w t scalars p l h, after-agrees w t scalars p l h)
+      map-append (decimalEdgeOf w t) (added p l) (addedBy ps (after p l))
+      ∙ rw (added-by-agrees ps (after p l) (after-made point w t scalars points p l h), added-agrees point w t scalars points p l h, after-agrees point w t scalars points p l h)
 
   -- ---- refusal 7
-  pub above-by-agrees : (ps : List Pass) (l : List StoredEdge) → Every (WellMade w t) l → firstAbove (addedBy ps l) ≡ edges.firstAbove (passes.addedBy ps (map (edgeOf w t) l))
-  above-by-agrees ps l h = sym (above-map w t scalars (addedBy ps l) (added-by-made ps l h)) ∙ ap edges.firstAbove (added-by-agrees ps l h)
+  pub bare-edges : (l : List StoredEdge) → bareEdges (map (decimalEdgeOf w t) l) ≡ map (edgeOf w t) l
+  bare-edges [] = refl
+  bare-edges (x ∷ l) = ap (λ (es : List NumEdge). edgeOf w t x ∷ es) (bare-edges l)
+
+  pub above-by-agrees : (ps : List Pass) (l : List StoredEdge) → Every Made l → firstAbove (addedBy ps l) ≡ edges.firstAbove (bareEdges (decimal.addedBy point ps (map (decimalEdgeOf w t) l)))
+  above-by-agrees ps l h =
+      sym (above-map point w t scalars points (addedBy ps l) (added-by-made ps l h))
+      ∙ ap edges.firstAbove (sym (bare-edges (addedBy ps l)) ∙ ap bareEdges (added-by-agrees ps l h))
 
 -- ---- the first pass that joins an edge above TOP decides
 abbrev orElse : Option ℕ → Option ℕ → Option ℕ

@@ -1,25 +1,27 @@
--- The passes on stored edges are the passes on the edges that the stored edges stand for (`pass_list`, specs/Edges.antt), for any line of scalar values and any table's bytes.
--- In order: one generic law of chains; what holds of every chain; numbers that may be absent; texts; the rules; the joined edges; one step; whole lists.
+-- The passes on stored edges are the passes on the edges that the stored edges stand for (`pass_list`, specs/Edges.antt), for any line of scalar values and any table's bytes: those of
+-- the further call, with decimals. In order: one generic law of chains; what holds of every chain; numbers that may be absent; texts; digits with a point; the rules; the joined
+-- edges; one step; whole lists.
 -- No contract cites this file.
 -- Assumes nothing.
 use mathlib.Core.Path.{_≡_, refl, sym, ap, _∙_, subst}
 use mathlib.Core.Bool.{Bool, true, false, cond, not, _&&_, _||_, true≢false}
-use mathlib.Core.List.{List, [], _∷_, _++_, map, append-nil}
+use mathlib.Core.Logic.{_⊎_, inl, inr}
+use mathlib.Core.List.{List, [], _∷_, _++_, map, append-nil, append-assoc}
 use mathlib.Core.Option.{Option, none, some, Option·map}
-use Prim.Native.Nat.{ℕ, zero, suc, _+_, _*_, _-_, _/_, _%_, _≤_, _<_}
+use Prim.Native.Nat.{ℕ, zero, suc, _+_, _*_, _-_, _/_, _%_, _^_, _≤_, _<_}
 use native.Mathlib.Numerals.{add-one}
 use native.Mathlib.Omega.{arith}
-use lib.ListN.{length, take, drop, length-drop}
-use lib.Seq.{take-add, drop-drop, length-take-le}
+use lib.ListN.{length, getD, take, drop, length-drop, length-append}
+use lib.Seq.{take-add, drop-drop, drop-cons, length-take-le, take-append-le, drop-append-le, take-append-seam, drop-append-seam}
 use lib.Dec.{ltb, leb, eqb}
-use borrow.Author.Tests.{leb-true, eqb-true}
+use borrow.Author.Tests.{leb-true, eqb-true, eq-eqb, ne-eqb}
 use Rattle.whole.specs.Whole.{TOP}
 use Rattle.whole.specs.Decimal.{padded}
 use Rattle.text.specs.Bytes.{same}
 use Rattle.text.specs.Sequence.{scalar, encode}
 use Rattle.text.specs.Text.{encodes, Scalars}
 use Rattle.text.proofs.BytesLaws.{same-true}
-use Rattle.text.proofs.RowLaws.{and-true}
+use Rattle.text.proofs.RowLaws.{and-true, or-true}
 use Rattle.text.proofs.TextLaws.{encodes-append, encodes-injective, scalars-take, scalars-drop, encodes-one}
 use Rattle.table.specs.Answers.{optionally}
 use Rattle.passes.specs.NumEdge.{NumEdge, orZero, has}
@@ -28,10 +30,12 @@ use Rattle.passes.specs.Chains.{from, chains}
 use Rattle.passes.proofs.ChainsLaws.{from-nil, from-none, from-some, chains-cons}
 use Rattle.passes.specs.Passes as passes
 use Rattle.passes.specs.Passes.{Pass, D1, G1, G2, G3, G4, powerOfTen, digitEdge, digitType, onePlace, isScript, cjk, exceeds, under}
+use Rattle.passes.specs.DecimalPasses as decimal
+use Rattle.passes.specs.DecimalPasses.{DecimalEdge, DecimalChain, pointCharacter, oneMore, withPoint, wholeChain, isG3, decimalRule, digitsProduct, decimalProduct, joinsDigit, joinsPoint, longerDecimal, nextDigit, nextLater, bareEdges}
 use Rattle.pass_list.specs.StoredEdge.{StoredEdge, Every, nil, cons}
-use Rattle.pass_list.specs.StoredPass.{StoredChain, begin, touches, d1Rule, g1Rule, g2Rule, g3Rule, g4Rule, rule, retags, withNumbers, counted, valueOf, kindOf, over, joinedValue, joins, longer, next, chainsOf, edgesOf, joinedOf, after, added, firstAbove}
+use Rattle.pass_list.specs.StoredPass.{StoredChain, begin, touches, overPoint, meets, d1Rule, g1Rule, g2Rule, g3Rule, g4Rule, rule, bothWhole, wholeProduct, takesDecimal, decimalsFit, retags, withNumbers, counted, valueOf, kindOf, over, joinedValue, joinedDecimals, joins, longer, next, chainsOf, edgesOf, joinedOf, after, added, firstAbove}
 use Rattle.pass_list.proofs.NextLaws.{joins-of-next}
-use Rattle.pass_list.specs.Edges.{between, edgeOf, chainOf, WellMade}
+use Rattle.pass_list.specs.Edges.{between, pointed, digitsText, rowText, edgeOf, chainOf, decimalEdgeOf, decimalChainOf, WellMade}
 
 -- ---- one generic law: f takes elements to elements and g chains to chains, and a step of one is a step of the other
 module _ {A S B T : Type 0} (begin₁ : A → S) (next₁ : S → A → Option S) (begin₂ : B → T) (next₂ : T → B → Option T) (f : A → B) (g : S → T) (Outcome : A → Type 0) (Sound : S → Type 0) where
@@ -136,11 +140,59 @@ padded-more k m d h =
     let c : d % 10 ≡ d = omega arith in
     rw (a, b, c)
 
+-- one character of the line
+between-one : (w : List ℕ) (p c : ℕ) → p < length w → getD w p 0 ≡ c → between w p (suc p) ≡ encode c
+unfolding between encodes
+between-one w p c h e = let one : suc p - p ≡ 1 = omega arith in rw (one, drop-cons w p 0 h, e) (append-nil (encode c))
+
+-- ---- digits with a point
+-- a digit more behind those after the point
+pointed-more : (k x : ℕ) (ds : List ℕ) → pointed (suc k) ds ++ (x ∷ []) ≡ pointed (suc (suc k)) (ds ++ (x ∷ []))
+pointed-more k x ds =
+    let n : length (ds ++ (x ∷ [])) ≡ suc (length ds) = length-append ds (x ∷ []) ∙ add-one (length ds) in
+    let m : length (ds ++ (x ∷ [])) - suc (suc k) ≡ length ds - suc k = omega arith in
+    rw (m, take-append-le (length ds - suc k) ds (x ∷ []) (omega arith), drop-append-le (length ds - suc k) ds (x ∷ []) (omega arith))
+    (append-assoc (take (length ds - suc k) ds) (pointCharacter ∷ drop (length ds - suc k) ds) (x ∷ []))
+
+one-digit : (d : ℕ) → d ≤ 9 → padded 1 d ≡ (48 + d) ∷ []
+unfolding padded
+one-digit d h = let e : d % 10 ≡ d = omega arith in rw e
+
+digits-more : (k n v d : ℕ) → 0 < n → d ≤ 9 → digitsText k n v ++ padded 1 d ≡ digitsText (oneMore k) (suc n) (10 * v + d)
+digits-more zero n v d h i = padded-more n v d i
+digits-more (suc k) n v d h i =
+    let e : suc n - 1 ≡ suc (n - 1) = omega arith in
+    rw (e, ← (padded-more (n - 1) v d i), one-digit d i) (pointed-more k (48 + d) (padded (n - 1) v))
+
+-- the first digit after the point
+digits-point : (n v d : ℕ) → d ≤ 9 → (padded n v ++ (pointCharacter ∷ [])) ++ padded 1 d ≡ digitsText 1 (suc (suc n)) (10 * v + d)
+digits-point n v d i =
+    let e : suc (suc n) - 1 ≡ suc n = omega arith in
+    let l : length (padded n v ++ ((48 + d) ∷ [])) - 1 ≡ length (padded n v) = let a = length-append (padded n v) ((48 + d) ∷ []) in let b : length ((48 + d) ∷ []) ≡ 1 = refl in omega arith in
+    rw (e, ← (padded-more n v d i), one-digit d i, l, take-append-seam (padded n v) ((48 + d) ∷ []), drop-append-seam (padded n v) ((48 + d) ∷ []))
+    (append-assoc (padded n v) (pointCharacter ∷ []) ((48 + d) ∷ []))
+
+point-encoded : encode pointCharacter ≡ pointCharacter ∷ []
+unfolding encode
+point-encoded = refl
+
+-- by a power of ten that is 1
+by-one : (n k : ℕ) → k ≡ 0 → n / 10 ^ k ≡ n
+by-one n k z = let e : n / 1 ≡ n = omega arith in rw z e
+
+and-three : (a b c : Bool) → ((a && b) && c) ≡ (a && (b && c))
+and-three true b c = refl
+and-three false b c = refl
+
 between-is : (w : List ℕ) (a b : ℕ) → between w a b ≡ encodes (take (b - a) (drop a w))
 unfolding between
 between-is w a b = refl
 
-module _ (w t : List ℕ) (scalars : Scalars w) where
+-- `point` says which places hold a point without a record
+module _ (point : ℕ → Bool) (w t : List ℕ) (scalars : Scalars w) (points : (p : ℕ) → point p ≡ true → getD w p 0 ≡ pointCharacter) where
+  abbrev Made : StoredEdge → Type 0
+  Made = WellMade point w t
+
   -- two characters and more are no single one
   two-chars : (a b c : ℕ) → a + 2 ≤ b → b ≤ length w → scalar c ≡ true → same (between w a b) (encode c) ≡ false
   two-chars a b c h k s = go (same (between w a b) (encode c)) refl
@@ -161,7 +213,7 @@ module _ (w t : List ℕ) (scalars : Scalars w) where
   no-gap x h k = rw (two-chars (x .start) (x .end) 0x96F6 h k refl, two-chars (x .start) (x .end) 0x3007 h k refl)
 
   -- a digit is one place long, and its value is 0 to 9
-  digit-is : (x : StoredEdge) → WellMade w t x → x .digit ≡ true → (x .end ≡ suc (x .start)) × (x .value ≤ 9)
+  digit-is : (x : StoredEdge) → Made x → x .digit ≡ true → (x .end ≡ suc (x .start)) × (x .value ≤ 9)
   unfolding digitEdge edgeOf
   digit-is x m d =
       let all = m .digit ∙ d in
@@ -171,14 +223,14 @@ module _ (w t : List ℕ) (scalars : Scalars w) where
       (eqb-true (x .end) (suc (x .start)) (place .1), rw (← (zero-or (x .has-value) (x .value) (m .value-absent))) (leb-true _ 9 (value .1)))
 
   -- ---- the rules
-  module _ (l e : StoredEdge) (x : WellMade w t l) (y : WellMade w t e) where
+  module _ (l e : StoredEdge) (x : Made l) (y : Made e) where
     retags-agree : passes.retags (edgeOf w t l) (edgeOf w t e) ≡ retags l e
     unfolding passes.retags retags edgeOf
     retags-agree =
         rw (x .script, zero-or (l .has-base) (l .base) (x .base-absent), zero-or (e .has-value) (e .value) (y .value-absent), add-one (e .start))
         (power-last (l .cjk) (leb 1000 (l .base)) (powerOfTen (l .base)) (eqb (e .end) (suc (e .start))) (leb 1 (e .value)) (leb (e .value) 9))
 
-  module _ (c : StoredChain) (e : StoredEdge) (x : WellMade w t (c .edge)) (y : WellMade w t e) where
+  module _ (c : StoredChain) (e : StoredEdge) (x : Made (c .edge)) (y : Made e) where
     d1-agrees : passes.d1Rule (chainOf w t c) (edgeOf w t e) ≡ d1Rule c (counted D1 (c .edge) e)
     unfolding passes.d1Rule d1Rule counted withNumbers chainOf
     d1-agrees = rw (x .digit, y .digit)
@@ -224,7 +276,7 @@ module _ (w t : List ℕ) (scalars : Scalars w) where
 
   -- ---- the joined edges: l before, and n after it as it counts
   over-agrees : (p : Pass) (l n : StoredEdge) (v : ℕ) → eqb (kindOf p) 1 ≡ false → between w (l .start) (l .end) ++ between w (n .start) (n .end) ≡ between w (l .start) (n .end)
-      → passes.over p (edgeOf w t l) (edgeOf w t n) v (edgeOf w t n .base) (eqb (kindOf p) 4) ≡ edgeOf w t (over p l n v)
+      → passes.over p (edgeOf w t l) (edgeOf w t n) v (edgeOf w t n .base) (eqb (kindOf p) 4) ≡ edgeOf w t (over p l n v 0)
   unfolding passes.over over edgeOf
   over-agrees D1 l n v d o = absurd (let z : _≡_ {A = ℕ} 0 1 = cc in omega arith)
   over-agrees G1 l n v d o = rw o
@@ -234,51 +286,74 @@ module _ (w t : List ℕ) (scalars : Scalars w) where
 
   -- what a row of digits has for txt
   abbrev RowText : Pass → StoredChain → Type 0
-  RowText D1 c = (c .more || c .edge .digit) ≡ true → edgeOf w t (c .edge) .txt ≡ padded (c .edge .end - c .edge .start) (c .edge .value)
+  RowText D1 c = (c .more || c .edge .digit) ≡ true → edgeOf w t (c .edge) .txt ≡ rowText (c .edge)
   RowText G1 c = Unit {0}
   RowText G2 c = Unit {0}
   RowText G3 c = Unit {0}
   RowText G4 c = Unit {0}
 
-  over-digits : (l e : StoredEdge) → WellMade w t l → WellMade w t e → edgeOf w t l .txt ++ edgeOf w t e .txt ≡ padded (e .end - l .start) (10 * l .value + e .value)
+  -- l before e, or l and the point behind it
+  over-digits : (l e : StoredEdge) (k : ℕ) → Made l → Made e → edgeOf w t l .txt ++ edgeOf w t e .txt ≡ digitsText k (e .end - l .start) (10 * l .value + e .value)
       → between w (l .start) (l .end) ++ between w (e .start) (e .end) ≡ between w (l .start) (e .end)
-      → passes.joined D1 (edgeOf w t l) (edgeOf w t e) ≡ edgeOf w t (over D1 l (counted D1 l e) (10 * l .value + e .value))
+      → passes.joined D1 (edgeOf w t l) (edgeOf w t e) ≡ edgeOf w t (over D1 l (counted D1 l e) (10 * l .value + e .value) k)
   unfolding passes.joined passes.overDigits over counted withNumbers edgeOf
-  over-digits l e x y txt o = rw (txt, o, zero-or (l .has-value) (l .value) (x .value-absent), zero-or (e .has-value) (e .value) (y .value-absent))
+  over-digits l e k x y txt o = rw (txt, o, zero-or (l .has-value) (l .value) (x .value-absent), zero-or (e .has-value) (e .value) (y .value-absent))
 
-  module _ (l e : StoredEdge) (x : WellMade w t l) (y : WellMade w t e) (touch : l .end ≡ e .start) where
+  over-point : (l e : StoredEdge) (k : ℕ) → Made l → Made e → (edgeOf w t l .txt ++ (pointCharacter ∷ [])) ++ edgeOf w t e .txt ≡ digitsText k (e .end - l .start) (10 * l .value + e .value)
+      → (between w (l .start) (l .end) ++ (pointCharacter ∷ [])) ++ between w (e .start) (e .end) ≡ between w (l .start) (e .end)
+      → passes.joined D1 (withPoint (edgeOf w t l)) (edgeOf w t e) ≡ edgeOf w t (over D1 l (counted D1 l e) (10 * l .value + e .value) k)
+  unfolding passes.joined passes.overDigits withPoint over counted withNumbers edgeOf
+  over-point l e k x y txt o = rw (txt, o, zero-or (l .has-value) (l .value) (x .value-absent), zero-or (e .has-value) (e .value) (y .value-absent))
+
+  module _ (l e : StoredEdge) (x : Made l) (y : Made e) (digit : e .digit ≡ true) (row : edgeOf w t l .txt ≡ rowText l) where
+    one-place : e .end ≡ suc (e .start)
+    one-place = digit-is e y digit .0
+
+    digit-txt : edgeOf w t e .txt ≡ padded 1 (e .value)
+    digit-txt = let a : e .end - e .start ≡ 1 = omega (arith, one-place) in y .digit-text digit ∙ rw a
+
+    touching-digits : l .end ≡ e .start → passes.joined D1 (edgeOf w t l) (edgeOf w t e) ≡ edgeOf w t (over D1 l (counted D1 l e) (10 * l .value + e .value) (oneMore (l .decimals)))
+    touching-digits touch =
+        let o = x .ordered in
+        let b : e .end - l .start ≡ suc (l .end - l .start) = omega (arith, one-place) in
+        over-digits l e (oneMore (l .decimals)) x y (rw (row, digit-txt, b) (digits-more (l .decimals) (l .end - l .start) (l .value) (e .value) (omega arith) (digit-is e y digit .1)))
+        (let d = y .ordered in rw (← touch) (between-append w (l .start) (l .end) (e .end) (omega arith) (omega arith)))
+
+    point-digits : l .decimals ≡ 0 → point (l .end) ≡ true → e .start ≡ suc (l .end)
+        → passes.joined D1 (withPoint (edgeOf w t l)) (edgeOf w t e) ≡ edgeOf w t (over D1 l (counted D1 l e) (10 * l .value + e .value) 1)
+    point-digits z p apart =
+        let o = x .ordered in
+        let i = y .inside in
+        let b : e .end - l .start ≡ suc (suc (l .end - l .start)) = omega (arith, one-place) in
+        let c : between w (l .end) (suc (l .end)) ≡ pointCharacter ∷ [] = between-one w (l .end) pointCharacter (omega (arith, one-place)) (points (l .end) p) ∙ point-encoded in
+        over-point l e 1 x y (rw (row, z, digit-txt, b) (digits-point (l .end - l .start) (l .value) (e .value) (digit-is e y digit .1)))
+        (rw (← c, apart) (ap (λ (b : List ℕ). b ++ between w (suc (l .end)) (e .end)) (between-append w (l .start) (l .end) (suc (l .end)) (omega arith) (omega arith))
+        ∙ between-append w (l .start) (suc (l .end)) (e .end) (omega arith) (omega (arith, one-place))))
+
+  module _ (l e : StoredEdge) (x : Made l) (y : Made e) (touch : l .end ≡ e .start) where
     orig : between w (l .start) (l .end) ++ between w (e .start) (e .end) ≡ between w (l .start) (e .end)
     orig = let a = x .ordered in let b = y .ordered in rw (← touch) (between-append w (l .start) (l .end) (e .end) (omega arith) (omega arith))
 
-    digits-agree : e .digit ≡ true → edgeOf w t l .txt ≡ padded (l .end - l .start) (l .value)
-        → passes.joined D1 (edgeOf w t l) (edgeOf w t e) ≡ edgeOf w t (over D1 l (counted D1 l e) (10 * l .value + e .value))
-    digits-agree d r =
-        let one = digit-is e y d in
-        let a : e .end - e .start ≡ 1 = omega arith in
-        let o = x .ordered in
-        let b : e .end - l .start ≡ suc (l .end - l .start) = omega arith in
-        over-digits l e x y (rw (r, y .digit-text d, a, b) (padded-more (l .end - l .start) (l .value) (e .value) (one .1))) orig
-
-    g1-joined : passes.joined G1 (edgeOf w t l) (edgeOf w t e) ≡ edgeOf w t (over G1 l (counted G1 l e) (l .value * e .value))
+    g1-joined : passes.joined G1 (edgeOf w t l) (edgeOf w t e) ≡ edgeOf w t (over G1 l (counted G1 l e) (l .value * e .value) 0)
     unfolding passes.joined counted edgeOf
     g1-joined = rw (zero-or (l .has-value) (l .value) (x .value-absent), zero-or (e .has-value) (e .value) (y .value-absent)) (over-agrees G1 l e (l .value * e .value) refl orig)
 
-    g2-joined : passes.joined G2 (edgeOf w t l) (edgeOf w t e) ≡ edgeOf w t (over G2 l (counted G2 l e) (l .value + e .value))
+    g2-joined : passes.joined G2 (edgeOf w t l) (edgeOf w t e) ≡ edgeOf w t (over G2 l (counted G2 l e) (l .value + e .value) 0)
     unfolding passes.joined counted edgeOf
     g2-joined = rw (zero-or (l .has-value) (l .value) (x .value-absent), zero-or (e .has-value) (e .value) (y .value-absent)) (over-agrees G2 l e (l .value + e .value) refl orig)
 
-    g3-joined : passes.joined G3 (edgeOf w t l) (edgeOf w t e) ≡ edgeOf w t (over G3 l (counted G3 l e) (l .value * e .value))
+    g3-joined : passes.joined G3 (edgeOf w t l) (edgeOf w t e) ≡ edgeOf w t (over G3 l (counted G3 l e) (l .value * e .value) 0)
     unfolding passes.joined counted edgeOf
     g3-joined = rw (zero-or (l .has-value) (l .value) (x .value-absent), zero-or (e .has-value) (e .value) (y .value-absent)) (over-agrees G3 l e (l .value * e .value) refl orig)
 
-    g4-joined : passes.joined G4 (edgeOf w t l) (edgeOf w t e) ≡ edgeOf w t (over G4 l (counted G4 l e) (l .value + counted G4 l e .value))
+    g4-joined : passes.joined G4 (edgeOf w t l) (edgeOf w t e) ≡ edgeOf w t (over G4 l (counted G4 l e) (l .value + counted G4 l e .value) 0)
     unfolding passes.joined passes.over passes.countedValue passes.countedBase counted withNumbers edgeOf
     g4-joined =
         rw (retags-agree l e x y, zero-or (l .has-value) (l .value) (x .value-absent), zero-or (l .has-base) (l .base) (x .base-absent), zero-or (e .has-value) (e .value) (y .value-absent))
         (go (retags l e))
       where
         go : (b : Bool) → passes.over G4 (edgeOf w t l) (edgeOf w t e) (l .value + orZero (cond b (some (e .value * (l .base / 10))) (optionally (e .has-value) (e .value)))) (cond b (some (l .base / 10)) (optionally (e .has-base) (e .base))) false
-            ≡ edgeOf w t (over G4 l (cond b (withNumbers e (e .value * (l .base / 10)) (l .base / 10)) e) (l .value + cond b (withNumbers e (e .value * (l .base / 10)) (l .base / 10)) e .value))
+            ≡ edgeOf w t (over G4 l (cond b (withNumbers e (e .value * (l .base / 10)) (l .base / 10)) e) (l .value + cond b (withNumbers e (e .value * (l .base / 10)) (l .base / 10)) e .value) 0)
         go true = over-agrees G4 l (withNumbers e (e .value * (l .base / 10)) (l .base / 10)) (l .value + e .value * (l .base / 10)) refl orig
         go false = rw (zero-or (e .has-value) (e .value) (y .value-absent)) (over-agrees G4 l e (l .value + e .value) refl orig)
 
@@ -288,16 +363,17 @@ module _ (w t : List ℕ) (scalars : Scalars w) where
     end : n .end ≡ e .end
     script : edgeOf w t n .script ≡ edgeOf w t e .script
     cjk : n .cjk ≡ e .cjk
+    mark : n .point ≡ e .point
     base : n .has-base ≡ false → n .base ≡ 0
 
   numbers-keep : (e : StoredEdge) (v b : ℕ) → Keeps (withNumbers e v b) e
   unfolding withNumbers edgeOf
-  numbers-keep e v b = record { end = refl; script = refl; cjk = refl; base = λ h. absurd (true≢false h) }
+  numbers-keep e v b = record { end = refl; script = refl; cjk = refl; mark = refl; base = λ h. absurd (true≢false h) }
 
-  itself-keeps : (e : StoredEdge) → WellMade w t e → Keeps e e
-  itself-keeps e y = record { end = refl; script = refl; cjk = refl; base = y .base-absent }
+  itself-keeps : (e : StoredEdge) → Made e → Keeps e e
+  itself-keeps e y = record { end = refl; script = refl; cjk = refl; mark = refl; base = y .base-absent }
 
-  counted-keeps : (p : Pass) (l e : StoredEdge) → WellMade w t e → Keeps (counted p l e) e
+  counted-keeps : (p : Pass) (l e : StoredEdge) → Made e → Keeps (counted p l e) e
   unfolding counted
   counted-keeps D1 l e y = numbers-keep e (e .value) 1
   counted-keeps G1 l e y = itself-keeps e y
@@ -310,94 +386,283 @@ module _ (w t : List ℕ) (scalars : Scalars w) where
       go false = itself-keeps e y
 
   -- no pass is called "digit"
-  no-digit : (p : Pass) (l n : StoredEdge) (v : ℕ) → digitEdge (edgeOf w t (over p l n v)) ≡ false
+  no-digit : (p : Pass) (l n : StoredEdge) (v k : ℕ) → digitEdge (edgeOf w t (over p l n v k)) ≡ false
   unfolding digitEdge edgeOf over same
-  no-digit D1 l n v = refl
-  no-digit G1 l n v = refl
-  no-digit G2 l n v = refl
-  no-digit G3 l n v = refl
-  no-digit G4 l n v = refl
+  no-digit D1 l n v k = refl
+  no-digit G1 l n v k = refl
+  no-digit G2 l n v k = refl
+  no-digit G3 l n v k = refl
+  no-digit G4 l n v k = refl
 
-  over-script : (p : Pass) (l n : StoredEdge) (v : ℕ) → isScript (edgeOf w t (over p l n v) .script) cjk ≡ isScript (edgeOf w t n .script) cjk
+  over-script : (p : Pass) (l n : StoredEdge) (v k : ℕ) → isScript (edgeOf w t (over p l n v k) .script) cjk ≡ isScript (edgeOf w t n .script) cjk
   unfolding over edgeOf
-  over-script p l n v = refl
+  over-script p l n v k = refl
 
-  over-made : (p : Pass) (l n e : StoredEdge) (v : ℕ) → WellMade w t l → WellMade w t e → Keeps n e → l .end ≡ e .start → WellMade w t (over p l n v)
+  over-made : (p : Pass) (l n e : StoredEdge) (v k : ℕ) → Made l → Made e → Keeps n e → l .end ≤ e .start → (0 < k → point (e .end - suc k) ≡ true) → Made (over p l n v k)
   unfolding over
-  over-made p l n e v x y k touch =
+  over-made p l n e v k x y keeps after before =
       let a = x .ordered in
       let b = y .ordered in
-      let c = k .end in
+      let c = keeps .end in
       let d = y .inside in
       record {
         ordered = omega arith;
         inside = omega arith;
         value-absent = λ h. absurd (true≢false h);
-        base-absent = k .base;
-        digit = no-digit p l n v;
-        gap = no-gap (over p l n v) (omega arith) (omega arith);
-        script = over-script p l n v ∙ rw (k .script, y .script, k .cjk);
+        base-absent = keeps .base;
+        digit = no-digit p l n v k;
+        gap = no-gap (over p l n v k) (omega arith) (omega arith);
+        script = over-script p l n v k ∙ rw (keeps .script, y .script, keeps .cjk);
         digit-text = λ h. absurd (true≢false (sym h));
+        digit-whole = λ h. absurd (true≢false (sym h));
+        mark = keeps .mark ∙ y .mark ∙ ap point (sym c);
+        point-before = λ h. rw c (before h);
       }
 
   -- ---- one step
   pub record Sound (p : Pass) (c : StoredChain) : Type 0 where
-    pub made : WellMade w t (c .edge)
+    pub made : Made (c .edge)
     pub row : RowText p c
 
-  module _ (c : StoredChain) (e : StoredEdge) (y : WellMade w t e) where
-    touching : (p : Pass) → joins p c e ≡ true → c .edge .end ≡ e .start
-    unfolding joins
-    touching p j = eqb-true (c .edge .end) (e .start) (and-true (touches c e) (rule p c (counted p (c .edge) e)) j .0)
-
-    touches-same : passes.touches (chainOf w t c) (edgeOf w t e) ≡ touches c e
+  module _ (c : StoredChain) (e : StoredEdge) (y : Made e) where
+    -- the texts' places are the stored ones
+    end-same : chainOf w t c .edge .end ≡ c .edge .end
     unfolding chainOf edgeOf
-    touches-same = refl
+    end-same = refl
 
-    joins-is : (p : Pass) → (touches c e && rule p c (counted p (c .edge) e)) ≡ joins p c e
-    unfolding joins
-    joins-is p = refl
+    start-same : edgeOf w t e .start ≡ e .start
+    unfolding edgeOf
+    start-same = refl
 
     -- the edge over the chain, whose edge is that of the stored edge
     chain-edge-is : chainOf w t c .edge ≡ edgeOf w t (c .edge)
     unfolding chainOf
     chain-edge-is = refl
 
-    -- what D1 joins are digits
-    digits : joins D1 c e ≡ true → ((c .more || c .edge .digit) ≡ true) × (e .digit ≡ true)
-    unfolding joins d1Rule counted withNumbers
-    digits j = and-true (c .more || c .edge .digit) (e .digit) (and-true (touches c e) (rule D1 c (counted D1 (c .edge) e)) j .1)
-
-    joined-agrees : (p : Pass) → Sound p c → joins p c e ≡ true → passes.joined p (edgeOf w t (c .edge)) (edgeOf w t e) ≡ edgeOf w t (longer p c e .edge)
-    unfolding longer counted withNumbers
-    joined-agrees D1 s j = digits-agree (c .edge) e (s .made) y (touching D1 j) (digits j .1) (s .row (digits j .0))
-    joined-agrees G1 s j = g1-joined (c .edge) e (s .made) y (touching G1 j)
-    joined-agrees G2 s j = g2-joined (c .edge) e (s .made) y (touching G2 j)
-    joined-agrees G3 s j = g3-joined (c .edge) e (s .made) y (touching G3 j)
-    joined-agrees G4 s j = g4-joined (c .edge) e (s .made) y (touching G4 j)
-
-    longer-agrees : (p : Pass) → Sound p c → joins p c e ≡ true → passes.longer (chainOf w t c) (edgeOf w t e) (passes.joined p (edgeOf w t (c .edge)) (edgeOf w t e)) ≡ chainOf w t (longer p c e)
+    longer-agrees : (p : Pass) → Made (c .edge) → (j : NumEdge) → j ≡ edgeOf w t (longer p c e .edge) → passes.longer (chainOf w t c) (edgeOf w t e) j ≡ chainOf w t (longer p c e)
     unfolding passes.longer longer chainOf
-    longer-agrees p s j = rw (joined-agrees p s j, near-agrees c e (s .made) y)
+    longer-agrees p m j h = rw (h, near-agrees c e m y)
 
-    tests : (p : Pass) → Sound p c → (passes.touches (chainOf w t c) (edgeOf w t e) && passes.rule p (chainOf w t c) (edgeOf w t e)) ≡ joins p c e
-    tests p s = same-touch p ∙ ap (λ (b : Bool). touches c e && b) (rule-agrees c e (s .made) y p) ∙ joins-is p
+    longer-decimals : (p : Pass) → longer p c e .edge .decimals ≡ joinedDecimals p c e
+    unfolding longer over
+    longer-decimals p = refl
+
+    decimal-longer : (p : Pass) → Made (c .edge) → (j : NumEdge) (k : ℕ) → j ≡ edgeOf w t (longer p c e .edge) → k ≡ joinedDecimals p c e
+        → _≡_ {A = DecimalChain} (record { chain = passes.longer (chainOf w t c) (edgeOf w t e) j; decimals = k }) (decimalChainOf w t (longer p c e))
+    decimal-longer p m j k h d = rw (longer-agrees p m j h, d, longer-decimals p)
+
+    -- ---- D1
+    digits : d1Rule c (counted D1 (c .edge) e) ≡ true → ((c .more || c .edge .digit) ≡ true) × (e .digit ≡ true)
+    unfolding d1Rule counted withNumbers
+    digits r = and-true (c .more || c .edge .digit) (e .digit) r
+
+    -- what goes over a point
+    over-facts : overPoint c e ≡ true → (c .edge .point ≡ true) × (c .edge .decimals ≡ 0) × (e .start ≡ suc (c .edge .end))
+    over-facts o =
+        let a = and-true (c .edge .point) (eqb (c .edge .decimals) 0 && eqb (e .start) (suc (c .edge .end))) o in
+        let b = and-true (eqb (c .edge .decimals) 0) (eqb (e .start) (suc (c .edge .end))) (a .1) in
+        (a .0, eqb-true (c .edge .decimals) 0 (b .0), eqb-true (e .start) (suc (c .edge .end)) (b .1))
+
+    joined-touching : Sound D1 c → touches c e ≡ true → d1Rule c (counted D1 (c .edge) e) ≡ true → passes.joined D1 (edgeOf w t (c .edge)) (edgeOf w t e) ≡ edgeOf w t (longer D1 c e .edge)
+    unfolding longer counted withNumbers
+    joined-touching s touch r = touching-digits (c .edge) e (s .made) y (digits r .1) (s .row (digits r .0)) (eqb-true (c .edge .end) (e .start) touch) ∙ rw touch
+
+    joined-point : Sound D1 c → touches c e ≡ false → overPoint c e ≡ true → d1Rule c (counted D1 (c .edge) e) ≡ true
+        → passes.joined D1 (withPoint (edgeOf w t (c .edge))) (edgeOf w t e) ≡ edgeOf w t (longer D1 c e .edge)
+    unfolding longer counted withNumbers
+    joined-point s apart o r =
+        let f = over-facts o in
+        point-digits (c .edge) e (s .made) y (digits r .1) (s .row (digits r .0)) (f .1) (sym (s .made .mark) ∙ f .0) (f .2) ∙ rw apart
+
+    digit-step : Sound D1 c → nextDigit point (decimalChainOf w t c) (edgeOf w t e) ≡ Option·map (decimalChainOf w t) (next D1 c e)
+    unfolding nextDigit joinsDigit joinsPoint next joins chainOf edgeOf
+    digit-step s =
+        rw (d1-agrees c e (s .made) y, end-same, start-same, chain-edge-is, ← (s .made .mark))
+        (go (touches c e) (ltb (c .edge .decimals) 15) (c .edge .point) (eqb (c .edge .decimals) 0) (eqb (e .start) (suc (c .edge .end))) (d1Rule c (counted D1 (c .edge) e)) not-both
+        (λ touch r. decimal-longer D1 (s .made) _ _ (joined-touching s touch r) (rw touch))
+        (λ apart o r. decimal-longer D1 (s .made) _ _ (joined-point s apart o r) (rw apart)))
       where
-        same-touch : (p : Pass) → (passes.touches (chainOf w t c) (edgeOf w t e) && passes.rule p (chainOf w t c) (edgeOf w t e)) ≡ (touches c e && passes.rule p (chainOf w t c) (edgeOf w t e))
-        same-touch p = ap (λ (b : Bool). b && passes.rule p (chainOf w t c) (edgeOf w t e)) touches-same
+        not-both : touches c e ≡ true → eqb (e .start) (suc (c .edge .end)) ≡ true → ⊥
+        not-both h k = let a = eqb-true (c .edge .end) (e .start) h in let b = eqb-true (e .start) (suc (c .edge .end)) k in omega arith
 
-    steps-agree : (p : Pass) → Sound p c → passes.next p (chainOf w t c) (edgeOf w t e) ≡ Option·map (chainOf w t) (next p c e)
-    unfolding passes.next next
-    steps-agree p s = rw (tests p s) (go (joins p c e) (longer-agrees p s))
+        touched : DecimalChain
+        touched = longerDecimal (decimalChainOf w t c) (edgeOf w t e) (passes.joined D1 (edgeOf w t (c .edge)) (edgeOf w t e)) (oneMore (c .edge .decimals))
+
+        across : DecimalChain
+        across = longerDecimal (decimalChainOf w t c) (edgeOf w t e) (passes.joined D1 (withPoint (edgeOf w t (c .edge))) (edgeOf w t e)) 1
+
+        go : (touch few at whole apart r : Bool) → (touch ≡ true → apart ≡ true → ⊥) → (touch ≡ true → r ≡ true → touched ≡ decimalChainOf w t (longer D1 c e))
+            → (touch ≡ false → (at && (whole && apart)) ≡ true → r ≡ true → across ≡ decimalChainOf w t (longer D1 c e))
+            → cond (touch && (few && r)) (some touched) (cond (at && (whole && (apart && r))) (some across) none)
+            ≡ Option·map (decimalChainOf w t) (cond (((touch && few) || (at && (whole && apart))) && (r && true)) (some (longer D1 c e)) none)
+        go true true at whole apart true n a b = ap some (a refl refl)
+        go true true false whole apart false n a b = refl
+        go true true true false apart false n a b = refl
+        go true true true true false false n a b = refl
+        go true true true true true false n a b = refl
+        go true false false whole apart r n a b = refl
+        go true false true false apart r n a b = refl
+        go true false true true false r n a b = refl
+        go true false true true true r n a b = absurd (n refl refl)
+        go false few false whole apart r n a b = refl
+        go false few true false apart r n a b = refl
+        go false few true true false r n a b = refl
+        go false few true true true false n a b = refl
+        go false few true true true true n a b = ap some (b refl refl refl)
+
+    -- ---- the later passes
+    -- two whole edges
+    whole-joined : (p : Pass) → eqb (kindOf p) 1 ≡ false → Made (c .edge) → c .edge .end ≡ e .start → c .edge .decimals ≡ 0
+        → passes.joined p (edgeOf w t (c .edge)) (edgeOf w t e) ≡ edgeOf w t (longer p c e .edge)
+    unfolding longer counted
+    whole-joined D1 n m touch z = absurd (true≢false n)
+    whole-joined G1 n m touch z = g1-joined (c .edge) e m y touch ∙ ap (λ (v : ℕ). edgeOf w t (over G1 (c .edge) e v 0)) (sym (by-one (c .edge .value * e .value) (c .edge .decimals) z))
+    whole-joined G2 n m touch z = g2-joined (c .edge) e m y touch
+    whole-joined G3 n m touch z = g3-joined (c .edge) e m y touch ∙ ap (λ (v : ℕ). edgeOf w t (over G3 (c .edge) e v 0)) (sym (by-one (c .edge .value * e .value) (c .edge .decimals) z))
+    whole-joined G4 n m touch z = g4-joined (c .edge) e m y touch
+
+    -- a written decimal on the left
+    product-joined : (p : Pass) → takesDecimal p (c .edge) e ≡ true → Made (c .edge) → c .edge .end ≡ e .start
+        → decimalProduct p (c .edge .decimals) (edgeOf w t (c .edge)) (edgeOf w t e) ≡ edgeOf w t (longer p c e .edge)
+    unfolding longer counted decimalProduct edgeOf
+    product-joined D1 d m touch = absurd (true≢false (sym d))
+    product-joined G1 d m touch =
+        rw (zero-or (c .edge .has-value) (c .edge .value) (m .value-absent), zero-or (e .has-value) (e .value) (y .value-absent))
+        (over-agrees G1 (c .edge) e (c .edge .value * e .value / 10 ^ c .edge .decimals) refl (orig (c .edge) e m y touch))
+    product-joined G2 d m touch = absurd (true≢false (sym d))
+    product-joined G3 d m touch =
+        rw (zero-or (c .edge .has-value) (c .edge .value) (m .value-absent), zero-or (e .has-value) (e .value) (y .value-absent))
+        (over-agrees G3 (c .edge) e (c .edge .value * e .value / 10 ^ c .edge .decimals) refl (orig (c .edge) e m y touch))
+    product-joined G4 d m touch = absurd (true≢false (sym d))
+
+    -- the tests of a written decimal on the left
+    decimal-tests : (p : Pass) → eqb (kindOf p) 1 ≡ false → Made (c .edge)
+        → (decimalRule p (c .edge .decimals) (chainOf w t c) (edgeOf w t e) && eqb (digitsProduct (edgeOf w t (c .edge)) (edgeOf w t e) % 10 ^ c .edge .decimals) 0)
+        ≡ (rule p c (counted p (c .edge) e) && takesDecimal p (c .edge) e)
+    unfolding decimalRule edgeOf chainOf
+    decimal-tests D1 n m = absurd (true≢false n)
+    decimal-tests G1 n m =
+        rw (zero-or (c .edge .has-value) (c .edge .value) (m .value-absent), zero-or (e .has-value) (e .value) (y .value-absent), g1-agrees c e m y)
+        (and-three (g1Rule c (counted G1 (c .edge) e)) (leb (10 ^ c .edge .decimals) (c .edge .value)) (wholeProduct (c .edge) e))
+    decimal-tests G2 n m = sym (and-right (g2Rule c (counted G2 (c .edge) e)) .1)
+    decimal-tests G3 n m =
+        rw (zero-or (c .edge .has-value) (c .edge .value) (m .value-absent), zero-or (e .has-value) (e .value) (y .value-absent), g3-agrees c e m y)
+    decimal-tests G4 n m = sym (and-right (g4Rule c (counted G4 (c .edge) e)) .1)
+
+    -- by the decimals of the edge itself
+    fit-is : (p : Pass) → eqb (kindOf p) 1 ≡ false → decimalsFit p (c .edge) (counted p (c .edge) e) ≡ (bothWhole (c .edge) e || (eqb (e .decimals) 0 && takesDecimal p (c .edge) e))
+    unfolding counted withNumbers
+    fit-is D1 n = absurd (true≢false n)
+    fit-is G1 n = refl
+    fit-is G2 n = refl
+    fit-is G3 n = refl
+    fit-is G4 n = go (retags (c .edge) e)
       where
-        go : (b : Bool) → (b ≡ true → passes.longer (chainOf w t c) (edgeOf w t e) (passes.joined p (edgeOf w t (c .edge)) (edgeOf w t e)) ≡ chainOf w t (longer p c e))
-            → cond b (some (passes.longer (chainOf w t c) (edgeOf w t e) (passes.joined p (chainOf w t c .edge) (edgeOf w t e)))) none ≡ Option·map (chainOf w t) (cond b (some (longer p c e)) none)
-        go true h = ap some (ap (λ (l : NumEdge). passes.longer (chainOf w t c) (edgeOf w t e) (passes.joined p l (edgeOf w t e))) chain-edge-is ∙ h refl)
-        go false h = refl
+        go : (b : Bool) → decimalsFit G4 (c .edge) (cond b (withNumbers e (e .value * (c .edge .base / 10)) (c .edge .base / 10)) e) ≡ (bothWhole (c .edge) e || (eqb (e .decimals) 0 && false))
+        go true = refl
+        go false = refl
 
-    longer-made : (p : Pass) → Sound p c → joins p c e ≡ true → WellMade w t (longer p c e .edge)
+    later-meets : (p : Pass) → eqb (kindOf p) 1 ≡ false → meets p c e ≡ touches c e
+    later-meets D1 n = absurd (true≢false n)
+    later-meets G1 n = refl
+    later-meets G2 n = refl
+    later-meets G3 n = refl
+    later-meets G4 n = refl
+
+    later-decimals : (p : Pass) → eqb (kindOf p) 1 ≡ false → 0 ≡ joinedDecimals p c e
+    later-decimals D1 n = absurd (true≢false n)
+    later-decimals G1 n = refl
+    later-decimals G2 n = refl
+    later-decimals G3 n = refl
+    later-decimals G4 n = refl
+
+    later-step : (p : Pass) → eqb (kindOf p) 1 ≡ false → Sound p c → nextLater p (decimalChainOf w t c) (decimalEdgeOf w t e) ≡ Option·map (decimalChainOf w t) (next p c e)
+    unfolding nextLater decimal.takesDecimal passes.next next joins edgeOf passes.longer counted longer chainOf
+    later-step p n s =
+        rw (rule-agrees c e (s .made) y p, chain-edge-is, decimal-tests p n (s .made), end-same, start-same, later-meets p n, fit-is p n)
+        (go (eqb (c .edge .decimals) 0) (eqb (e .decimals) 0) (touches c e) (rule p c (counted p (c .edge) e)) (takesDecimal p (c .edge) e)
+        (λ touch z. decimal-longer p (s .made) _ 0 (whole-joined p n (s .made) (eqb-true _ _ touch) (eqb-true _ 0 z)) (later-decimals p n))
+        (λ touch d. decimal-longer p (s .made) _ 0 (product-joined p d (s .made) (eqb-true _ _ touch)) (later-decimals p n)))
+      where
+        both : passes.Chain
+        both = passes.longer (chainOf w t c) (edgeOf w t e) (passes.joined p (edgeOf w t (c .edge)) (edgeOf w t e))
+
+        product : passes.Chain
+        product = passes.longer (chainOf w t c) (edgeOf w t e) (decimalProduct p (c .edge .decimals) (edgeOf w t (c .edge)) (edgeOf w t e))
+
+        go : (left right touch r d : Bool) → (touch ≡ true → left ≡ true → wholeChain both ≡ decimalChainOf w t (longer p c e))
+            → (touch ≡ true → d ≡ true → wholeChain product ≡ decimalChainOf w t (longer p c e))
+            → cond (left && right) (Option·map wholeChain (cond (touch && r) (some both) none)) (cond (right && (touch && (r && d))) (some (wholeChain product)) none)
+            ≡ Option·map (decimalChainOf w t) (cond (touch && (r && ((left && right) || (right && d)))) (some (longer p c e)) none)
+        go true true true true d a b = ap some (a refl refl)
+        go true true true false d a b = refl
+        go true true false r d a b = refl
+        go true false true true d a b = refl
+        go true false true false d a b = refl
+        go true false false r d a b = refl
+        go false true true true true a b = ap some (b refl refl)
+        go false true true true false a b = refl
+        go false true true false d a b = refl
+        go false true false r d a b = refl
+        go false false true true d a b = refl
+        go false false true false d a b = refl
+        go false false false r d a b = refl
+
+    steps-agree : (p : Pass) → Sound p c → decimal.next point p (decimalChainOf w t c) (decimalEdgeOf w t e) ≡ Option·map (decimalChainOf w t) (next p c e)
+    unfolding decimal.next
+    steps-agree D1 s = digit-step s
+    steps-agree G1 s = later-step G1 refl s
+    steps-agree G2 s = later-step G2 refl s
+    steps-agree G3 s = later-step G3 refl s
+    steps-agree G4 s = later-step G4 refl s
+
+    -- ---- the longer chain is sound
+    meeting : (p : Pass) → joins p c e ≡ true → meets p c e ≡ true
+    unfolding joins
+    meeting p j = and-true (meets p c e) _ j .0
+
+    meets-after : (p : Pass) → meets p c e ≡ true → c .edge .end ≤ e .start
+    meets-after D1 h = go (or-true (touches c e && ltb (c .edge .decimals) 15) (overPoint c e) h)
+      where
+        go : ((touches c e && ltb (c .edge .decimals) 15) ≡ true) ⊎ (overPoint c e ≡ true) → c .edge .end ≤ e .start
+        go (inl k) = let a = eqb-true (c .edge .end) (e .start) (and-true (touches c e) (ltb (c .edge .decimals) 15) k .0) in omega arith
+        go (inr o) = let a = over-facts o .2 in omega arith
+    meets-after G1 h = let a = eqb-true (c .edge .end) (e .start) h in omega arith
+    meets-after G2 h = let a = eqb-true (c .edge .end) (e .start) h in omega arith
+    meets-after G3 h = let a = eqb-true (c .edge .end) (e .start) h in omega arith
+    meets-after G4 h = let a = eqb-true (c .edge .end) (e .start) h in omega arith
+
+    -- the point before the decimals of a row that has one digit more
+    point-stays : Made (c .edge) → meets D1 c e ≡ true → d1Rule c (counted D1 (c .edge) e) ≡ true → 0 < joinedDecimals D1 c e → point (e .end - suc (joinedDecimals D1 c e)) ≡ true
+    point-stays m h r = go (touches c e) (c .edge .decimals) refl refl
+      where
+        one : e .end ≡ suc (e .start)
+        one = digit-is e y (digits r .1) .0
+
+        go : (touch : Bool) (k : ℕ) → touches c e ≡ touch → c .edge .decimals ≡ k → 0 < cond touch (oneMore k) 1 → point (e .end - suc (cond touch (oneMore k) 1)) ≡ true
+        go true zero a z i = absurd (omega arith)
+        go true (suc k) a z i =
+            let b = eqb-true (c .edge .end) (e .start) a in
+            let f : e .end - suc (suc (suc k)) ≡ c .edge .end - suc (suc k) = omega (arith, one) in
+            rw f (rw z at (m .point-before (omega arith)))
+        go false k a z i = across (or-true (touches c e && ltb (c .edge .decimals) 15) (overPoint c e) h)
+          where
+            across : ((touches c e && ltb (c .edge .decimals) 15) ≡ true) ⊎ (overPoint c e ≡ true) → point (e .end - 2) ≡ true
+            across (inl d) = absurd (true≢false (sym (and-true (touches c e) (ltb (c .edge .decimals) 15) d .0) ∙ a))
+            across (inr o) = let f = over-facts o in let g : e .end - 2 ≡ c .edge .end = omega (arith, one, f .2) in rw g (sym (m .mark) ∙ f .0)
+
+    before-stays : (p : Pass) → Made (c .edge) → joins p c e ≡ true → 0 < joinedDecimals p c e → point (e .end - suc (joinedDecimals p c e)) ≡ true
+    unfolding joins
+    before-stays D1 m j = let a = and-true (meets D1 c e) _ j in point-stays m (a .0) (and-true (d1Rule c (counted D1 (c .edge) e)) true (a .1) .0)
+    before-stays G1 m j = λ i. absurd (omega arith)
+    before-stays G2 m j = λ i. absurd (omega arith)
+    before-stays G3 m j = λ i. absurd (omega arith)
+    before-stays G4 m j = λ i. absurd (omega arith)
+
+    longer-made : (p : Pass) → Sound p c → joins p c e ≡ true → Made (longer p c e .edge)
     unfolding longer
-    longer-made p s j = over-made p (c .edge) (counted p (c .edge) e) e (joinedValue p c e) (s .made) y (counted-keeps p (c .edge) e y) (touching p j)
+    longer-made p s j =
+        over-made p (c .edge) (counted p (c .edge) e) e (joinedValue p c e) (joinedDecimals p c e) (s .made) y (counted-keeps p (c .edge) e y) (meets-after p (meeting p j)) (before-stays p (s .made) j)
 
     row-longer : (p : Pass) → RowText p (longer p c e)
     unfolding longer over edgeOf
@@ -412,7 +677,7 @@ module _ (w t : List ℕ) (scalars : Scalars w) where
         let j = joins-of-next p c e d n in
         subst (Sound p) (sym (j .1)) (record { made = longer-made p s (j .0); row = row-longer p })
 
-  module _ (e : StoredEdge) (y : WellMade w t e) where
+  module _ (e : StoredEdge) (y : Made e) where
     begins-agree : chainOf w t (begin e) ≡ passes.begin (edgeOf w t e)
     unfolding begin passes.begin passes.nearest chainOf edgeOf
     begins-agree = rw (y .gap, zero-or (e .has-base) (e .base) (y .base-absent)) (go (e .gap))
@@ -423,81 +688,81 @@ module _ (w t : List ℕ) (scalars : Scalars w) where
 
     begins-sound : (p : Pass) → Sound p (begin e)
     unfolding begin
-    begins-sound D1 = record { made = y; row = y .digit-text }
+    begins-sound D1 = record { made = y; row = λ d. y .digit-text d ∙ ap (λ (k : ℕ). digitsText k (e .end - e .start) (e .value)) (sym (y .digit-whole d)) }
     begins-sound G1 = record { made = y; row = tt }
     begins-sound G2 = record { made = y; row = tt }
     begins-sound G3 = record { made = y; row = tt }
     begins-sound G4 = record { made = y; row = tt }
 
   -- the generic law's case, for all five passes
-  pass-agrees : (p : Pass) → Agrees begin (next p) passes.begin (passes.next p) (edgeOf w t) (chainOf w t) (WellMade w t) (Sound p)
+  decimal-begins : (e : StoredEdge) → Made e → decimalChainOf w t (begin e) ≡ decimal.begin (decimalEdgeOf w t e)
+  unfolding decimal.begin begin
+  decimal-begins e y = ap (λ (c : passes.Chain). record { chain = c; decimals = e .decimals }) (begins-agree e y)
+
+  pass-agrees : (p : Pass) → Agrees begin (next p) decimal.begin (decimal.next point p) (decimalEdgeOf w t) (decimalChainOf w t) Made (Sound p)
   pass-agrees p = record {
-    begins = λ e y. begins-agree e y;
+    begins = decimal-begins;
     sound = λ e y. begins-sound e y p;
     steps = λ c e s y. steps-agree c e y p s;
     stays = λ c e d s y n. stays-sound c e y p d s n;
   }
 
   -- ---- whole lists
-  edges-map : (cs : List StoredChain) → map (edgeOf w t) (edgesOf cs) ≡ passes.edgesOf (map (chainOf w t) cs)
+  edges-map : (cs : List StoredChain) → map (decimalEdgeOf w t) (edgesOf cs) ≡ decimal.edgesOf (map (decimalChainOf w t) cs)
   unfolding chainOf
   edges-map [] = refl
-  edges-map (c ∷ cs) = ap (λ (l : List NumEdge). edgeOf w t (c .edge) ∷ l) (edges-map cs)
+  edges-map (c ∷ cs) = ap (λ (l : List DecimalEdge). decimalEdgeOf w t (c .edge) ∷ l) (edges-map cs)
 
-  joined-map : (cs : List StoredChain) → map (edgeOf w t) (joinedOf cs) ≡ passes.joinedOf (map (chainOf w t) cs)
-  unfolding joinedOf passes.joinedOf chainOf
+  joined-map : (cs : List StoredChain) → map (decimalEdgeOf w t) (joinedOf cs) ≡ decimal.joinedOf (map (decimalChainOf w t) cs)
+  unfolding joinedOf decimal.joinedOf chainOf
   joined-map [] = refl
   joined-map (c ∷ cs) = rw (← (joined-map cs)) (go (c .more))
     where
-      go : (m : Bool) → map (edgeOf w t) (cond m (c .edge ∷ joinedOf cs) (joinedOf cs)) ≡ cond m (edgeOf w t (c .edge) ∷ map (edgeOf w t) (joinedOf cs)) (map (edgeOf w t) (joinedOf cs))
+      go : (m : Bool) → map (decimalEdgeOf w t) (cond m (c .edge ∷ joinedOf cs) (joinedOf cs)) ≡ cond m (decimalEdgeOf w t (c .edge) ∷ map (decimalEdgeOf w t) (joinedOf cs)) (map (decimalEdgeOf w t) (joinedOf cs))
       go true = refl
       go false = refl
 
-  edges-made : (p : Pass) (cs : List StoredChain) → Every (Sound p) cs → Every (WellMade w t) (edgesOf cs)
+  edges-made : (p : Pass) (cs : List StoredChain) → Every (Sound p) cs → Every Made (edgesOf cs)
   edges-made p [] nil = nil
   edges-made p (c ∷ cs) (cons s r) = cons (s .made) (edges-made p cs r)
 
-  joined-made : (p : Pass) (cs : List StoredChain) → Every (Sound p) cs → Every (WellMade w t) (joinedOf cs)
+  joined-made : (p : Pass) (cs : List StoredChain) → Every (Sound p) cs → Every Made (joinedOf cs)
   unfolding joinedOf
   joined-made p [] nil = nil
   joined-made p (c ∷ cs) (cons s r) = go (c .more) (joined-made p cs r)
     where
-      go : (m : Bool) → Every (WellMade w t) (joinedOf cs) → Every (WellMade w t) (cond m (c .edge ∷ joinedOf cs) (joinedOf cs))
+      go : (m : Bool) → Every Made (joinedOf cs) → Every Made (cond m (c .edge ∷ joinedOf cs) (joinedOf cs))
       go true i = cons (s .made) i
       go false i = i
 
-  pub above-map : (l : List StoredEdge) → Every (WellMade w t) l → edges.firstAbove (map (edgeOf w t) l) ≡ firstAbove l
+  pub above-map : (l : List StoredEdge) → Every Made l → edges.firstAbove (map (edgeOf w t) l) ≡ firstAbove l
   unfolding edges.firstAbove firstAbove edgeOf
   above-map [] nil = refl
   above-map (x ∷ l) (cons m r) = rw (zero-or (x .has-value) (x .value) (m .value-absent), above-map l r)
 
-  module _ (p : Pass) (l : List StoredEdge) (made : Every (WellMade w t) l) where
-    chains-of-agree : map (chainOf w t) (chainsOf p l) ≡ passes.chainsOf p (map (edgeOf w t) l)
-    unfolding chainsOf passes.chainsOf
-    chains-of-agree = chains-agree begin (next p) passes.begin (passes.next p) (edgeOf w t) (chainOf w t) (WellMade w t) (Sound p) (pass-agrees p) l made
+  module _ (p : Pass) (l : List StoredEdge) (made : Every Made l) where
+    chains-of-agree : map (decimalChainOf w t) (chainsOf p l) ≡ decimal.chainsOf point p (map (decimalEdgeOf w t) l)
+    unfolding chainsOf decimal.chainsOf
+    chains-of-agree = chains-agree begin (next p) decimal.begin (decimal.next point p) (decimalEdgeOf w t) (decimalChainOf w t) Made (Sound p) (pass-agrees p) l made
 
     chains-of-sound : Every (Sound p) (chainsOf p l)
     unfolding chainsOf
-    chains-of-sound = chains-sound begin (next p) passes.begin (passes.next p) (edgeOf w t) (chainOf w t) (WellMade w t) (Sound p) (pass-agrees p) l made
+    chains-of-sound = chains-sound begin (next p) decimal.begin (decimal.next point p) (decimalEdgeOf w t) (decimalChainOf w t) Made (Sound p) (pass-agrees p) l made
 
     -- the list after the pass
-    pub after-agrees : map (edgeOf w t) (after p l) ≡ passes.after p (map (edgeOf w t) l)
-    unfolding after passes.after
-    after-agrees = edges-map (chainsOf p l) ∙ ap passes.edgesOf chains-of-agree
+    pub after-agrees : map (decimalEdgeOf w t) (after p l) ≡ decimal.after point p (map (decimalEdgeOf w t) l)
+    unfolding after decimal.after
+    after-agrees = edges-map (chainsOf p l) ∙ ap decimal.edgesOf chains-of-agree
 
-    pub after-made : Every (WellMade w t) (after p l)
+    pub after-made : Every Made (after p l)
     unfolding after
     after-made = edges-made p (chainsOf p l) chains-of-sound
 
     -- the joined edges
-    pub added-agrees : map (edgeOf w t) (added p l) ≡ passes.added p (map (edgeOf w t) l)
-    unfolding added passes.added
-    added-agrees = joined-map (chainsOf p l) ∙ ap passes.joinedOf chains-of-agree
+    pub added-agrees : map (decimalEdgeOf w t) (added p l) ≡ decimal.added point p (map (decimalEdgeOf w t) l)
+    unfolding added decimal.added
+    added-agrees = joined-map (chainsOf p l) ∙ ap decimal.joinedOf chains-of-agree
 
-    pub added-made : Every (WellMade w t) (added p l)
+    pub added-made : Every Made (added p l)
     unfolding added
     added-made = joined-made p (chainsOf p l) chains-of-sound
-
-    -- refusal 7's place
-    pub above-agrees : edges.firstAbove (passes.added p (map (edgeOf w t) l)) ≡ firstAbove (added p l)
-    above-agrees = rw (← added-agrees) (above-map (added p l) added-made)

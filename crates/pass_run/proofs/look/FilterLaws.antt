@@ -1,5 +1,5 @@
 -- Laws of the tests before an edge is read (`pass_list`, specs/StoredPass.antt): what holds wherever a pass joins. No contract cites this file.
--- In order: rows of tests; what a rule needs; a chain and the next edge; two edges by their fields in the list. Assumes nothing.
+-- In order: rows of tests; what a rule needs; a chain and the next edge; two edges by their fields in the list; two that don't touch. Assumes nothing.
 use mathlib.Core.Path.{_≡_, refl, sym, ap, _∙_, subst}
 use mathlib.Core.Logic.{_⊎_, inl, inr}
 use mathlib.Core.Bool.{Bool, true, false, _&&_, _||_, not, cond}
@@ -8,13 +8,13 @@ use mathlib.Core.Option.{none}
 use Prim.Native.Nat.{ℕ, _+_}
 use native.Mathlib.Omega.{arith}
 use lib.Dec.{leb, ltb, eqb}
-use borrow.Author.Tests.{eqb-true, ltb-true}
+use borrow.Author.Tests.{ltb-true, ne-eqb}
 use Rattle.text.proofs.RowLaws.{and-true, or-true}
 use Rattle.fields.specs.Fields.{leAt}
 use Rattle.passes.specs.Passes.{Pass, D1, G1, G2, G3, G4, powerOfTen}
 use Rattle.pass_list.specs.StoredEdge.{StoredEdge}
 use Rattle.pass_list.specs.Stored.{storedAt}
-use Rattle.pass_list.specs.StoredPass.{StoredChain, begin, touches, d1Rule, g1Rule, comparable, g2Rule, g3Rule, g4Rule, rule, retaggable, retags, withNumbers, retagged, counted, joins, next}
+use Rattle.pass_list.specs.StoredPass.{StoredChain, begin, touches, overPoint, meets, d1Rule, g1Rule, comparable, g2Rule, g3Rule, g4Rule, rule, retaggable, retags, withNumbers, retagged, counted, joins, next}
 use Rattle.pass_rules.specs.declared.chain.Next.the-variants.{Ends}
 use Rattle.pass_rules.specs.Chain.{answer}
 use Rattle.pass_list.proofs.read.FieldLaws.{fieldsAt, storedAt-fields}
@@ -82,11 +82,11 @@ module _ (c : StoredChain) (y : StoredEdge) where
 
 -- ---- a chain and the next edge
 abbrev pub mayTake : Pass → StoredChain → StoredEdge → Bool
-mayTake D1 c y = y .digit
-mayTake G1 c y = not (c .more)
-mayTake G2 c y = ltb (y .base) (c .near) || y .gap
-mayTake G3 c y = not (c .more)
-mayTake G4 c y = leb 1000 (c .edge .base) || ltb (y .base) (c .edge .base)
+mayTake D1 c y = (touches c y || c .edge .point) && y .digit
+mayTake G1 c y = touches c y && not (c .more)
+mayTake G2 c y = touches c y && (ltb (y .base) (c .near) || y .gap)
+mayTake G3 c y = touches c y && not (c .more)
+mayTake G4 c y = touches c y && (leb 1000 (c .edge .base) || ltb (y .base) (c .edge .base))
 
 abbrev pub mayJoin : Pass → StoredEdge → StoredEdge → Bool
 mayJoin D1 x y = x .digit && y .digit
@@ -95,17 +95,29 @@ mayJoin G2 x y = not (x .large-power) && (ltb (y .base) (x .base) || y .gap)
 mayJoin G3 x y = not (x .large-power) && y .large-power
 mayJoin G4 x y = leb 1000 (x .base) || ltb (y .base) (x .base)
 
-joins-both : (p : Pass) (c : StoredChain) (y : StoredEdge) → joins p c y ≡ true → (touches c y ≡ true) × (rule p c (counted p (c .edge) y) ≡ true)
+joins-both : (p : Pass) (c : StoredChain) (y : StoredEdge) → joins p c y ≡ true → (meets p c y ≡ true) × (rule p c (counted p (c .edge) y) ≡ true)
 unfolding joins
-joins-both p c y j = and-true (touches c y) (rule p c (counted p (c .edge) y)) j
+joins-both p c y j = let t = and-true (meets p c y) _ j in (t .0, and-true (rule p c (counted p (c .edge) y)) _ (t .1) .0)
 
-may-take : (p : Pass) (c : StoredChain) (y : StoredEdge) → rule p c (counted p (c .edge) y) ≡ true → mayTake p c y ≡ true
+-- D1 goes over a point at the chain's end
+met-point : (c : StoredChain) (y : StoredEdge) → meets D1 c y ≡ true → (touches c y ≡ true) ⊎ (c .edge .point ≡ true)
+met-point c y h = go (or-true (touches c y && ltb (c .edge .decimals) 15) (overPoint c y) h)
+  where
+    go : ((touches c y && ltb (c .edge .decimals) 15) ≡ true) ⊎ (overPoint c y ≡ true) → (touches c y ≡ true) ⊎ (c .edge .point ≡ true)
+    go (inl k) = inl (and-true (touches c y) (ltb (c .edge .decimals) 15) k .0)
+    go (inr k) = inr (and-true (c .edge .point) _ k .0)
+
+may-take : (p : Pass) (c : StoredChain) (y : StoredEdge) → meets p c y ≡ true → rule p c (counted p (c .edge) y) ≡ true → mayTake p c y ≡ true
 unfolding d1Rule counted withNumbers
-may-take D1 c y h = and-true (c .more || c .edge .digit) (y .digit) h .1
-may-take G1 c y h = and-true (not (c .more)) _ (g1-needs c y h) .0
-may-take G2 c y h = and-true (not (c .edge .large-power)) _ (g2-needs c y h) .1
-may-take G3 c y h = and-true (not (c .more)) _ (g3-needs c y h) .0
-may-take G4 c y h = g4-needs c y h
+may-take D1 c y m h = rw (and-true (c .more || c .edge .digit) (y .digit) h .1, either (met-point c y m))
+  where
+    either : (touches c y ≡ true) ⊎ (c .edge .point ≡ true) → (touches c y || c .edge .point) ≡ true
+    either (inl k) = or-left (touches c y) (c .edge .point) k
+    either (inr k) = or-right (touches c y) (c .edge .point) k
+may-take G1 c y m h = rw (m, and-true (not (c .more)) _ (g1-needs c y h) .0)
+may-take G2 c y m h = rw m (and-true (not (c .edge .large-power)) _ (g2-needs c y h) .1)
+may-take G3 c y m h = rw (m, and-true (not (c .more)) _ (g3-needs c y h) .0)
+may-take G4 c y m h = rw m (g4-needs c y h)
 
 may-join : (p : Pass) (x y : StoredEdge) → rule p (begin x) (counted p (begin x .edge) y) ≡ true → mayJoin p x y ≡ true
 unfolding d1Rule counted withNumbers begin
@@ -128,10 +140,6 @@ module _ (s : List ℕ) (a b : ℕ) (p : Pass) (j : joins p (begin (storedAt s a
   both : joins p (begin (fieldsAt s a)) (fieldsAt s b) ≡ true
   both = subst (λ (x : StoredEdge). joins p (begin x) (fieldsAt s b) ≡ true) (storedAt-fields s a) (subst (λ (y : StoredEdge). joins p (begin (storedAt s a)) y ≡ true) (storedAt-fields s b) j)
 
-  pub join-touches : leAt s (a + 2) 2 ≡ leAt s b 2
-  unfolding begin
-  join-touches = eqb-true _ _ (joins-both p (begin (fieldsAt s a)) (fieldsAt s b) both .0)
-
   pub join-may : mayJoin p (fieldsAt s a) (fieldsAt s b) ≡ true
   join-may = may-join p (fieldsAt s a) (fieldsAt s b) (joins-both p (begin (fieldsAt s a)) (fieldsAt s b) both .1)
 
@@ -139,8 +147,26 @@ module _ (s : List ℕ) (at : ℕ) (p : Pass) (c : StoredChain) (j : joins p c (
   field : joins p c (fieldsAt s at) ≡ true
   field = subst (λ (y : StoredEdge). joins p c y ≡ true) (storedAt-fields s at) j
 
-  pub take-may : (eqb (c .edge .end) (leAt s at 2) && mayTake p c (fieldsAt s at)) ≡ true
-  take-may = let t = joins-both p c (fieldsAt s at) field in rw (t .0, may-take p c (fieldsAt s at) (t .1))
+  pub take-may : mayTake p c (fieldsAt s at) ≡ true
+  take-may = let t = joins-both p c (fieldsAt s at) field in may-take p c (fieldsAt s at) (t .0) (t .1)
+
+-- ---- where they don't touch
+pub apart-fields : (s : List ℕ) (a b : ℕ) → (leAt s (a + 2) 2 ≡ leAt s b 2 → ⊥) → touches (begin (storedAt s a)) (storedAt s b) ≡ false
+unfolding begin
+apart-fields s a b h = rw (storedAt-fields s a, storedAt-fields s b) (ne-eqb _ _ h)
+
+-- D1 alone joins there, where the mark says that a point stands there
+module _ (s : List ℕ) (a : ℕ) (y : StoredEdge) (apart : touches (begin (storedAt s a)) y ≡ false) where
+  pub cross-point : joins D1 (begin (storedAt s a)) y ≡ true → fieldsAt s a .point ≡ true
+  cross-point j = subst (λ (x : StoredEdge). x .point ≡ true) (storedAt-fields s a) (go (met-point (begin (storedAt s a)) y (joins-both D1 (begin (storedAt s a)) y j .0)))
+    where
+      go : (touches (begin (storedAt s a)) y ≡ true) ⊎ (begin (storedAt s a) .edge .point ≡ true) → storedAt s a .point ≡ true
+      unfolding begin
+      go (inl k) = absurd (let z : _≡_ {A = ℕ} 0 1 = cc in omega arith)
+      go (inr k) = k
+
+  pub cross-none : (p : Pass) → (meets p (begin (storedAt s a)) y ≡ touches (begin (storedAt s a)) y) → joins p (begin (storedAt s a)) y ≡ true → ⊥
+  cross-none p e j = let t = sym (joins-both p (begin (storedAt s a)) y j .0) ∙ e ∙ apart in let z : _≡_ {A = ℕ} 0 1 = cc in omega arith
 
 -- ---- where the test says no
 module _ (p : Pass) (c : StoredChain) (y : StoredEdge) {r : Bool} (f : joins p c y ≡ true → r ≡ true) (e : r ≡ false) where

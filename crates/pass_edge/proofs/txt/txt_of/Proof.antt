@@ -8,6 +8,9 @@ use borrow.Author.Tests.{eqb-true, eqb-false}
 use native.Mathlib.Omega.{arith}
 use native.Mathlib.Nat.{zero-add}
 use Rattle.text.specs.Text.{chars}
+use Rattle.pass_list.specs.declared.record.PassEdge.{PassEdge}
+use Rattle.pass_list.specs.StoredEdge.{StoredEdge, EdgeIs}
+use Rattle.pass_list.proofs.in_turn.Theorems.{no-decimals}
 use Rattle.whole.proofs.DecimalLaws.{length-padded, length-decimal-top}
 use Rattle.pass_edge.proofs.TextLaws.{front-is, txt-char, txt-digits, txt-value, rooted-char, places-of, char-fits, value-is}
 use Rattle.pass_edge.proofs.txt.txt_of.Statement.{statement}
@@ -31,6 +34,9 @@ row e t = eqb-true _ 1 (sym e ∙ t)
 
 no-row : {b : Bool} {k : ℕ} → b ≡ eqb k 1 → b ≡ false → k ≡ 1 → ⊥
 no-row e t = eqb-false _ 1 (sym e ∙ t)
+
+decimals-are : {e : PassEdge} {x : StoredEdge} → EdgeIs e x → e .num .decimals ≡ x .decimals
+decimals-are h = ap (λ (e : PassEdge). e .num .decimals) (h .is)
 
 char-txt-requires : tie.Need-char-txt-requires
 char-txt-requires c κs =
@@ -80,7 +86,9 @@ returns-2 c i is =
     let at-else = at-value .before in
     let a = at-else .before .before .before .before .before .args in
     let value = at-value .exact-u64 .ensures (i .value) (is .fits .small .value) (value-is (a .edge) i is) in
-    front-is (txt-digits (chars (a .line .now)) (a .table .now) (a .edge) i is (joined (at-else .before .is-character .ensures) (at-else .if1 .left)) (row (at-row .before .is-row .ensures) (at-row .if2 .taken)) value)
+    let (o, sound) = at-else .before .before .before .before .before .pre .1 in
+    let whole : i .decimals ≡ 0 = sym (decimals-are is) ∙ decimals-are (sound .is) ∙ no-decimals (sound .sound .made) in
+    front-is (txt-digits (chars (a .line .now)) (a .table .now) (a .edge) i is (joined (at-else .before .is-character .ensures) (at-else .if1 .left)) (row (at-row .before .is-row .ensures) (at-row .if2 .taken)) whole value)
     (record { wrote = c .before .before .put-padded .ensures; long = sym (length-padded _ _) })
 
 put-decimal-requires : tie.Need-put-decimal-requires

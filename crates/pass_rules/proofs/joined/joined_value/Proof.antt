@@ -1,7 +1,14 @@
 -- `joined_value` meets its contract. Assumes nothing.
+use mathlib.Core.Path.{_≡_}
+use Prim.Native.Nat.{ℕ, _*_, _/_}
+use native.Mathlib.Omega.{arith}
 use borrow.Author.Needs.{needs}
 use Rattle.pass_rules.proofs.joined.joined_value.Statement.{statement}
 use Rattle.pass_rules.proofs.joined.joined_value.Tie as tie
+
+-- a product of whole values is divided by 10 ^ 0
+by-one : (n : ℕ) → n / 1 ≡ n
+by-one n = omega arith
 
 enum-told : tie.Need-enum-told
 enum-told c = search needs
@@ -37,13 +44,13 @@ returns : tie.Need-returns
 returns c m n h k p q = rw (c .before .enum-told .given .1) (c .with-digit .ensures m n h k p q)
 
 returns-2 : tie.Need-returns-2
-returns-2 c m n h k p q = rw (c .before .enum-told2 .given .1) (c .product .ensures m n h k p q)
+returns-2 c m n h k p q = rw (c .before .enum-told2 .given .1, by-one (m * n)) (c .product .ensures m n h k p q)
 
 returns-3 : tie.Need-returns-3
 returns-3 c m n h k p q = rw (c .before .enum-told3 .given .1) (c .sum .ensures m n h k p q)
 
 returns-4 : tie.Need-returns-4
-returns-4 c m n h k p q = rw (c .before .enum-told4 .given .1) (c .product2 .ensures m n h k p q)
+returns-4 c m n h k p q = rw (c .before .enum-told4 .given .1, by-one (m * n)) (c .product2 .ensures m n h k p q)
 
 returns-5 : tie.Need-returns-5
 returns-5 c m n h k p q = rw (c .before .enum-told5 .given .1) (c .sum2 .ensures m n h k p q)

@@ -2,7 +2,8 @@
 use native.Mathlib.Omega.{arith}
 use mathlib.Core.Path.{sym, _∙_}
 use Rattle.passes.specs.Passes.{D1, G1, G2, G3, G4}
-use Rattle.pass_run.proofs.look.FilterLaws.{join-touches, join-may}
+use Rattle.pass_run.proofs.look.FilterLaws.{apart-fields, join-may}
+use Rattle.pass_list.specs.Stored.{storedAt}
 use Rattle.pass_run.proofs.look.may_join.Statement.{statement}
 use Rattle.pass_run.proofs.look.may_join.Tie as tie
 
@@ -16,7 +17,13 @@ u16-at-requires-2 : tie.Need-u16-at-requires-2
 u16-at-requires-2 c κs = omega (arith, c .before .before .pre .1)
 
 returns : tie.Need-returns
-returns c j = absurd (c .if1 .taken (c .before .before .u16-at .ensures ∙ join-touches _ _ _ _ j ∙ sym (c .before .u16-at2 .ensures)))
+returns c j =
+    let at = c .before .before .before in
+    let a = at .before .args in
+    c .may-cross .ensures (storedAt (a .list .now) (a .b)) (apart-fields (a .list .now) (a .a) (a .b) (λ e. c .before .if1 .taken (at .u16-at .ensures ∙ e ∙ sym (c .before .before .u16-at2 .ensures)))) j
+
+may-cross-requires : tie.Need-may-cross-requires
+may-cross-requires c κs = c .before .before .before .pre .0
 
 add-u16-at-2 : tie.Need-add-u16-at-2
 add-u16-at-2 c = let a = c .before .before .before .before in omega (arith, a .pre .0, a .good)
@@ -79,6 +86,7 @@ may-join-spec =
     add-u16-at
     u16-at-requires
     u16-at-requires-2
+    may-cross-requires
     returns
     add-u16-at-2
     u16-at-requires-3

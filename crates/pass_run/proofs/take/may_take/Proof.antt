@@ -37,7 +37,7 @@ enum-told-5 : tie.Need-enum-told-5
 enum-told-5 c = c .match .keys5
 
 returns : tie.Need-returns
-returns c x e j = let a = c .before .before .before .before .before .before .before .args in rw (e, c .before .before .before .before .before .u16-at .ensures, c .before .before .before .before .u16-at2 .ensures) (take-may (a .list .now) (a .at) D1 x (rw (c .enum-told .given .1) at j))
+returns c x e j = let a = c .before .before .before .before .before .before .before .before .args in rw (e, c .before .before .before .before .before .before .u16-at .ensures, c .before .before .before .before .before .u16-at2 .ensures) (take-may (a .list .now) (a .at) D1 x (rw (c .before .enum-told .given .1) at j))
 
 returns-2 : tie.Need-returns-2
 returns-2 c x e j = let a = c .before .before .before .before .before .before .before .before .args in rw (e, c .before .before .before .before .before .before .u16-at .ensures) (take-may (a .list .now) (a .at) G1 x (rw (c .before .enum-told2 .given .1) at j))

@@ -1,0 +1,2 @@
+-- Laws of the value over two edges.
+pub mod OverLaws
