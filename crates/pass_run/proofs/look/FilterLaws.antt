@@ -158,10 +158,10 @@ apart-fields s a b h = rw (storedAt-fields s a, storedAt-fields s b) (ne-eqb _ _
 -- D1 alone joins there, where the mark says that a point stands there
 module _ (s : List ℕ) (a : ℕ) (y : StoredEdge) (apart : touches (begin (storedAt s a)) y ≡ false) where
   pub cross-point : joins D1 (begin (storedAt s a)) y ≡ true → fieldsAt s a .point ≡ true
+  unfolding begin
   cross-point j = subst (λ (x : StoredEdge). x .point ≡ true) (storedAt-fields s a) (go (met-point (begin (storedAt s a)) y (joins-both D1 (begin (storedAt s a)) y j .0)))
     where
       go : (touches (begin (storedAt s a)) y ≡ true) ⊎ (begin (storedAt s a) .edge .point ≡ true) → storedAt s a .point ≡ true
-      unfolding begin
       go (inl k) = absurd (let z : _≡_ {A = ℕ} 0 1 = cc in omega arith)
       go (inr k) = k
 

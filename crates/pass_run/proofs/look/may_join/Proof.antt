@@ -19,11 +19,11 @@ u16-at-requires-2 c κs = omega (arith, c .before .before .pre .1)
 returns : tie.Need-returns
 returns c j =
     let at = c .before .before .before in
-    let a = at .before .args in
+    let a = at .before .before .args in
     c .may-cross .ensures (storedAt (a .list .now) (a .b)) (apart-fields (a .list .now) (a .a) (a .b) (λ e. c .before .if1 .taken (at .u16-at .ensures ∙ e ∙ sym (c .before .before .u16-at2 .ensures)))) j
 
 may-cross-requires : tie.Need-may-cross-requires
-may-cross-requires c κs = c .before .before .before .pre .0
+may-cross-requires c κs = c .before .before .before .before .pre .0
 
 add-u16-at-2 : tie.Need-add-u16-at-2
 add-u16-at-2 c = let a = c .before .before .before .before in omega (arith, a .pre .0, a .good)
