@@ -2,8 +2,7 @@
 -- In order: texts of one character; numbers that may be absent; the edge; the marks; the bounds.
 -- Assumes nothing.
 use mathlib.Core.Path.{_≡_, refl, sym, ap, _∙_}
-use mathlib.Core.Logic.{⊎-elim}
-use mathlib.Core.Bool.{Bool, true, false, cond, _&&_, true≢false, false≢true}
+use mathlib.Core.Bool.{Bool, true, false, cond, _&&_, true≢false}
 use mathlib.Core.Bool as bool
 use mathlib.Core.List.{List, [], _∷_, append-nil}
 use mathlib.Core.Option.{Option, none, some, Option·getD}
@@ -13,14 +12,14 @@ use native.Mathlib.Omega.{arith}
 use lib.ListN.{length, getD}
 use lib.Seq.{drop-cons}
 use lib.Dec.{leb, ltb, eqb}
-use borrow.Author.Tests.{eq-eqb, leb-true, ltb-true, eqb-true, eqb-false}
+use borrow.Author.Tests.{eq-eqb, leb-true, eqb-true, eqb-false}
 use Rattle.whole.specs.Whole.{TOP}
 use Rattle.whole.specs.Decimal.{padded}
 use Rattle.text.specs.Bytes.{same}
 use Rattle.text.specs.Sequence.{scalar, encode}
 use Rattle.text.specs.Text.{encodes, Scalars}
 use Rattle.text.proofs.BytesLaws.{same-refl, same-true}
-use Rattle.text.proofs.RowLaws.{and-true, or-true}
+use Rattle.text.proofs.RowLaws.{and-true}
 use Rattle.text.proofs.TextLaws.{encodes-injective, scalars-at, encodes-one}
 use Rattle.table.specs.Table.{Text, Record}
 use Rattle.table.specs.Layout.{Is, bit, numbersIn, readRecord}
@@ -35,6 +34,7 @@ use Rattle.passes.specs.Passes.{digitEdge, isScript, cjk}
 use Rattle.pass_list.specs.StoredEdge.{StoredEdge, Small}
 use Rattle.pass_list.specs.Edges.{between, edgeOf, WellMade, noPoint}
 use Rattle.pass_list.specs.Kind.{kindNumber}
+use Rattle.numbers.proofs.SaysLaws.{legal-digit}
 use Rattle.characters.specs.CharStored.{numberIf, charStored}
 
 -- ---- texts of one character
@@ -87,14 +87,6 @@ positive-number true n h = leb-true n TOP (and-true (ltb 0 n) (small n) h .1)
 positive-number false n h = omega arith
 
 -- ---- the table's rule for digits (cause 5)
-legal-digit : (v : Option ℕ) (rom : Option Text) → legalDigit v rom ≡ true → has v ≡ true → leb (orZero v) 9 ≡ true → rom ≡ some ((48 + orZero v) ∷ [])
-unfolding legalDigit
-legal-digit none rom h k l = absurd (false≢true k)
-legal-digit (some n) none h k l = absurd (omega (arith, ltb-true 9 n h, leb-true n 9 l))
-legal-digit (some n) (some t) h k l =
-    ⊎-elim (λ q. absurd (omega (arith, ltb-true 9 n q, leb-true n 9 l))) (λ q. ap {B = Option Text} some (same-true t ((48 + n) ∷ []) q))
-    (or-true (ltb 9 n) (same t ((48 + n) ∷ [])) h)
-
 padded-one : (n : ℕ) → leb n 9 ≡ true → padded 1 n ≡ (48 + n) ∷ []
 unfolding padded
 padded-one n h = let l = leb-true n 9 h in let e : n % 10 ≡ n = omega arith in rw e

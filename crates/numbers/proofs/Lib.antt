@@ -8,3 +8,6 @@ pub mod CallParts
 pub mod CallTwins
 pub mod Cases
 pub mod SinglesCases
+pub mod SaysLaws
+pub mod DecimalCall
+pub mod DecimalCases

@@ -8,6 +8,7 @@ pub mod Separators
 pub mod Singles
 pub mod Fallback
 pub mod Call
+pub mod Says
 -- stages: What the stages of the call share.
 pub mod Ready
 pub mod CallEdge
