@@ -161,15 +161,20 @@ fn several<'a>(line: &'a [u8], listing: &'a [u8]) {
     shown_along(line, listing);
 }
 
-// One edge with decimals over ab, txt 1.5, and a regular one over 五: both are read, and the path has the bytes of both.
-fn decimals(line: &[u8], listing: &[u8]) {
-    best(line, listing, Place(0), Place(2), true);
-    left(line, listing, Place(3), false);
-    shown(line, listing, Place(0));
+// The path has the bytes of both edges, and its listing shows the same.
+fn decimals_along(line: &[u8], listing: &[u8]) {
     let mut out = [0u8; 34];
     path(line, listing, Place(0), Place(3), false, &mut out);
     shown(line, &out, Place(2));
     shown(line, &out, Place(0));
+}
+
+// One edge with decimals over ab, txt 1.5, and a regular one over 五: both are read.
+fn decimals<'a>(line: &'a [u8], listing: &'a [u8]) {
+    best(line, listing, Place(0), Place(2), true);
+    left(line, listing, Place(3), false);
+    shown(line, listing, Place(0));
+    decimals_along(line, listing);
 }
 
 // A count of 15 decimals is read, and a refusal comes for 0, for 16 and for bit 10.
