@@ -1,13 +1,13 @@
 // Replays `lines::add_numbers_to_lines`: a row of standard input is the bytes of the lines and a table in hexadecimal, the output's length in four hexadecimal digits, a
 // work space's likewise less one (ffff is 65,536 bytes), and what is to be seen. Standard output has status, `at` and `next`, the page's bytes in hexadecimal, whether
 // the bytes behind it are as they were, and the same words. tools/model/lines.py makes both files.
-ghost use Prim.Native.Nat.{_≤_, _<_};
+ghost use Prim.Native.Nat.{_≤_};
 use vectors::ROWS;
 
-fn hex_digit(n: u8) -> u8
-    requires { ⌜ n < 16 ⌝ }
-{
-    if n < 10 { n + b'0' } else { n - 10 + b'a' }
+// The digit of the lower four bits.
+fn hex_digit(n: u8) -> u8 {
+    let d = n % 16;
+    if d < 10 { d + b'0' } else { d - 10 + b'a' }
 }
 
 fn show_bytes(s: &[u8]) {
@@ -56,13 +56,19 @@ fn report(lines: &[u8], table: &[u8], work: &mut [u8], out: &mut [u8]) {
     }
 }
 
+fn wide(x: u8) -> usize
+    ensures { λ r. ⌜ r ≤ 255 ⌝ }
+{
+    x as usize
+}
+
 // A number in four digits.
 fn length_of(digits: &[u8]) -> usize
     ensures { λ r. ⌜ r ≤ 65535 ⌝ }
 {
     let mut two = [0u8; 2];
     vectors::unhex(digits, &mut two);
-    two[0] as usize * 256 + two[1] as usize
+    wide(two[0]) * 256 + wide(two[1])
 }
 
 // The rest of a row behind its table.
