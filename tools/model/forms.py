@@ -49,9 +49,10 @@ def edge_at(listing, at):
             numbers += [r.number(8) if bits & bit else 0 for _ in range(count)]
         for bit in (32, 256):
             numbers += text() if bits & bit else [0, 0]
+        numbers.append(r.number(1) if bits & 512 else 0)
     except Cut:
         return None
-    return numbers + [0], r.at
+    return numbers, r.at
 
 
 # ---- a table
@@ -120,7 +121,7 @@ def some_bytes(rnd, sizes):
 
 
 def random_edge(rnd):
-    bits = rnd.choice([0, 1 | rnd.getrandbits(9), rnd.getrandbits(9), rnd.getrandbits(16)])
+    bits = rnd.choice([0, 1 | rnd.getrandbits(10), rnd.getrandbits(10), rnd.getrandbits(16)])
 
     def text():
         t = some_bytes(rnd, [0, 1, 3, 7])
@@ -129,7 +130,7 @@ def random_edge(rnd):
     out = struct.pack('<HHH', bits, rnd.randrange(300), rnd.randrange(300)) + text() + text()
     if bits & 1:
         out += text() + b''.join(some_bytes(rnd, [8 * count]) for bit, count in ((2, 1), (4, 2), (8, 1), (16, 1)) if bits & bit)
-        out += b''.join(text() for bit in (32, 256) if bits & bit)
+        out += b''.join(text() for bit in (32, 256) if bits & bit) + some_bytes(rnd, [bits >> 9 & 1])
     return out
 
 
