@@ -1,10 +1,9 @@
-// A character of a text that is known to be well-formed: the row of its lead byte tells its length, and no byte behind it is tested again (`text::sequence::seq_at` tests them all).
+// A character of a text that is known to be well-formed: three comparisons of its lead byte tell its length, and no byte behind it is tested again (`text::sequence::seq_at` tests them all).
 use crate::Offset;
 use crate::code_point::of_four;
 use crate::code_point::of_three;
 use crate::code_point::of_two;
 use crate::code_point::widen;
-use crate::lead_byte::row_of;
 ghost use mathlib.Core.Path.{_≡_};
 ghost use lib.ListN.{drop};
 ghost use Rattle.text.specs.Sequence.{seq};
@@ -23,22 +22,24 @@ pub fn char_at(s: &[u8], at: Offset) -> Known
 {
     let at = at.0;
     let b = s[at];
-    let row = row_of(b);
-    let len = row.0;
     let lead = widen(b);
-    match len {
-        1 => Known { code: lead, len: 1 },
-        2 => Known {
+    if b < 0x80 {
+        return Known { code: lead, len: 1 };
+    }
+    if b < 0xE0 {
+        return Known {
             code: of_two(s, at, lead % 32),
             len: 2,
-        },
-        3 => Known {
+        };
+    }
+    if b < 0xF0 {
+        return Known {
             code: of_three(s, at, lead % 16),
             len: 3,
-        },
-        _ => Known {
-            code: of_four(s, at, lead % 8),
-            len: 4,
-        },
+        };
+    }
+    Known {
+        code: of_four(s, at, lead % 8),
+        len: 4,
     }
 }

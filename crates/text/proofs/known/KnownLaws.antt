@@ -1,5 +1,5 @@
 -- Laws of a character that is known to stand at an offset, for this crate's proof and its callers'.
--- In order: the bytes behind a lead byte tell the code point; a sequence by its lead byte; a walk over a well-formed line.
+-- In order: the bytes behind a lead byte tell the code point; a sequence by comparisons of its lead byte; a walk over a well-formed line.
 use mathlib.Core.Path.{_≡_, refl, sym, ap, _∙_, subst}
 use mathlib.Core.Bool.{Bool, true, false, cond}
 use mathlib.Core.List.{List, [], _∷_}
@@ -8,15 +8,12 @@ use native.Mathlib.Omega.{arith}
 use native.Mathlib.Decide.{decLe}
 use lib.ListN.{length, getD, drop, drop-of-length-le, length-drop}
 use lib.Seq.{getD-drop}
-use lib.Dec.{eqb}
-use borrow.Author.Tests.{ne-eqb}
-use Rattle.text.specs.declared.Row.{Row}
 use Rattle.text.specs.declared.Seq.{Seq}
 use Rattle.text.specs.declared.Seq.the-variants.{Char, Ill, End}
 use Rattle.text.specs.Table.{rowOf, within, six, bits}
 use Rattle.text.specs.Sequence.{trailing, bySize, seq, encode}
 use Rattle.text.specs.Text.{chars, wellFormed, offsetOf}
-use Rattle.text.proofs.RowLaws.{cond-cases}
+use Rattle.text.proofs.RowLaws.{cond-cases, by-row}
 use Rattle.text.proofs.SequenceLaws.{drop-at, seq-end}
 use Rattle.text.proofs.TextLaws.{chars-nil}
 use Rattle.text.proofs.PlaceLaws.{Reached, offset-end, char-at-place}
@@ -67,12 +64,19 @@ module _ (c l : ℕ) where
       unfolding bySize
       by-three p = behind 2 lo hi (b % 16) (rw p at e)
 
-      -- no row is longer than four
-      by-four : (n ≡ 1 → ⊥) → (n ≡ 2 → ⊥) → (n ≡ 3 → ⊥) → Behind 3 (b % 8) c l s
+      by-four : n ≡ 4 → Behind 3 (b % 8) c l s
       unfolding bySize
-      by-four n1 n2 n3 =
-          cond-cases (λ q. q ≡ Char c l → Behind 3 (b % 8) c l s) (eqb n 4) (λ t f. behind 3 lo hi (b % 8) f) (λ t f. ill-char f)
-          (simp (ne-eqb n 1 n1, ne-eqb n 2 n2, ne-eqb n 3 n3) at e)
+      by-four p = behind 3 lo hi (b % 8) (rw p at e)
+
+    -- ---- that length where a character stands: a lead byte with no row begins none
+    row-len : (n : ℕ) → (b ≤ 0x7F → 1 ≡ n) → (0xC2 ≤ b → b ≤ 0xDF → 2 ≡ n) → (0xE0 ≤ b → b ≤ 0xEF → 3 ≡ n) → (0xF0 ≤ b → 4 ≡ n)
+        → bySize (rowOf b .0) (rowOf b .1) (rowOf b .2) b s ≡ Char c l → rowOf b .0 ≡ n
+    unfolding bySize
+    row-len n one two three four =
+        by-row b (λ r. bySize (r .0) (r .1) (r .2) b s ≡ Char c l → r .0 ≡ n)
+        (λ h e. one h) (λ h k e. two h k)
+        (λ h e. three (omega arith) (omega arith)) (λ h k e. three (omega arith) (omega arith)) (λ h e. three (omega arith) (omega arith)) (λ h k e. three (omega arith) k)
+        (λ h e. four (omega arith)) (λ h k e. four (omega arith)) (λ h e. four (omega arith)) (λ h k e. ill-char e)
 
 -- ---- the same at an offset
 sixes-last : (n m : ℕ) (s : List ℕ) → n < length s → sixes (suc n) m s ≡ six (sixes n m s) (getD s n 0)
@@ -108,23 +112,34 @@ module _ {s : List ℕ} {at : ℕ} (h : Stands s at) where
         let l : n + 1 ≡ h .len = k .len in
         cc (h .here)
 
-  -- the code's lead is that byte, and its row that byte's
-  module _ {lead : ℕ} (e : lead ≡ getD s at 0) {r : Row} (row : r ≡ rowOf (getD s at 0)) where
-    read : bySize (r .0) (r .1) (r .2) (getD s at 0) (drop (at + 1) s) ≡ Char (h .code) (h .len)
+  -- the code's lead is the byte b there; comparisons of it tell the length
+  module _ {b lead : ℕ} (i : b ≡ getD s at 0) (e : lead ≡ b) where
+    read : bySize (rowOf b .0) (rowOf b .1) (rowOf b .2) b (drop (at + 1) s) ≡ Char (h .code) (h .len)
     unfolding seq
-    read = rw row (rw (drop-at s at inside) at (h .here))
+    read = rw i (rw (drop-at s at inside) at (h .here))
 
-    pub one-at : r .0 ≡ 1 → At 0 lead
-    one-at p = rw e (by-one (h .code) (h .len) (getD s at 0) (drop (at + 1) s) (r .0) (r .1) (r .2) read p)
+    len-is : (n : ℕ) → (b ≤ 0x7F → 1 ≡ n) → (0xC2 ≤ b → b ≤ 0xDF → 2 ≡ n) → (0xE0 ≤ b → b ≤ 0xEF → 3 ≡ n) → (0xF0 ≤ b → 4 ≡ n) → rowOf b .0 ≡ n
+    len-is n one two three four = row-len (h .code) (h .len) b (drop (at + 1) s) n one two three four read
 
-    pub two-at : r .0 ≡ 2 → At 1 (lead % 32)
-    two-at p = rw e (by-two (h .code) (h .len) (getD s at 0) (drop (at + 1) s) (r .0) (r .1) (r .2) read p)
+    pub one-at : b < 0x80 → At 0 lead
+    one-at p =
+        let n = len-is 1 (λ l. refl) (λ l k. omega arith) (λ l k. omega arith) (λ l. omega arith) in
+        rw e (by-one (h .code) (h .len) b (drop (at + 1) s) (rowOf b .0) (rowOf b .1) (rowOf b .2) read n)
 
-    pub three-at : r .0 ≡ 3 → At 2 (lead % 16)
-    three-at p = rw e (by-three (h .code) (h .len) (getD s at 0) (drop (at + 1) s) (r .0) (r .1) (r .2) read p)
+    pub two-at : 0x80 ≤ b → b < 0xE0 → At 1 (lead % 32)
+    two-at p q =
+        let n = len-is 2 (λ l. omega arith) (λ l k. refl) (λ l k. omega arith) (λ l. omega arith) in
+        rw e (by-two (h .code) (h .len) b (drop (at + 1) s) (rowOf b .0) (rowOf b .1) (rowOf b .2) read n)
 
-    pub four-at : (r .0 ≡ 1 → ⊥) → (r .0 ≡ 2 → ⊥) → (r .0 ≡ 3 → ⊥) → At 3 (lead % 8)
-    four-at n1 n2 n3 = rw e (by-four (h .code) (h .len) (getD s at 0) (drop (at + 1) s) (r .0) (r .1) (r .2) read n1 n2 n3)
+    pub three-at : 0xE0 ≤ b → b < 0xF0 → At 2 (lead % 16)
+    three-at p q =
+        let n = len-is 3 (λ l. omega arith) (λ l k. omega arith) (λ l k. refl) (λ l. omega arith) in
+        rw e (by-three (h .code) (h .len) b (drop (at + 1) s) (rowOf b .0) (rowOf b .1) (rowOf b .2) read n)
+
+    pub four-at : 0xF0 ≤ b → At 3 (lead % 8)
+    four-at p =
+        let n = len-is 4 (λ l. omega arith) (λ l k. omega arith) (λ l k. omega arith) (λ l. refl) in
+        rw e (by-four (h .code) (h .len) b (drop (at + 1) s) (rowOf b .0) (rowOf b .1) (rowOf b .2) read n)
 
 -- ---- a walk over a well-formed line: a character stands wherever the line goes on
 module _ (s : List ℕ) (f : wellFormed s ≡ true) (n at : ℕ) (r : Reached s n at) where
