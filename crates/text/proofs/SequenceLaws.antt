@@ -1,5 +1,5 @@
--- Laws of `trailing` and `seq` (`specs/Sequence.antt`). In order: a sequence that is cut off; one byte more; two, three and four bytes at an offset.
-use mathlib.Core.Path.{_≡_, refl, sym}
+-- Laws of `trailing` and `seq` (`specs/Sequence.antt`). In order: a sequence that is cut off; one byte more; two, three and four bytes at an offset; the common sequences.
+use mathlib.Core.Path.{_≡_, refl, sym, _∙_}
 use mathlib.Core.Bool.{Bool, true, false, cond, _&&_}
 use mathlib.Core.List.{List, [], _∷_}
 use Prim.Native.Nat.{ℕ, zero, suc, _+_, _-_, _%_, _≤_, _<_}
@@ -11,8 +11,9 @@ use borrow.Author.Tests.{ne-eqb}
 use Rattle.text.specs.declared.Row.{Row}
 use Rattle.text.specs.declared.Seq.{Seq}
 use Rattle.text.specs.declared.Seq.the-variants.{Char, Ill, End}
-use Rattle.text.specs.Table.{rowOf, within, trail, six}
-use Rattle.text.specs.Sequence.{trailing, bySize, seq}
+use Rattle.text.specs.Table.{row, rowOf, within, trail, six}
+use Rattle.text.specs.Sequence.{trailing, bySize, seq, HasLength}
+use Rattle.text.proofs.RowLaws.{row-at, and-true, within-is}
 
 cond-same : (b : Bool) (x : Seq) → cond b x x ≡ x
 cond-same true x = refl
@@ -106,3 +107,21 @@ module _ (s : List ℕ) where
     pub seq-none : (r .0 ≡ 1 → ⊥) → (r .0 ≡ 2 → ⊥) → (r .0 ≡ 3 → ⊥) → (r .0 ≡ 4 → ⊥) → Ill ≡ seq (drop at s)
     unfolding bySize
     seq-none n1 n2 n3 n4 = rw seq-at (simp (ne-eqb (r .0) 1 n1, ne-eqb (r .0) 2 n2, ne-eqb (r .0) 3 n3, ne-eqb (r .0) 4 n4))
+
+-- ---- the common sequences
+module _ (s : List ℕ) (at : ℕ) where
+  pub common-one : at < length s → getD s at 0 < 0x80 → HasLength s at 1
+  unfolding rowOf
+  common-one h l = (getD s at 0, sym (seq-one s at h (row 1 0 0) (row-at 0 0x80 _ tt (getD s at 0) (omega arith) (omega arith)) refl refl))
+
+  pub common-three : {p q r : Bool} → 3 ≤ length s - at → p ≡ within 0xE1 0xEC (getD s at 0) → q ≡ within 0x80 0xBF (getD s (at + 1) 0) → r ≡ within 0x80 0xBF (getD s (at + 2) 0)
+      → ((p && q) && r) ≡ true → HasLength s at 3
+  unfolding rowOf
+  common-three {p} {q} {r} h first second third e =
+      let pq = and-true (p && q) r e in
+      let b = within-is 0xE1 0xEC (getD s at 0) (sym first ∙ and-true p q (pq .0) .0) in
+      let lead = getD s at 0 % 16 in
+      let x = six lead (getD s (at + 1) 0) in
+      let row-is : row 3 0x80 0xBF ≡ rowOf (getD s at 0) = row-at 0xE1 12 _ tt (getD s at 0) (b .0) (omega arith) in
+      let good : cond (q && r) (Char (six x (getD s (at + 2) 0)) 3) Ill ≡ Char (six x (getD s (at + 2) 0)) 3 = rw (and-true p q (pq .0) .1, pq .1) in
+      (_, sym (seq-three s at (omega arith) (row 3 0x80 0xBF) row-is refl refl) ∙ sym (three-at s 0x80 0xBF at lead second refl third refl h) ∙ good)

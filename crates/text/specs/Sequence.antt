@@ -2,12 +2,15 @@
 --     seq s         what stands at the start of s: a character with its length, an ill-formed sequence, or the end
 --     trailing n lo hi c l s   behind l bytes with the bits c: n bytes more, the first of them from lo to hi
 --     bySize n lo hi b s       a sequence of n bytes, its lead byte b, the second from lo to hi
+--     HasLength s at l         a character of l bytes stands in s at the offset at
 --     scalar c      c is a scalar value: a code point that is no surrogate
 --     encode c      the bytes of the scalar value c
 use Prim.Native.Nat.{ℕ, zero, suc, _+_, _/_, _%_}
 use mathlib.Core.Bool.{Bool, cond, _||_}
 use mathlib.Core.List.{List, [], _∷_}
+use mathlib.Core.Path.{_≡_}
 use lib.Dec.{ltb, eqb}
+use lib.ListN.{drop}
 use Rattle.text.specs.declared.Seq.{Seq}
 use Rattle.text.specs.declared.Seq.the-variants.{Char, Ill, End}
 use Rattle.text.specs.Table.{rowOf, within, six}
@@ -31,6 +34,9 @@ unfoldable pub seq : List ℕ → Seq
 unfolding bySize rowOf
 seq [] = End
 seq (b ∷ s) = bySize (rowOf b .0) (rowOf b .1) (rowOf b .2) b s
+
+abbrev pub HasLength : List ℕ → ℕ → ℕ → Type 0
+HasLength s at l = (c : ℕ) × (seq (drop at s) ≡ Char c l)
 
 abbrev pub scalar : ℕ → Bool
 scalar c = within 0 0xD7FF c || within 0xE000 0x10FFFF c

@@ -4,33 +4,40 @@ use crate::Offset;
 use crate::Place;
 use crate::Seq;
 use crate::Walked;
+use crate::sequence::common_len;
 ghost use mathlib.Core.Path.{_≡_};
 ghost use Rattle.text.specs.Text.{wellFormed, offsetOf};
 ghost use Rattle.text.specs.Line.{walked};
 
-// Over the characters from the start, at most so many, up to the end or an ill-formed sequence.
+// Over the characters from the start, at most so many, up to the end or an ill-formed sequence. The common ones are told by fewer tests.
 pub fn walk(s: &[u8], most: usize) -> Walked
     ensures { λ r. ⌜ r ≡ walked (now (s .entry)) most ⌝ }
 {
     let mut count = 0;
     let mut at = 0;
     while count < most {
-        match crate::sequence::seq_at(s, Offset(at)) {
-            Seq::Char(_, len) => {
-                count += 1;
-                at += len;
-            }
-            Seq::Ill => {
-                return Walked {
-                    count,
-                    at: Offset(at),
-                };
-            }
-            Seq::End => {
-                return Walked {
-                    count,
-                    at: Offset(at),
-                };
+        let common = common_len(s, at);
+        if 0 < common {
+            count += 1;
+            at += common;
+        } else {
+            match crate::sequence::seq_at(s, Offset(at)) {
+                Seq::Char(_, len) => {
+                    count += 1;
+                    at += len;
+                }
+                Seq::Ill => {
+                    return Walked {
+                        count,
+                        at: Offset(at),
+                    };
+                }
+                Seq::End => {
+                    return Walked {
+                        count,
+                        at: Offset(at),
+                    };
+                }
             }
         }
     }

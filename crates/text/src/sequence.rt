@@ -11,7 +11,7 @@ ghost use mathlib.Core.Bool.{cond};
 ghost use Prim.Native.Nat.{_+_, _<_};
 ghost use lib.ListN.{length, drop};
 ghost use Rattle.text.specs.Table.{within};
-ghost use Rattle.text.specs.Sequence.{seq, trailing};
+ghost use Rattle.text.specs.Sequence.{seq, trailing, HasLength};
 
 fn between(lo: u8, hi: u8, x: u8) -> bool
     ensures { λ r. ⌜ r ≡ within lo hi x ⌝ }
@@ -87,4 +87,26 @@ pub fn seq_at(s: &[u8], at: Offset) -> Seq
         4 => four(s, at, lead % 8, row.1, row.2),
         _ => Seq::Ill,
     }
+}
+
+// The length of the sequence at an offset, where it is ASCII or of three bytes with a lead byte of E1 to EC, as Han and Kana are: fixed limits tell these. 0 of any other.
+pub fn common_len(s: &[u8], at: usize) -> usize
+    ensures { λ r. ⌜ (0 < r → HasLength (now (s .entry)) at r) ⌝ }
+{
+    if s.len() <= at {
+        return 0;
+    }
+    let b = s[at];
+    if b < 0x80 {
+        return 1;
+    }
+    if s.len() - at < 3 {
+        return 0;
+    }
+    let c = s[at + 1];
+    let d = s[at + 2];
+    if between(0xE1, 0xEC, b) & between(0x80, 0xBF, c) & between(0x80, 0xBF, d) {
+        return 3;
+    }
+    0
 }
