@@ -9,6 +9,7 @@ ghost use Rattle.table_check.specs.Indexed.{RecordIndex};
 ghost use Rattle.numbers.specs.Ready.{Ready};
 ghost use Rattle.characters.specs.Initial.{recordsIn};
 ghost use Rattle.first_stages.specs.Bare.{bareChar, bare};
+use table::filter::may_have;
 use table::index::CharRecord;
 use table::index::INDEX_SIZE;
 use table::index::RecordRun;
@@ -29,6 +30,10 @@ fn bare_char(
 {
     if (48 <= code) & (code <= 57) {
         return false;
+    }
+    // asked here and not in find_char alone: most characters end here
+    if !may_have(index, code) {
+        return true;
     }
     match find_char(table, all, index, entries, code) {
         CharRecord::At(_, _) => false,
