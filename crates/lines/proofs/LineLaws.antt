@@ -1,20 +1,22 @@
 -- Laws of the lines of a list of bytes (`specs/Lines.antt`). No contract cites this file.
--- In order: bytes before lines; a turn of the walk to a line's end; the lines behind the first. Assumes nothing.
-use Prim.Native.Nat.{ℕ, suc, _+_, _-_, _≤_, _<_}
-use mathlib.Core.Path.{_≡_, refl, sym, ap, _∙_}
-use mathlib.Core.Bool.{Bool, true, false, cond}
+-- In order: bytes before lines; a turn of the walk to a line's end; bytes that are skipped; the lines behind the first. Assumes nothing.
+use Prim.Native.Nat.{ℕ, zero, suc, _+_, _-_, _≤_, _<_}
+use mathlib.Core.Path.{_≡_, refl, sym, ap, _∙_, subst}
+use mathlib.Core.Bool.{Bool, true, false, cond, not, _&&_}
 use mathlib.Core.List.{List, [], _∷_, _++_}
 use native.Mathlib.Omega.{arith}
+use native.Mathlib.Decide.{decLt}
 use native.Mathlib.Numerals.{add-one}
 use lib.Dec.{eqb}
 use lib.ListN.{length, take, drop, getD, drop-of-length-le, length-drop}
 use lib.Seq.{take-suc, getD-drop}
-use borrow.Author.Tests.{eq-eqb, ne-eqb}
+use borrow.Author.Tests.{eq-eqb, ne-eqb, eqb-false, not-true}
+use Rattle.text.proofs.RowLaws.{and-true}
 use Rattle.text.proofs.SequenceLaws.{drop-at}
 use Rattle.fields.specs.Part.{part}
 use Rattle.fields.proofs.PartLaws.{length-part}
 use Rattle.lines.specs.declared.next_line.LineEnd.{LineEnd}
-use Rattle.lines.specs.Lines.{newline, Line, line, longer, linesOf, LineAt}
+use Rattle.lines.specs.Lines.{newline, Line, line, longer, linesOf, NoNewline, LineAt}
 
 -- ---- bytes without a newline before lines
 abbrev pub onto : List ℕ → List Line → List Line
@@ -52,7 +54,7 @@ pub record Walking (s : List ℕ) (at i : ℕ) : Type 0 where
   pub inside : i ≤ length s
   pub so-far : linesOf (drop at s) ≡ onto (part s at (i - at)) (linesOf (drop i s))
 
-pub walk-start : (s : List ℕ) (at : ℕ) → at ≤ length s → Walking s at at
+walk-start : (s : List ℕ) (at : ℕ) → at ≤ length s → Walking s at at
 unfolding part
 walk-start s at h = let z : at - at ≡ 0 = omega arith in record { from = omega arith; inside = h; so-far = rw z refl }
 
@@ -104,6 +106,37 @@ module _ (s : List ℕ) (at i : ℕ) (w : Walking s at i) where
         further = omega arith;
         within = w .inside;
       }
+
+-- ---- bytes that are skipped
+module _ (s : List ℕ) where
+  pub none-start : (at : ℕ) → NoNewline s at at
+  none-start at = record { other = λ i z k. absurd (omega arith) }
+
+  pub none-join : (a b c : ℕ) → NoNewline s a b → NoNewline s b c → NoNewline s a c
+  none-join a b c p q = record { other = λ i z k. go i z k (decLt i b) }
+    where
+      go : (i : ℕ) → a ≤ i → i < c → Dec (i < b) → getD s i 0 ≡ newline → ⊥
+      go i z k (yes v) = p .other i z v
+      go i z k (no v) = q .other i (omega arith) k
+
+  pub none-one : (i : ℕ) → not (eqb (getD s i 0) newline) ≡ true → NoNewline s i (i + 1)
+  none-one i e = record { other = λ j z k. (let h : i ≡ j = omega arith in subst (λ (m : ℕ). getD s m 0 ≡ newline → ⊥) h (eqb-false _ _ (not-true _ e))) }
+
+  -- one byte more that was compared
+  pub none-more : (i k : ℕ) (b : Bool) → (b ≡ true → NoNewline s i (i + k)) → (b && not (eqb (getD s (i + k) 0) newline)) ≡ true → NoNewline s i (i + suc k)
+  none-more i k b p e =
+      let t = and-true b (not (eqb (getD s (i + k) 0) newline)) e in
+      let n : i + k + 1 ≡ i + suc k = omega arith in
+      subst (NoNewline s i) n (none-join i (i + k) (i + k + 1) (p (t .0)) (none-one (i + k) (t .1)))
+
+  pub walk-skipped : (at i : ℕ) → at ≤ i → i ≤ length s → NoNewline s at i → Walking s at i
+  walk-skipped at i f h p = let n : at + (i - at) ≡ i = omega arith in subst (Walking s at) n (go (i - at) (omega arith))
+    where
+      go : (k : ℕ) → at + k ≤ i → Walking s at (at + k)
+      go zero l = let n : at ≡ at + 0 = omega arith in subst (Walking s at) n (walk-start s at (omega arith))
+      go (suc k) l =
+          let n : at + k + 1 ≡ at + suc k = omega arith in
+          subst (Walking s at) n (walk-on s at (at + k) (go k (omega arith)) (omega arith) (p .other (at + k) (omega arith) (omega arith)))
 
 -- ---- the lines behind the first
 pub lines-behind : (s : List ℕ) (l : Line) (ls : List Line) → linesOf s ≡ l ∷ ls → linesOf (drop (l .size) s) ≡ ls
