@@ -22,8 +22,9 @@ pub enum StagesAnswer {
     Made(Lattice),
 }
 
-// All stages in turn.
-fn all_stages(
+// The stages, for a line, a table and given edges that passed their checks; silencing says whether singles that may not stand turn inactive. A line
+// without given edges that no stage adds an edge to is answered before its offsets are made.
+pub fn run_stages(
     work: &mut [u8],
     line: &[u8],
     table: &[u8],
@@ -40,6 +41,10 @@ fn all_stages(
     ensures { λ r. ⌜ StagesAre silencing (tableOf (now (table .entry)) shape) (chars (now (line .entry)))
         (listed (now (edges .entry))) (now (work .exit)) r ⌝ }
 {
+    let bare = is_bare(line, table, shape, index, entries);
+    if bare & (count == 0) {
+        return StagesAnswer::Made(lattice::ends::empty(work));
+    }
     let mut offs = [0usize; PLACES];
     pass_edge::places::place_offsets(line, &mut offs);
     match first_stages::run_first_stages(
@@ -66,41 +71,4 @@ fn all_stages(
             silencing,
         )),
     }
-}
-
-// The stages, for a line, a table and given edges that passed their checks; silencing says whether singles that may not stand turn inactive. A line
-// without given edges that no stage adds an edge to is answered before its offsets are made.
-pub fn run_stages(
-    work: &mut [u8],
-    line: &[u8],
-    table: &[u8],
-    shape: Shape,
-    places: usize,
-    edges: &[u8],
-    count: usize,
-    index: &[u32; INDEX_SIZE],
-    entries: usize,
-    silencing: bool,
-) -> StagesAnswer
-    requires { ⌜ (workSize ≤ length (now work)) × Accepted (now line) (now table) (now edges) places shape count
-        × RecordIndex (now table) shape (now index) entries ⌝ }
-    ensures { λ r. ⌜ StagesAre silencing (tableOf (now (table .entry)) shape) (chars (now (line .entry)))
-        (listed (now (edges .entry))) (now (work .exit)) r ⌝ }
-{
-    let bare = is_bare(line, table, shape, index, entries);
-    if bare & (count == 0) {
-        return StagesAnswer::Made(lattice::ends::empty(work));
-    }
-    all_stages(
-        work,
-        line,
-        table,
-        shape,
-        places,
-        edges,
-        count,
-        index,
-        entries,
-        silencing,
-    )
 }

@@ -171,7 +171,7 @@ fn decimals_along(line: &[u8], listing: &[u8]) {
 
 // One edge with decimals over ab, txt 1.5, and a regular one over 五: both are read.
 fn decimals<'a>(line: &'a [u8], listing: &'a [u8]) {
-    best(line, listing, Place(0), Place(2), true);
+    best(line, listing, Place(0), Place(2), false);
     left(line, listing, Place(3), false);
     shown(line, listing, Place(0));
     decimals_along(line, listing);
@@ -184,28 +184,28 @@ fn counts(line: &[u8]) {
         b"\x01\x00\x81\x02\x00\x00\x02\x00\x00\x00\x00\x00\x00\x00\x0f",
         Place(0),
         Place(2),
-        true,
+        false,
     );
     best(
         line,
         b"\x01\x00\x81\x02\x00\x00\x02\x00\x00\x00\x00\x00\x00\x00\x00",
         Place(0),
         Place(2),
-        true,
+        false,
     );
     best(
         line,
         b"\x01\x00\x81\x02\x00\x00\x02\x00\x00\x00\x00\x00\x00\x00\x10",
         Place(0),
         Place(2),
-        true,
+        false,
     );
     best(
         line,
         b"\x01\x00\x81\x04\x00\x00\x02\x00\x00\x00\x00\x00\x00\x00",
         Place(0),
         Place(2),
-        true,
+        false,
     );
 }
 

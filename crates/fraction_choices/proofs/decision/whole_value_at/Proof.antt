@@ -54,17 +54,4 @@ returns-4 : tie.Need-returns-4
 returns-4 c = let r = read (c .before .before) in ap some (c .whole-part .ensures _ (r .small) (read-float r)) ∙ sym (r .is)
 
 pub whole-value-at-spec : {M : Type 1} → statement M
-whole-value-at-spec =
-    tie.close
-    (tie.spec
-    edge-at-requires
-    bit-requires
-    returns
-    bit-requires-2
-    returns-2
-    bit-requires-3
-    returns-3
-    fields-at-requires
-    float-from-bits-whole-part
-    whole-part-requires
-    returns-4)
+whole-value-at-spec = tie.close (tie.spec edge-at-requires bit-requires returns bit-requires-2 returns-2 bit-requires-3 returns-3 fields-at-requires float-from-bits-whole-part whole-part-requires returns-4)

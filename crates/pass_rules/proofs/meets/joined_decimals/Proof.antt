@@ -37,17 +37,4 @@ returns-5 : tie.Need-returns-5
 returns-5 c x y p q = rw (c .enum-told5 .given .1)
 
 pub joined-decimals-spec : {M : Type 1} → statement M
-joined-decimals-spec =
-    tie.close
-    (tie.spec
-    enum-told
-    with-digit-requires
-    enum-told-2
-    enum-told-3
-    enum-told-4
-    enum-told-5
-    returns
-    returns-2
-    returns-3
-    returns-4
-    returns-5)
+joined-decimals-spec = tie.close (tie.spec enum-told with-digit-requires enum-told-2 enum-told-3 enum-told-4 enum-told-5 returns returns-2 returns-3 returns-4 returns-5)
