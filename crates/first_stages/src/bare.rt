@@ -72,7 +72,8 @@ pub fn is_bare(
     index: &[u32; INDEX_SIZE],
     entries: usize,
 ) -> bool
-    requires { ⌜ ((n : ℕ) × Ready (now line) (now table) shape n) × RecordIndex (now table) shape (now index) entries ⌝ }
+    requires { ⌜ ((n : ℕ) × Ready (now line) (now table) shape n)
+        × RecordIndex (now table) shape (now index) entries ⌝ }
     ensures { λ r. ⌜ r ≡ bare (tableOf (now (table .entry)) shape .records) (chars (now (line .entry))) ⌝ }
 {
     // the table begins with the count of its records

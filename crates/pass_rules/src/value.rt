@@ -67,7 +67,8 @@ fn product_from_one(l: PassEdge, r: PassEdge) -> Over
 fn decimal_value(pass: Pass, l: PassEdge, r: PassEdge) -> Over
     requires { ⌜ ((x : StoredEdge) × EdgeIs l x) × ((y : StoredEdge) × EdgeIs r y) ⌝ }
     ensures { λ v. ⌜ ((x y : StoredEdge) → EdgeIs l x → EdgeIs r y → bothWhole x y ≡ false
-        → v ≡ overAnswer (decimalsFit (passOf pass) x y) (valueOf (passOf pass) (x .decimals) (x .value) (y .value))) ⌝ }
+        → v ≡ overAnswer (decimalsFit (passOf pass) x y)
+        (valueOf (passOf pass) (x .decimals) (x .value) (y .value))) ⌝ }
 {
     match pass {
         Pass::D1 => known(joined_value(Pass::D1, l.num.value, r.num.value)),
@@ -82,7 +83,8 @@ fn decimal_value(pass: Pass, l: PassEdge, r: PassEdge) -> Over
 pub fn value_over(pass: Pass, l: PassEdge, r: PassEdge) -> Over
     requires { ⌜ ((x : StoredEdge) × EdgeIs l x) × ((y : StoredEdge) × EdgeIs r y) ⌝ }
     ensures { λ v. ⌜ ((x y : StoredEdge) → EdgeIs l x → EdgeIs r y
-        → v ≡ overAnswer (decimalsFit (passOf pass) x y) (valueOf (passOf pass) (x .decimals) (x .value) (y .value))) ⌝ }
+        → v ≡ overAnswer (decimalsFit (passOf pass) x y)
+        (valueOf (passOf pass) (x .decimals) (x .value) (y .value))) ⌝ }
 {
     if (l.num.decimals == 0) & (r.num.decimals == 0) {
         return known(joined_value(pass, l.num.value, r.num.value));
