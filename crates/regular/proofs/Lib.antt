@@ -2,5 +2,6 @@
 pub mod CheckLaws
 pub mod Makers
 pub mod Without
+pub mod Alone
 pub mod CheckTheorems
 pub mod NotRefused

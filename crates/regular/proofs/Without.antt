@@ -1,10 +1,12 @@
 -- What fails without each part of the condition, computed on both sides. For each part there is a table with one record that lacks this part alone, and a line. What the passes
 -- make of the line and what the grammar says of it, with the record taken for the kind that it pretends to be, are not the same, so that demand 3 would be false of the table.
--- The table is smallest in this sense, each part of which is computed: it has this record and at most one other; without the record, and with the part mended, it is regular;
--- and no shorter line of its characters fails. One part has no such table: a record that lacks of the unit's parts only "no large power" is a large power (`unit-not-large`).
+-- The table is smallest. Computed: it has this record and at most one other; without the record, and with the part mended, it is regular; and no shorter line of its characters
+-- fails. Where it has another, no table of one record that lacks this part alone fails, on any line, and with no table does a line of one character (`proofs/Alone.antt`).
+-- One part has no such table: a record that lacks of the unit's parts only "no large power" is a large power (`unit-not-large`).
 --     Taken             a record, taken for a digit, a unit, a large power or any other
 --     grammarSays w     the value of the numeral w by the grammar, with its records so taken; none where it is no numeral
 --     Differs ts w a g  with the table ts the passes answer a for the line w and the grammar says g, which is not the same; of every shorter line they say the same
+--     AgreeAlone x      with the table of x alone, of every line of x the list after the fifth pass and the grammar say the same
 --     Fails x m ts w a g   x is of no kind, the table ts is regular, and with x mended to m too; with x, it differs so
 -- Assumes nothing.
 use Prim.Native.Nat.{ℕ, zero, suc}
@@ -14,18 +16,18 @@ use mathlib.Core.Bool.{Bool, true, false, cond, _&&_}
 use mathlib.Core.List.{List, [], _∷_, _++_, map}
 use mathlib.Core.Option.{Option, none, some}
 use lib.Dec.{eqb}
-use lib.ListN.{length}
+use lib.ListN.{length, replicate}
 use Rattle.text.specs.Bytes.{same}
 use Rattle.table.specs.Table.{Text, Record}
 use Rattle.whole.specs.Decimal.{decimal, decimalWithin}
 use Rattle.passes.specs.Chains.{from, chains}
-use Rattle.passes.specs.Passes.{digitType, cjk, powerOfTen, powerWithin}
+use Rattle.passes.specs.Passes.{digitType, cjk, powerOfTen, powerWithin, fifthList}
 use Rattle.table_grammar.specs.Grammar.{CharOf, digit, ten, large, small, block, lone, Alphabet}
 use Rattle.table_grammar.specs.Kinds.{Char, atLeast, digitRecord, unitRecord, largeRecord, otherRecord, regularRecord, regularRecords}
 use Rattle.table_grammar.specs.TableGrammar.{byRecords, kinds, Member}
 use Rattle.table_grammar.proofs.Computed.{said}
 use Rattle.table_grammar.proofs.Alphabets.{charBy, memberBy, same-said}
-use Rattle.grammar.proofs.Marked.{Answer, Edges, Refused7, answerWith, one, two}
+use Rattle.grammar.proofs.Marked.{Answer, Edges, Refused7, answerOf, answerWith, one, two}
 use Rattle.regular.proofs.Makers.{tableWith, baseType, largeType, digitRow, unitRow, largeRow}
 
 -- ---- what is said
@@ -129,6 +131,13 @@ shorter (suc n) ts = lines n ts ++ shorter n ts
 abbrev pub allAgree : List Taken → List (List Taken) → Bool
 allAgree ts [] = true
 allAgree ts (w ∷ ws) = agree (wholeValue (length w) (passesSay ts w)) (grammarSays w) && allAgree ts ws
+
+-- the edges after the fifth pass, with values above TOP too
+abbrev pub lastSays : List Taken → List Taken → Answer
+lastSays ts w = answerOf (fifthList (tableWith (map entry ts)) (map (λ x. entry x .code-point) w)) none
+
+abbrev pub AgreeAlone : Taken → Type 0
+AgreeAlone x = (n : ℕ) → wholeValue n (lastSays (x ∷ []) (replicate n x)) ≡ grammarSays (replicate n x)
 
 abbrev pub Differs : List Taken → List Taken → Answer → Option ℕ → Type 0
 Differs ts w a g =
@@ -247,7 +256,8 @@ unit-not-gap = (refl, refl, refl, (refl, refl, refl, refl))
 
 -- ---- a large power
 
--- value 10 or more, as for a unit: xx would be no numeral, and 万x 10005
+-- value 10 or more, as for a unit: xx would be no numeral, neither of type "digit", where D1 makes a run of it, nor of another with the base 1000, where one place of value 1 to 9
+-- counts as hundreds
 abbrev largeDigit : Taken
 largeDigit = asLarge (at x digitType (some 5) (some 5) true)
 
@@ -256,9 +266,9 @@ unfolding answerWith same from chains decimal decimalWithin powerOfTen powerWith
 large-value-digit = (refl, refl, refl, (refl, refl, refl, refl))
 
 abbrev largeFive : Taken
-largeFive = asLarge (at x largeType (some 5) (some 5) true)
+largeFive = asLarge (at x largeType (some 5) (some 1000) true)
 
-pub large-value : Fails largeFive (at x largeType (some 10) (some 5) true) (asLarge myriad ∷ []) (asLarge myriad ∷ largeFive ∷ []) (one 2 15000) (some 10005)
+pub large-value : Fails largeFive (at x largeType (some 10) (some 1000) true) [] (largeFive ∷ largeFive ∷ []) (one 2 505) none
 unfolding answerWith same from chains decimal decimalWithin powerOfTen powerWithin
 large-value = (refl, refl, refl, (refl, refl, refl, refl))
 

@@ -1,6 +1,7 @@
 -- The grammar computed: of a line of characters, over any alphabet, the value of its reading where it has one. Since the members are found by chains (`proofs/Pieces.antt`), it
 -- remains to test that all but the last are blocks and that each is below the one before it.
 --     said A w       the value of the numeral w; none where w is no numeral
+--     said-none      a line whose first two members are no block and what is below it is no numeral
 --     said-reading   a reading's value is what is said; reading-said: what is said is a reading's value
 use Prim.Native.Nat.{ℕ}
 use mathlib.Core.Path.{_≡_, refl, sym, ap, _∙_}
@@ -20,13 +21,13 @@ build-row r [] = refl
 build-row r (a ∷ l) = build-row (r ▷ a) l
 
 module _ {D T L : Type 0} (A : Alphabet D T L) where
-  abbrev isBlock : MemberOf D T L → Bool
+  abbrev pub isBlock : MemberOf D T L → Bool
   isBlock (small s) = false
   isBlock (block s l) = true
   isBlock (lone l) = true
 
   -- m is below the base of the member n before it
-  abbrev isBelow : MemberOf D T L → MemberOf D T L → Bool
+  abbrev pub isBelow : MemberOf D T L → MemberOf D T L → Bool
   isBelow n m = ltb (countValue A (A .tenths n) (memberBase A n) m) (memberBase A n) && ltb (countBase A (A .tenths n) (memberBase A n) m) (memberBase A n)
 
   abbrev inOrder : DivisionOf D T L → Bool
@@ -39,6 +40,14 @@ module _ {D T L : Type 0} (A : Alphabet D T L) where
 
   abbrev pub said : List (CharOf D T L) → Option ℕ
   said w = valueOf (row-of (members A w))
+
+  order-stays : (d : DivisionOf D T L) (ms : List (MemberOf D T L)) → inOrder d ≡ false → inOrder (build d ms) ≡ false
+  order-stays d [] h = h
+  order-stays d (m ∷ ms) h = order-stays (d ▷ m) ms (rw h)
+
+  -- a line whose first two members are no block and what is below it is no numeral
+  pub said-none : (w : List (CharOf D T L)) (n m : MemberOf D T L) (ms : List (MemberOf D T L)) → members A w ≡ n ∷ m ∷ ms → isBlock n && isBelow n m ≡ false → said w ≡ none
+  said-none w n m ms h e = rw (h, order-stays (one n ▷ m) ms e)
 
   is-block : (m : MemberOf D T L) → IsBlock m → isBlock m ≡ true
   is-block (small s) h = absurd h

@@ -22,7 +22,7 @@ use Rattle.table_grammar.specs.Grammar.{digit, ten, large}
 use Rattle.table_grammar.specs.Kinds.{Char, Digit, Large, Ten, atLeast, atMost, charBy, digitRecord, entryOf, exactly, largeRecord, unitRecord}
 
 -- ---- the three kinds
-most : (n : ℕ) (o : Option ℕ) → atMost n o ≡ true → (o ≡ some (orZero o)) × (orZero o ≤ n)
+pub most : (n : ℕ) (o : Option ℕ) → atMost n o ≡ true → (o ≡ some (orZero o)) × (orZero o ≤ n)
 most n none e = absurd (false≢true e)
 most n (some v) e = (refl, true-le v n e)
 
