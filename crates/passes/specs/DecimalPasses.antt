@@ -14,7 +14,7 @@ use mathlib.Core.Option.{Option, none, some, Option·map}
 use lib.Dec.{leb, ltb, eqb}
 use lib.ListN.{getD}
 use Rattle.table.specs.Table.{Record, Table, find}
-use Rattle.passes.specs.NumEdge.{NumEdge, orZero, firstAbove}
+use Rattle.passes.specs.NumEdge.{NumEdge, placed, orZero, firstAbove}
 use Rattle.passes.specs.Characters.{firstList}
 use Rattle.passes.specs.Chains.{chains}
 use Rattle.passes.specs.Passes as passes
@@ -58,21 +58,7 @@ pointAt t w p = isNone (find (t .records) pointCharacter) && eqb (getD w p 0) po
 
 -- "orig_txt, txt and value_s keep the point in its place": the edge e and a point behind it, as the left of a join; D1 takes value_s from txt
 unfoldable pub withPoint : NumEdge → NumEdge
-withPoint e = record {
-  start = e .start;
-  end = e .end;
-  type = e .type;
-  txt = e .txt ++ (pointCharacter ∷ []);
-  orig-txt = e .orig-txt ++ (pointCharacter ∷ []);
-  value = e .value;
-  fraction = e .fraction;
-  base = e .base;
-  mult = e .mult;
-  script = e .script;
-  large-power = e .large-power;
-  active = e .active;
-  value-s = e .value-s;
-}
+withPoint e = placed (e .start) (e .end) (e .txt ++ (pointCharacter ∷ [])) (e .orig-txt ++ (pointCharacter ∷ [])) e
 
 -- a digit more after those of an edge with k decimals
 abbrev pub oneMore : ℕ → ℕ

@@ -1,9 +1,10 @@
 -- A numeric edge with 01's fields, as the passes see it: values are whole numbers, texts are bytes. Definitions only.
---     NumEdge         the edge; a field that is absent is none
---     orZero o        a number, where a missing one counts as 0
---     has o           the number is there
---     above e         e has a value, and it is above TOP
---     firstAbove es   the start of the first edge of es whose value is above TOP, where there is one
+--     NumEdge            the edge; a field that is absent is none
+--     placed i j x o e   the edge e from i to j, with txt x and orig_txt o
+--     orZero o           a number, where a missing one counts as 0
+--     has o              the number is there
+--     above e            e has a value, and it is above TOP
+--     firstAbove es      the start of the first edge of es whose value is above TOP, where there is one
 --     Assumes nothing.
 use Prim.Native.Nat.{ℕ}
 use mathlib.Core.Bool.{Bool, true, false, cond}
@@ -29,6 +30,24 @@ pub record NumEdge : Type 0 where
   pub large-power : Bool
   pub active : Bool
   pub value-s : Option Text
+
+-- the edge e from start to end, with the texts x and o
+abbrev pub placed : ℕ → ℕ → Text → Text → NumEdge → NumEdge
+placed start end x o e = record {
+  start = start;
+  end = end;
+  type = e .type;
+  txt = x;
+  orig-txt = o;
+  value = e .value;
+  fraction = e .fraction;
+  base = e .base;
+  mult = e .mult;
+  script = e .script;
+  large-power = e .large-power;
+  active = e .active;
+  value-s = e .value-s;
+}
 
 abbrev pub orZero : Option ℕ → ℕ
 orZero none = 0
