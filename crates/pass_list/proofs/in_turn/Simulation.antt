@@ -161,8 +161,9 @@ one-digit d h = let e : d % 10 ≡ d = omega arith in rw e
 digits-more : (k n v d : ℕ) → 0 < n → d ≤ 9 → digitsText k n v ++ padded 1 d ≡ digitsText (oneMore k) (suc n) (10 * v + d)
 digits-more zero n v d h i = padded-more n v d i
 digits-more (suc k) n v d h i =
-    let e : suc n - 1 ≡ suc (n - 1) = omega arith in
-    rw (e, ← (padded-more (n - 1) v d i), one-digit d i) (pointed-more k (48 + d) (padded (n - 1) v))
+    let e : suc (n - 1) ≡ suc n - 1 = omega arith in
+    let more : digitsText (suc k) n v ++ padded 1 d ≡ pointed (suc (suc k)) (padded (suc (n - 1)) (10 * v + d)) = rw (← (padded-more (n - 1) v d i), one-digit d i) (pointed-more k (48 + d) (padded (n - 1) v)) in
+    more ∙ ap (λ (m : ℕ). pointed (suc (suc k)) (padded m (10 * v + d))) e
 
 -- the first digit after the point
 digits-point : (n v d : ℕ) → d ≤ 9 → (padded n v ++ (pointCharacter ∷ [])) ++ padded 1 d ≡ digitsText 1 (suc (suc n)) (10 * v + d)

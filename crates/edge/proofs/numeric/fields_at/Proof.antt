@@ -101,7 +101,7 @@ u64-if-requires-5 : tie.Need-u64-if-requires-5
 u64-if-requires-5 c κs = (omega arith, inside _ _ _ (c .before .before .before .before .before .before .before .before .before .text-at .ensures) (c .before .before .before .before .before .before .before .before .before .before .before .pre) .mult)
 
 u8-if-requires : tie.Need-u8-if-requires
-u8-if-requires c κs = (omega arith, decimals-there _ _ _ (c .before .before .before .before .before .before .before .before .before .before .text-at .ensures) (c .before .before .before .before .before .before .before .before .text-if .ensures) (c .before .before .before .before .before .before .text-if2 .ensures) (c .before .before .before .before .before .before .before .before .before .before .before .before .pre))
+u8-if-requires c κs = (omega arith, λ on. let h = decimals-there _ _ _ (c .before .before .before .before .before .before .before .before .before .before .text-at .ensures) (c .before .before .before .before .before .before .before .before .text-if .ensures) (c .before .before .before .before .before .before .text-if2 .ensures) (c .before .before .before .before .before .before .before .before .before .before .before .before .pre) on in omega arith)
 
 returns : tie.Need-returns
 returns c =
