@@ -38,9 +38,9 @@ pub digit-bare : (rs : List Record) (c : ℕ) → asciiDigit c ≡ true → fals
 unfolding bareChar
 digit-bare rs c h = rw h
 
-pub found-bare : (rs : List Record) (c : ℕ) {r : Record} → asciiDigit c ≡ false → find rs c ≡ some r → false ≡ bareChar rs c
+pub sought-bare : (rs : List Record) (c : ℕ) → asciiDigit c ≡ false → absent (find rs c) ≡ bareChar rs c
 unfolding bareChar
-found-bare rs c h f = rw (h, f)
+sought-bare rs c h = rw h
 
 pub none-bare : (rs : List Record) (c : ℕ) → asciiDigit c ≡ false → find rs c ≡ none → true ≡ bareChar rs c
 unfolding bareChar
