@@ -30,7 +30,7 @@ pub record LegalAt (least c : ℕ) (f : Field Record) (next : ℕ) : Type 0 wher
 pub record Tail (s : List ℕ) (t rom at next : ℕ) : Type 0 where
   pub numbers : Numbers t (leAt s rom 2) (leAt s at 8) (leAt s (at + 8) 8)
   pub room : at + 16 < length s
-  pub short : getD s (at + 16) 0 ≤ 4
+  pub short : getD s (at + 16) 0 ≤ 24
   pub behind : next ≡ at + 17 + getD s (at + 16) 0
   pub ends : next ≤ length s
   pub script : Ascii s (at + 17) next

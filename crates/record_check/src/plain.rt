@@ -5,7 +5,7 @@ ghost use Prim.Native.Nat.{ℕ, _+_, _≤_, _<_};
 ghost use lib.ListN.{length, getD};
 ghost use Rattle.record_check.specs.Plain.{TailIs, FieldsIs, PlainIs};
 use crate::ascii::ascii;
-use crate::ascii::four_ascii;
+use crate::ascii::short_ascii;
 use crate::plain_numbers::legal_head;
 use crate::plain_numbers::legal_numbers;
 
@@ -21,7 +21,7 @@ pub enum Behind {
     Other,
 }
 
-// The value and the base, and a script of at most 4 bytes. The rom stands before them, and the type, by its first byte, before the rom.
+// The value and the base, and a script of at most 24 bytes. The rom stands before them, and the type, by its first byte, before the rom.
 fn tail_end(s: &[u8], first: u8, rom: usize, at: usize) -> Behind
     requires { ⌜ (rom + 1 ≤ at) × (at < length (now s)) ⌝ }
     ensures { λ r. ⌜ TailIs (now (s .entry)) first rom at r ⌝ }
@@ -30,14 +30,14 @@ fn tail_end(s: &[u8], first: u8, rom: usize, at: usize) -> Behind
         return Behind::Other;
     }
     let k = s[at + 16] as usize;
-    if 4 < k {
+    if 24 < k {
         return Behind::Other;
     }
     if s.len() - at - 17 < k {
         return Behind::Other;
     }
     let next = at + 17 + k;
-    if !four_ascii(s, next - 4) {
+    if !short_ascii(s, at + 17, k) {
         return Behind::Other;
     }
     if legal_numbers(s, first, rom, at) {

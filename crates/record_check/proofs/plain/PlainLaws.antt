@@ -127,12 +127,9 @@ fields-plain least c m s at {type} {rom} {script} {a} {b} h t r u l n d = record
 }
 
 -- ---- what the functions answer
-pub tail-is : (s : List ℕ) (t rom at : ℕ) → 17 ≤ length s - at → getD s (at + 16) 0 ≤ 4 → getD s (at + 16) 0 ≤ length s - at - 17
-    → Ascii s (at + 17 + getD s (at + 16) 0 - 4) (at + 17 + getD s (at + 16) 0 - 4 + 4) → Numbers t (leAt s rom 2) (leAt s at 8) (leAt s (at + 8) 8)
-    → Tail s t rom at (at + 17 + getD s (at + 16) 0)
-tail-is s t rom at h k l a n =
-    let next = at + 17 + getD s (at + 16) 0 in
-    record { numbers = n; room = omega arith; short = k; behind = refl; ends = omega arith; script = ascii-part s (next - 4) (next - 4 + 4) (at + 17) next (omega arith) (omega arith) a }
+pub tail-is : (s : List ℕ) (t rom at : ℕ) → 17 ≤ length s - at → getD s (at + 16) 0 ≤ 24 → getD s (at + 16) 0 ≤ length s - at - 17
+    → Ascii s (at + 17) (at + 17 + getD s (at + 16) 0) → Numbers t (leAt s rom 2) (leAt s at 8) (leAt s (at + 8) 8) → Tail s t rom at (at + 17 + getD s (at + 16) 0)
+tail-is s t rom at h k l a n = record { numbers = n; room = omega arith; short = k; behind = refl; ends = omega arith; script = a }
 
 pub fields-is : (s : List ℕ) (at n q : ℕ) (r : Behind) → n ≡ getD s at 0 → q ≡ getD s (at + 1 + n) 0 → n + 2 + q ≤ 24 → ((i : ℕ) → getD s i 0 < 256) → at + (n + 2 + q) ≤ length s
     → Ascii s at (at + (n + 2 + q)) → TailIs s (getD s (at + 1) 0) (at + 1 + n) (at + (n + 2 + q)) r → FieldsIs s at r

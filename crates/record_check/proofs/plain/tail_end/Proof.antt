@@ -39,11 +39,11 @@ add-next c = omega arith
 add-next-2 : tie.Need-add-next-2
 add-next-2 c = omega arith
 
-sub-four-ascii : tie.Need-sub-four-ascii
-sub-four-ascii c = omega arith
+add-short-ascii : tie.Need-add-short-ascii
+add-short-ascii c = omega arith
 
-four-ascii-requires : tie.Need-four-ascii-requires
-four-ascii-requires c κs = (omega arith, λ j. c .before .before .shared-slice-known2 .given j .fits)
+short-ascii-requires : tie.Need-short-ascii-requires
+short-ascii-requires c κs = omega arith
 
 returns-4 : tie.Need-returns-4
 returns-4 c = tt
@@ -55,7 +55,7 @@ returns-5 : tie.Need-returns-5
 returns-5 c =
     let low = c .before .before .before in
     let k = low .before in
-    tail-is _ _ _ _ (k .before .before .before .if1 .left) (k .before .if2 .left) (k .if3 .left) (low .four-ascii .ensures (not-false _ (c .before .before .if4 .left))) (c .before .legal-numbers .ensures (c .if5 .taken))
+    tail-is _ _ _ _ (k .before .before .before .if1 .left) (k .before .if2 .left) (k .if3 .left) (low .short-ascii .ensures (not-false _ (c .before .before .if4 .left))) (c .before .legal-numbers .ensures (c .if5 .taken))
 
 returns-6 : tie.Need-returns-6
 returns-6 c = tt
@@ -75,8 +75,8 @@ tail-end-spec =
     returns-3
     add-next
     add-next-2
-    sub-four-ascii
-    four-ascii-requires
+    add-short-ascii
+    short-ascii-requires
     returns-4
     legal-numbers-requires
     returns-5
