@@ -3,5 +3,6 @@ pub mod CheckLaws
 pub mod Makers
 pub mod Without
 pub mod Alone
+pub mod TwoCharacters
 pub mod CheckTheorems
 pub mod NotRefused

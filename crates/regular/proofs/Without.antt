@@ -1,7 +1,8 @@
 -- What fails without each part of the condition, computed on both sides. For each part there is a table with one record that lacks this part alone, and a line. What the passes
 -- make of the line and what the grammar says of it, with the record taken for the kind that it pretends to be, are not the same, so that demand 3 would be false of the table.
 -- The table is smallest. Computed: it has this record and at most one other; without the record, and with the part mended, it is regular; and no shorter line of its characters
--- fails. Where it has another, no table of one record that lacks this part alone fails, on any line, and with no table does a line of one character (`proofs/Alone.antt`).
+-- fails. Where it has another, no table of one record that lacks this part alone fails, on any line, and with no table does a line of one character (`proofs/Alone.antt`);
+-- nor, for the one line of three, one of two (`proofs/TwoCharacters.antt`).
 -- One part has no such table: a record that lacks of the unit's parts only "no large power" is a large power (`unit-not-large`).
 --     Taken             a record, taken for a digit, a unit, a large power or any other
 --     grammarSays w     the value of the numeral w by the grammar, with its records so taken; none where it is no numeral

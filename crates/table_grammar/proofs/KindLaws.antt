@@ -26,7 +26,7 @@ pub most : (n : ℕ) (o : Option ℕ) → atMost n o ≡ true → (o ≡ some (o
 most n none e = absurd (false≢true e)
 most n (some v) e = (refl, true-le v n e)
 
-least : (n : ℕ) (o : Option ℕ) → atLeast n o ≡ true → (o ≡ some (orZero o)) × (n ≤ orZero o)
+pub least : (n : ℕ) (o : Option ℕ) → atLeast n o ≡ true → (o ≡ some (orZero o)) × (n ≤ orZero o)
 least n none e = absurd (false≢true e)
 least n (some v) e = (refl, true-le n v e)
 
