@@ -1,5 +1,5 @@
 -- A filter over the code points of records, which stands in their index os behind its entries: a bit for each four code points in a row, 8,192 bits; code points that are
--- 32,768 apart share one. Definitions only.
+-- 65,536 apart share one, U+8000 to U+BFFF share those of U+4000 to U+7FFF, and U+C000 to U+FFFF those of U+0000 to U+3FFF. Definitions only.
 --     mostEntries      the most entries of an index
 --     indexSize        the words of an index: entries, then the filter
 --     markWord c       the word with the bit of the code point c; markBit c: the bit's number in it
@@ -11,7 +11,7 @@
 use mathlib.Core.Path.{_≡_}
 use mathlib.Core.List.{List}
 use mathlib.Core.Option.{none}
-use Prim.Native.Nat.{ℕ, _+_, _/_, _%_, _^_}
+use Prim.Native.Nat.{ℕ, _+_, _*_, _/_, _%_, _^_}
 use lib.ListN.{getD, set}
 use lib.Bits.{bitOr}
 use Rattle.table.specs.Table.{Record, find}
@@ -23,7 +23,7 @@ abbrev pub indexSize : ℕ
 indexSize = 512
 
 abbrev pub markWord : ℕ → ℕ
-markWord c = mostEntries + c / 128 % 256
+markWord c = mostEntries + (c / 128 + c / 32768 * 128) % 256
 
 abbrev pub markBit : ℕ → ℕ
 markBit c = c / 4 % 32

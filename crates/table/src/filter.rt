@@ -7,11 +7,11 @@ ghost use Rattle.table.specs.Filter.{markWord, markBit, indexSize, mark,
 use crate::index::INDEX_SIZE;
 use crate::index::MOST_ENTRIES;
 
-// The word that has the bit of a code point.
+// The word that has the bit of a code point. The code points from U+8000 on begin in the middle, so that Han does not share bits with the digits of scripts below U+2000.
 fn word_of(c: u32) -> usize
     ensures { λ r. ⌜ r ≡ markWord c ⌝ }
 {
-    MOST_ENTRIES + (c / 128 % 256) as usize
+    MOST_ENTRIES + ((c / 128 + c / 32768 * 128) % 256) as usize
 }
 
 // The bit's number in its word.
