@@ -14,7 +14,7 @@ use table::filter::may_have;
 use table::index::CharRecord;
 use table::index::INDEX_SIZE;
 use table::index::RecordRun;
-use table::index::find_char;
+use table::index::find_marked;
 use table::shape::Shape;
 use text::Offset;
 
@@ -30,7 +30,7 @@ fn is_absent(
         × Indexed (now table) (recordsIn (now table) all) (now index) (all .left) entries ⌝ }
     ensures { λ r. ⌜ r ≡ absent (find (recordsIn (now (table .entry)) all) code) ⌝ }
 {
-    match find_char(table, all, index, entries, code) {
+    match find_marked(table, all, index, entries, code) {
         CharRecord::At(_, _) => false,
         CharRecord::Nothing => true,
     }
@@ -50,7 +50,7 @@ fn bare_char(
     if (48 <= code) & (code <= 57) {
         return false;
     }
-    // asked here and not in find_char alone: most characters end here
+    // most characters end here
     if !may_have(index, code) {
         return true;
     }

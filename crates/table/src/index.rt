@@ -133,7 +133,23 @@ fn nearest_entry(
     from
 }
 
-// The record of a character among all records, whose index has n entries.
+// The record of a character among all records, whose index has n entries. The filter is not asked: it is apart from find_char, so that asking the filter is no call.
+pub fn find_marked(
+    table: &[u8],
+    all: RecordRun,
+    offs: &[u32; INDEX_SIZE],
+    n: usize,
+    c: u32,
+) -> CharRecord
+    requires { ⌜ Whole (now table) (all .at) (all .left)
+        × Indexed (now table) (recordsAt (all .left) (now table) (all .at)) (now offs) (all .left) n ⌝ }
+    ensures { λ r. ⌜ FoundIs (now (table .entry)) (recordsAt (all .left) (now (table .entry)) (all .at)) c r ⌝ }
+{
+    let from = nearest_entry(table, all, offs, n, c);
+    find_from(table, from, c)
+}
+
+// The same, the filter asked first.
 pub fn find_char(
     table: &[u8],
     all: RecordRun,
@@ -148,6 +164,5 @@ pub fn find_char(
     if !may_have(offs, c) {
         return CharRecord::Nothing;
     }
-    let from = nearest_entry(table, all, offs, n, c);
-    find_from(table, from, c)
+    find_marked(table, all, offs, n, c)
 }

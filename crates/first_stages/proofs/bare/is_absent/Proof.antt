@@ -6,8 +6,8 @@ use Rattle.first_stages.specs.Bare.{absent}
 use Rattle.first_stages.proofs.bare.is_absent.Statement.{statement}
 use Rattle.first_stages.proofs.bare.is_absent.Tie as tie
 
-find-char-requires : tie.Need-find-char-requires
-find-char-requires c κs = search needs
+find-marked-requires : tie.Need-find-marked-requires
+find-marked-requires c κs = search needs
 
 enum-told : tie.Need-enum-told
 enum-told c = search needs
@@ -16,10 +16,10 @@ enum-told-2 : tie.Need-enum-told-2
 enum-told-2 c = search needs
 
 returns : tie.Need-returns
-returns c = let f = c .before .before in sym (ap absent (found-told _ _ _ (f .find-char .ensures) (c .enum-told .given .1) .found))
+returns c = let f = c .before .before in sym (ap absent (found-told _ _ _ (f .find-marked .ensures) (c .enum-told .given .1) .found))
 
 returns-2 : tie.Need-returns-2
-returns-2 c = let f = c .before .before in sym (ap absent (nothing-told _ _ _ (f .find-char .ensures) (c .enum-told2 .given .1)))
+returns-2 c = let f = c .before .before in sym (ap absent (nothing-told _ _ _ (f .find-marked .ensures) (c .enum-told2 .given .1)))
 
 pub is-absent-spec : {M : Type 1} → statement M
-is-absent-spec = tie.close (tie.spec find-char-requires enum-told enum-told-2 returns returns-2)
+is-absent-spec = tie.close (tie.spec find-marked-requires enum-told enum-told-2 returns returns-2)
