@@ -1,4 +1,4 @@
-// Reads two listings written by hand, over the line ab五. `stdout` has the answers, worked out by hand from 01 and 02 (S-5).
+// Reads three listings written by hand, and four of one edge for its count of decimals, over the line ab五. `stdout` has the answers, worked out by hand from 01 and 02 (S-5).
 use answers::CStatus;
 use paths::Query;
 use paths::Shown;

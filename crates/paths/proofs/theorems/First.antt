@@ -5,7 +5,7 @@
 --     answer-first            "Neighbours .. inherit this": the calls answer the offset of such an edge of the listing
 --     path-first              every edge of a path is such
 --     shown-first             the text shown, where a neighbour has it, is the txt of such an edge
--- Assumes nothing.
+-- Of proofs/BestLaws: `Each P xs`, P of every element of xs; `OfBest P b`, P of the edge given, and nothing asked where none is. Assumes nothing.
 use mathlib.Core.Path.{_≡_, refl, _∙_}
 use mathlib.Core.Bool.{Bool, true, false}
 use mathlib.Core.List.{List, _∷_, _++_}
