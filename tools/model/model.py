@@ -12,6 +12,8 @@ doesn't: `wide.py --without` leaves cases with them out.
 import struct
 import sys
 import unicodedata
+from bisect import bisect_right
+from functools import cache
 from math import gcd
 
 TOP = 2**53 - 1
@@ -325,9 +327,21 @@ def signs(lists, w, edges):
                     yield regular(start, e["end"], e["type"] + b" " + sign, sign + e["txt"])
 
 
+@cache
+def starts():
+    """The first of each run of ten decimal digits, in rising order. Python's own Unicode may be older than 15.0, which added two runs."""
+    zeros = {c for c in range(0x110000) if unicodedata.category(chr(c)) == "Nd" and unicodedata.digit(chr(c)) == 0}
+    return sorted(zeros | {0x11F50, 0x1E4F0})
+
+
+def digit_test(c):
+    """Whether c is a decimal digit, and the count of starts compared: those not above c, and one more where one is above it (02, S-2)."""
+    not_above = bisect_right(starts(), c)
+    return not_above > 0 and c - starts()[not_above - 1] < 10, not_above + (not_above < len(starts()))
+
+
 def is_digit(c):
-    # Python's own Unicode may be older than 15.0, which added the last two runs
-    return unicodedata.category(chr(c)) == "Nd" or 0x11F50 <= c <= 0x11F59 or 0x1E4F0 <= c <= 0x1E4F9
+    return digit_test(c)[0]
 
 
 def apart(edges, some):
