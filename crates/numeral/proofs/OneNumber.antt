@@ -1,6 +1,6 @@
 -- S-4 (02). For a line that is not refused 2 or 3: yes with the value exactly for a numeral whose value is at most TOP, 7 exactly for a numeral whose value is
 -- above TOP, no for every other line of table characters and for every line with another character; and where the five passes accept the line, the yes and the
--- value are theirs. The words are defined in `specs/Field.antt` (fieldOf), `specs/Numeral.antt` (numeralOf), and in `grammar` (Reading; IsLine and OneEdge, of its
+-- value are theirs. The words are defined in `specs/Field.antt` (fieldOf), `specs/Numeral.antt` (numeralOf, Valued), and in `grammar` (Reading; IsLine and OneEdge, of its
 -- demand 3). Assumes nothing.
 use Prim.Native.Nat.{ℕ, _≤_, _<_}
 use mathlib.Core.Path.{_≡_, refl, sym, ap, _∙_}
@@ -17,9 +17,9 @@ use Rattle.grammar.specs.Plain.{Char, codePoint, plain, utf8}
 use Rattle.grammar.specs.Grammar.{Reading, divisionValue}
 use Rattle.grammar.proofs.Demand3.{IsLine, OneEdge, Settled, demand3}
 use Rattle.numeral.specs.declared.Field.the-variants.{Number, AboveTop, NotANumber}
-use Rattle.numeral.specs.Numeral.{numeralOf}
+use Rattle.numeral.specs.Numeral.{numeralOf, Valued}
 use Rattle.numeral.specs.Field.{plainLine, answered, plainField, fieldOf}
-use Rattle.numeral.proofs.Sound.{Valued, sound-numeral}
+use Rattle.numeral.proofs.Sound.{sound-numeral}
 use Rattle.numeral.proofs.Found.{found}
 use Rattle.numeral.proofs.AnswerLaws.{yes-of, above-of, no-of, none-of}
 use Rattle.numeral.proofs.FieldLaws.{accepted-field, plain-field, utf8-field, line-plain}

@@ -11,15 +11,11 @@ use Rattle.table_grammar.specs.Row.{Row, one, _▷_, last}
 use Rattle.grammar.specs.Grammar.{Atom, run, power, small, block, lone, Division, IsSmall, divisionValue, smallText, memberValue, memberBase, countValue, countBase, Reading}
 use Rattle.numeral.specs.declared.Blocks.{Blocks}
 use Rattle.numeral.specs.declared.Atoms.{Atoms}
-use Rattle.numeral.specs.Numeral.{State, inNumeral, inSmall, failed, stands, fits, toSmall, toBlock, reads, result}
+use Rattle.numeral.specs.Numeral.{State, inNumeral, inSmall, failed, stands, fits, toSmall, toBlock, reads, result, Valued}
 use Rattle.numeral.proofs.Parts.{atomsOf, blocksOf, Blocked, beforeText, sum-is, plusDigit, digit-is, digit-text, digit-rules, plusTen, ten-is, ten-text, ten-rules, block-based, plus, plus-text, plus-is, plus-rules, fits-below, counted-value, counted-base}
 
 abbrev exact : ℕ → ℕ
 exact n = n
-
--- a reading of w whose value is v
-abbrev pub Valued : List Char → ℕ → Type 0
-Valued w v = (r : Reading w) × (divisionValue (r .division) ≡ v)
 
 -- ---- where the tests pass
 pub reads-failed : (cap : ℕ → ℕ) (w : List Char) → reads cap failed w ≡ failed

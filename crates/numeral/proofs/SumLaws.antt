@@ -15,12 +15,14 @@ use Rattle.numeral.proofs.Capped.{at-most-or-above}
 pub times-zero : (a b : ℕ) → b ≡ 0 → 0 ≡ capped (a * b)
 times-zero a b e = rw (e, mul-zero a)
 
-pub times-small : (a b : ℕ) → ltb a 8192 && leb b 1000000000000 ≡ true → a * b ≤ TOP
-times-small a b e =
-    let l : a < 8192 = ltb-true a 8192 (and-left (ltb a 8192) _ e) in
-    let k = leb-true b 1000000000000 (and-right (ltb a 8192) _ e) in
-    let h : a ≤ 8191 = omega arith in
-    omega (arith, mul-le-mul h k)
+-- the test that both factors are small passes products up to TOP alone, wherever its bounds are not too large
+pub times-small : (a b m n : ℕ) → ltb a m && leb b n ≡ true → m ≤ 8192 → n ≤ 1000000000000 → a * b ≤ TOP
+times-small a b m n e h k =
+    let l = ltb-true a m (and-left (ltb a m) _ e) in
+    let g = leb-true b n (and-right (ltb a m) _ e) in
+    let i : a ≤ 8191 = omega arith in
+    let j : b ≤ 1000000000000 = omega arith in
+    omega (arith, mul-le-mul i j)
 
 module _ (a b : ℕ) (h : b ≡ 0 → ⊥) where
   quotient : (TOP / b < a) ↔ (TOP < a * b)

@@ -4,14 +4,17 @@
 --     step, reads        the state after a character; after a list of them
 --     result             the value of what is read, where it is a numeral as it stands
 --     numeralOf w        the value of the numeral w; none where w is no numeral
+--     Valued w v         for the theorems: the grammar has a reading of w whose value is v
 -- Sums and products go through `cap`: in `numeralOf` they stay as they are; `specs/Walk.antt`, which says what the code does, stops counting above TOP.
 -- Assumes nothing.
 use Prim.Native.Nat.{ℕ, _+_, _*_, _/_}
+use mathlib.Core.Path.{_≡_}
 use mathlib.Core.Bool.{Bool, true, false, cond, _&&_, _||_, not}
 use mathlib.Core.List.{List, [], _∷_}
 use mathlib.Core.Option.{Option, none, some}
 use lib.Dec.{leb, ltb, eqb}
 use Rattle.grammar.specs.Plain.{Char, digit, ten, large, digitValue, tenValue, largeValue}
+use Rattle.grammar.specs.Grammar.{Reading, divisionValue}
 use Rattle.numeral.specs.declared.Blocks.{Blocks}
 use Rattle.numeral.specs.declared.Atoms.{Atoms}
 
@@ -119,3 +122,7 @@ start = inNumeral (record { sum = 0; base = 0 })
 
 abbrev pub numeralOf : List Char → Option ℕ
 numeralOf w = result (λ n. n) (reads (λ n. n) start w)
+
+-- ---- for the theorems
+abbrev pub Valued : List Char → ℕ → Type 0
+Valued w v = (r : Reading w) × (divisionValue (r .division) ≡ v)

@@ -15,7 +15,7 @@ use native.Mathlib.Omega.{arith}
 use lib.ListN.{length, drop, drop-of-length-le}
 use Rattle.whole.specs.Whole.{TOP}
 use Rattle.grammar.specs.Plain.{Char}
-use Rattle.numeral.proofs.Sound.{Valued}
+use Rattle.numeral.specs.Numeral.{Valued}
 use Rattle.sheet_rows.specs.Rows.{numeralWithin, rowBytes, rowsBytes}
 use Rattle.sheet_rows.proofs.Rising.{Rises, rises-behind}
 use Rattle.sheet_rows.proofs.RowLaws.{rows-in, rows-has, rows-rise, numeral-within}

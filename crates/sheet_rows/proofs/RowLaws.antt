@@ -16,9 +16,8 @@ use Rattle.grammar.specs.Plain.{Char, utf8}
 use Rattle.grammar.proofs.Sixteen.{each}
 use Rattle.grammar.proofs.PlainText.{utf8-length}
 use Rattle.numeral.specs.declared.Field.the-variants.{Number, AboveTop}
-use Rattle.numeral.specs.Numeral.{numeralOf}
+use Rattle.numeral.specs.Numeral.{numeralOf, Valued}
 use Rattle.numeral.specs.Field.{answered, fieldOf}
-use Rattle.numeral.proofs.Sound.{Valued}
 use Rattle.numeral.proofs.OneNumber.{numeral-of}
 use Rattle.numeral.proofs.FieldLaws.{utf8-field}
 use Rattle.sheet_rows.specs.Rows.{order, rank, withinTop, numeralWithin, numberOf, rowIf, rowsOf, rowOf, rowBytes, rowsBytes}

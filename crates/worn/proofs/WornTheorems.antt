@@ -16,7 +16,7 @@ use lib.ListN.{length}
 use Rattle.text.specs.Text.{chars}
 use Rattle.whole.specs.Whole.{TOP}
 use Rattle.grammar.specs.Plain.{Char}
-use Rattle.numeral.proofs.Sound.{Valued}
+use Rattle.numeral.specs.Numeral.{Valued}
 use Rattle.numeral.proofs.OneNumber.{Accepted}
 use Rattle.sheet_rows.specs.Rows.{order, rank}
 use Rattle.sheet_rows.proofs.Rising.{Rises}

@@ -6,10 +6,10 @@ use Rattle.numeral.proofs.sums.times.Statement.{statement}
 use Rattle.numeral.proofs.sums.times.Tie as tie
 
 mul-result : tie.Need-mul-result
-mul-result c = let l = times-small (c .before .args .a) (c .before .args .b) (c .if1 .taken) in omega arith
+mul-result c = let l = times-small (c .before .args .a) (c .before .args .b) _ _ (c .if1 .taken) (omega arith) (omega arith) in omega arith
 
 returns : tie.Need-returns
-returns c = let l = times-small (c .before .args .a) (c .before .args .b) (c .if1 .taken) in omega arith
+returns c = let l = times-small (c .before .args .a) (c .before .args .b) _ _ (c .if1 .taken) (omega arith) (omega arith) in omega arith
 
 returns-2 : tie.Need-returns-2
 returns-2 c = times-zero _ _ (c .if2 .taken)
@@ -21,7 +21,7 @@ add-result : tie.Need-add-result
 add-result c = search needs
 
 returns-3 : tie.Need-returns-3
-returns-3 c = times-above _ _ (c .before .if2 .left) (c .if3 .taken)
+returns-3 c = times-above _ _ (c .before .if2 .left) (omega (arith, c .if3 .taken))
 
 mul-result-2 : tie.Need-mul-result-2
 mul-result-2 c = let l = times-within _ _ (c .before .if2 .left) (c .if3 .left) in omega arith
