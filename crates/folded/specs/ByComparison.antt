@@ -1,7 +1,7 @@
 -- Percentages, fractions, G6 and the call by any comparison of a marker or sign with the line (02, S-3: "Percentages, fractions and G6 all read through that comparison
 -- and their definitions change with it"). Each is the definition of `numbers` with the comparison st in the stead of `standsAt`. Definitions only.
 --     Comparison            whether a marker or sign stands in the line's characters at a place
---     standsExactly         the comparison before S-3: the characters themselves, and so their bytes
+--     standsExactly         the comparison before S-3: the characters themselves
 --     longestBy, markerBy, outcomesBy, fractionsBy   as in `Fractions`
 --     signedBy, signsBy                              as in `Signs`
 --     latticeWith st t w given                       the finished lattice

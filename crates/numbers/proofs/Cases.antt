@@ -1,4 +1,4 @@
--- The definition of the call on examples, by computation: 01's example 百分之五; each of the checks 1 to 8 against the next; both sides of the output's length.
+-- The definition of the call on examples, by computation: 01's example 百分之五; each of the checks 1 to 8 against the next; both sides of the output's length; a wide digit.
 use Prim.Native.Nat.{ℕ}
 use mathlib.Core.Path.{_≡_, refl}
 use mathlib.Core.Bool.{Bool, true, false}
@@ -93,3 +93,8 @@ pub output :
     × (addNumbers (49 ∷ []) empty noEdges 65536 16 ≡ listing (1 ∷ 0 ∷ 0 ∷ 0 ∷ 0 ∷ 0 ∷ 1 ∷ 0 ∷ 3 ∷ 0 ∷ 110 ∷ 117 ∷ 109 ∷ 1 ∷ 0 ∷ 49 ∷ []))
 unfolding answerBy afterChecks latticeBy afterPasses afterSigns fractions outcomesFrom outcomeAt markerAt longest newEdges usedEdges signs separate copies fallback covered addAll add has turnOff overfull str headBytes edgeBytes edgesBytes listingBytes through addedBy after added chainsOf joinedOf charEdges from chains firstAbove checkListing checkEdges good nextAt stringEnd edgesAt le leAt bytesOf part readTable readRecords readList readTexts item number seq chars decode left find
 output = (refl, refl)
+
+-- digits are not folded (02, S-3): １ is no ASCII digit, so the fallback gives it no edge
+pub wide-digit : fallback [] 0 (0xFF11 ∷ []) ≡ []
+unfolding fallback covered
+wide-digit = refl
