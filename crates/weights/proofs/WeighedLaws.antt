@@ -33,10 +33,9 @@ use Rattle.numeral.proofs.FieldLaws.{line-plain}
 use Rattle.weights.specs.declared.units.Units.{Units}
 use Rattle.weights.specs.declared.Weighed.{Weighed}
 use Rattle.weights.specs.declared.Weighed.the-variants.{Count, AboveTop, TooShort, IllFormed, TooLong}
-use Rattle.weights.specs.Weights.{isNine, nines, weights}
+use Rattle.weights.specs.Weights.{isNine, nines, weights, sum}
 use Rattle.weights.specs.Weighed.{valueWeights, charWeights, plainWeights, lineWeights, counted, weighed, weigh, weightsBytes, stored, output}
 use Rattle.weights.specs.Walk.{isWeighed, before, back, found, start, afterLarge, unitOfTwo, lastUnit}
-use Rattle.weights.proofs.Sums.{sum}
 use Rattle.weights.proofs.WrongDigit.{numeral-value, one-weight-each}
 use Rattle.weights.proofs.WalkLaws.{exact, found-weights}
 

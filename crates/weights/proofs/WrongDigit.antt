@@ -1,6 +1,6 @@
 -- How far one wrong digit goes (02, S-9). Replacing one 一 to 九 of a numeral "by another of these nine keeps the numeral a numeral, and moves its reading's value by
 -- the difference of the digits times the weight, up or down, also to above TOP": nothing here bounds a value.
--- The words are defined in `specs/Weights.antt` (weights, nines), `specs/Shape.antt` (SameShape, SameLine) and in the specs/ of `grammar` (Reading). Assumes nothing.
+-- The words are defined in `specs/Weights.antt` (weights, nines, sum, rest), `specs/Shape.antt` (SameShape, SameLine) and in the specs/ of `grammar` (Reading). Assumes nothing.
 use Prim.Native.Nat.{ℕ, _+_, _*_, _≤_, _<_}
 use mathlib.Core.Path.{_≡_, refl, sym, ap, _∙_}
 use mathlib.Core.Bool.{Bool, true, false, cond}
@@ -11,11 +11,11 @@ use Rattle.grammar.specs.Plain.{Digit, Char, digit, ten, large, digitValue}
 use Rattle.grammar.specs.Grammar.{plainly, Reading, divisionValue, divisionText}
 use Rattle.table_grammar.proofs.Tests.{le-true}
 use Rattle.table_grammar.proofs.Readings.{same-division}
-use Rattle.weights.specs.Weights.{isNine, nines, weights}
+use Rattle.weights.specs.Weights.{isNine, nines, weights, sum, rest}
 use Rattle.weights.specs.Shape.{SameShape, SameLine, same-end, same-char, other-digit}
 use Rattle.weights.proofs.ShapeText.{refit-division}
 use Rattle.weights.proofs.ShapeRules.{numeral-rules}
-use Rattle.weights.proofs.Sums.{sum, rest, division-sum, division-fit, division-weights-same, rest-same, sum-at}
+use Rattle.weights.proofs.Sums.{division-sum, division-fit, division-weights-same, rest-same, sum-at}
 
 -- ---- what is said
 

@@ -26,7 +26,8 @@ use Rattle.weights.specs.Weights.{weights}
 
 -- ---- the weights of a line
 
--- those of the reading, which a line has where it has a value as a numeral (`numeral-of`); it has one reading at most
+-- those of the reading, which a line has where it has a value as a numeral (`numeral-of`); it has one reading at most, so that these are the weights of any reading
+-- (`numeral-weights`, proofs/Answers.antt)
 abbrev pub valueWeights : (w : List Char) (o : Option ℕ) → numeralOf w ≡ o → List ℕ
 valueWeights w none e = []
 valueWeights w (some v) e = weights (numeral-of w v .0 e .0 .division)
