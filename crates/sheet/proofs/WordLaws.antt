@@ -93,10 +93,6 @@ long-three = long-more 3 4 (words 4) (omega arith) (long-words 4)
 long-two : Long 2 4 (words 2 ++ (words 3 ++ words 4))
 long-two = long-more 2 4 (words 3 ++ words 4) (omega arith) long-three
 
-pub candidate-length : (w : List Char) → List·Memᴰ w candidates → (1 ≤ length w) × (length w ≤ 4)
-unfolding candidates
-candidate-length w m = long-more 1 4 (words 2 ++ (words 3 ++ words 4)) (omega arith) long-two w m
-
 pub candidates-rise : Rises Before candidates
 unfolding candidates
 candidates-rise = before-more 1 4 _ long-two (before-more 2 4 _ long-three (before-more 3 4 _ (long-words 4) (before-words 4)))
@@ -116,6 +112,11 @@ candidate-there w l h = go (length w) refl l h
     go (suc (suc (suc zero))) e a b = Memᴰ·append-right (words 1) (Memᴰ·append-right (words 2) (Memᴰ·append-left _ (word-in 3 w e)))
     go (suc (suc (suc (suc zero)))) e a b = Memᴰ·append-right (words 1) (Memᴰ·append-right (words 2) (Memᴰ·append-right (words 3) (word-in 4 w e)))
     go (suc (suc (suc (suc (suc n))))) e a b = absurd (omega arith)
+
+-- behind the two laws that tell of order and whole: it holds of other lists as well
+pub candidate-length : (w : List Char) → List·Memᴰ w candidates → (1 ≤ length w) × (length w ≤ 4)
+unfolding candidates
+candidate-length w m = long-more 1 4 (words 2 ++ (words 3 ++ words 4)) (omega arith) long-two w m
 
 -- ---- no word stands before itself
 not-earlier : (w : List Char) → Earlier w w → ⊥
