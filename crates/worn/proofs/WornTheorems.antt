@@ -5,7 +5,9 @@
 --     row-iff        the same as rows-iff of a line: exactly where the line with □ replaced by the character has a reading of that value, up to TOP
 --     twelve-iff     of the lines that are refused neither 2 nor 3, 12 for those without just one □ or with another character outside the table, and no other
 --     thirteen-iff   13 for a line with such a □ for which none of the sixteen serves, whatever the output's length, and for no other
--- The words are defined in `specs/Worn.antt`, and `Valued w v`, a reading of w with the value v, in `numeral` (proofs/Sound.antt). Assumes nothing.
+-- The words are defined in `specs/Worn.antt`, and `Valued w v`, a reading of w with the value v, in `numeral` (specs/Numeral.antt). Of proofs: `codes w`, the code points of
+-- the characters w (proofs/PartLaws); `Accepted line`, a line refused neither 2 nor 3 (numeral, proofs/OneNumber); `Rises R l`, each element of l stands in R to all behind it
+-- (sheet_rows, proofs/Rising). Assumes nothing.
 use Prim.Native.Nat.{ℕ, _≤_, _<_}
 use mathlib.Core.Path.{_≡_, refl, sym, ap, _∙_}
 use mathlib.Core.Logic.{_↔_}
