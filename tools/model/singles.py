@@ -9,11 +9,14 @@ import ctypes
 import random
 import struct
 import sys
+from pathlib import Path
 
 import model
+from lists import table_bytes
 
 SEVEN = "兩参參伍陆陸什"
 WORK, OUT = 65536, 32768
+PLAIN_TEXT = Path(__file__).resolve().parents[2] / "data" / "plain.table"
 
 
 # ---- cases
@@ -106,8 +109,18 @@ def cases():
         ("万", plain, given((0, 1, b"large", b"10000")), "a given edge in its stead stays"), ("万", plain, given((0, 1, b"q", b"10000")), "a given edge of another type stays beside it"),
         ("7", plain, given(), "the fallback's digit"), ("7", table([record("7", b"x", b"7", 7000, 1)]), given(), "an ASCII digit above 1000: no fallback's edge"),
         ("京兆", table([record("京", b"base", None, 1, 1), record("兆", b"base", None, 1, 1)]), given(), "京兆 never applies"),
-        ("九九九九九九九九九九九九九九九九九", plain, given(), "refused 7 alike"), ("x", plain, given((0, 2, b"q", b"1")), "refused 6 alike"),
+        ("九九九九九九九九九九九九九九九九九", plain, given(), "refused 7 alike"), ("一百" * 128, table_bytes(PLAIN_TEXT.read_text(encoding="utf-8")), given(), "refused 8 alike"),
     )
+
+
+def refused():
+    """What the checks refuse, which the model does not make: the number and place that 01 has for each."""
+    plain = table(PLAIN, MARKS)
+    yield b"\xff", plain, given(), (2, 0)
+    yield b"x" * 257, plain, given(), (3, 256)
+    yield b"x", b"\0\0", given(), (4, 2)
+    yield b"x", table((), (("",), (), (), ())), given(), (5, 3)
+    yield b"x", plain, given((0, 2, b"q", b"1")), (6, 2)
 
 
 def shown(answer):
@@ -129,12 +142,16 @@ def shown(answer):
 
 def vectors(directory):
     with open(directory + "/stdin", "w", encoding="utf-8") as rows, open(directory + "/stdout", "w", encoding="utf-8") as answers:
-        for line, bytes_, edges, words in cases():
-            case = line.encode(), bytes_, edges
-            bad = any(z > len(line) for _, z, _, _ in ((e["start"], e["end"], 0, 0) for e in model.read_given(edges)))
-            both = [struct.pack("<BI", 6, 2)] * 2 if bad else [model.add_numbers(*case, True, singles) for singles in (False, True)]
+        def row(case, first, second, words):
             print(*(s.hex() for s in case), words, file=rows)
-            print("first:" + shown(both[0]) + ", second:" + shown(both[1]), words, file=answers)
+            print("first:" + shown(first) + ", second:" + shown(second), words, file=answers)
+
+        for line, *lent, words in cases():
+            case = line.encode(), *lent
+            row(case, model.add_numbers(*case, True), model.add_numbers(*case, True, True), words)
+        for *case, (number, place) in refused():
+            row(case, *[struct.pack("<BI", number, place)] * 2, f"refused {number} alike")
+        print("first: refused 1 0, second: refused 1 0 refused 1 alike", file=answers)  # no row: a work space that is a byte short
 
 
 if __name__ == "__main__":

@@ -1,6 +1,7 @@
 // Replays lines with both calls, `call::add_numbers` and `call::add_numbers_without_singles` (02, S-12): a row of standard input is a line, a table and an edge list in
 // hexadecimal, and what is to be seen, with a space before each. The edges of both answers go to standard output with the same words, one row each: start, end, and
-// `+` for an active numeric edge, `.` for an inactive one, `=` for a regular one. tools/model/singles.py makes both files.
+// `+` for an active numeric edge, `.` for an inactive one, `=` for a regular one; the last row, of no input, is that of a work space a byte short.
+// tools/model/singles.py makes both files.
 use answers::Answer;
 use call::WORK_SIZE;
 use edge::bits;
@@ -51,17 +52,13 @@ fn show(answer: Answer, out: &[u8; MOST_BYTES]) {
 }
 
 // Both answers, one after the other.
-fn report(line: &[u8], table: &[u8], edges: &[u8]) {
-    let mut work = [0u8; WORK_SIZE];
+fn report(line: &[u8], table: &[u8], edges: &[u8], work: &mut [u8]) {
     let mut out = [0u8; MOST_BYTES];
     io::write_all(1, b"first:");
-    show(
-        call::add_numbers(line, table, edges, &mut work, &mut out),
-        &out,
-    );
+    show(call::add_numbers(line, table, edges, work, &mut out), &out);
     io::write_all(1, b", second:");
     show(
-        call::add_numbers_without_singles(line, table, edges, &mut work, &mut out),
+        call::add_numbers_without_singles(line, table, edges, work, &mut out),
         &out,
     );
 }
@@ -70,7 +67,8 @@ fn report(line: &[u8], table: &[u8], edges: &[u8]) {
 fn after_table(line: &[u8], table: &[u8], row: &[u8]) {
     let mut edges = io::buffer();
     let n = vectors::unhex(vectors::word(row), &mut edges);
-    report(line, table, &edges[0..n]);
+    let mut work = [0u8; WORK_SIZE];
+    report(line, table, &edges[0..n], &mut work);
     vectors::end_row(row);
 }
 
@@ -94,6 +92,13 @@ fn answer(row: &[u8]) {
     }
 }
 
+// A work space that is a byte short, whatever else is lent.
+fn report_short() {
+    let mut work = [0u8; 65535];
+    report(b"", b"", b"", &mut work);
+    io::write_all(1, b" refused 1 alike\n");
+}
+
 fn main() {
     let mut input = io::large_buffer();
     let mut ends = [0usize; ROWS];
@@ -101,4 +106,5 @@ fn main() {
     for i in 0..rows {
         answer(vectors::row(&input, &ends, i));
     }
+    report_short();
 }
