@@ -3,6 +3,7 @@ pub mod SilenceLaws
 pub mod PassPlaces
 pub mod SinglePlaces
 pub mod SecondLattice
+pub mod PlaceLaws
 pub mod ByPlace
 pub mod GivenLaws
 pub mod SecondCall

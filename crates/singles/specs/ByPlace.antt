@@ -5,17 +5,24 @@
 --     barredBy marks e        e is one place long, and its place has a mark
 --     silenceAt marks es i    es with its i-th edge inactive, if it is barred by the marks
 --     silencedBy marks es     es with each of them inactive that is
+--     MayNotStand t w es e    e is one of "those edges" of the lattice es before F1, for the line w (code points) with table t
 --     Assumes nothing.
 use Prim.Native.Nat.{ℕ, suc}
-use mathlib.Core.Bool.{Bool, false, cond, _&&_}
-use mathlib.Core.List.{List, map}
+use mathlib.Core.Path.{_≡_}
+use mathlib.Core.Logic.{_⊎_}
+use mathlib.Core.Bool.{Bool, true, false, cond, _&&_}
+use mathlib.Core.List.{List, map, List·Memᴰ}
 use lib.Dec.{eqb}
 use lib.ListN.{getD}
+use Rattle.table.specs.Table.{Table}
 use Rattle.passes.specs.NumEdge.{NumEdge}
+use Rattle.passes.specs.Passes.{fifthList}
 use Rattle.edge.specs.Edge.{Edge}
-use Rattle.lattice.specs.Lattice.{inactive, turnOffAt}
+use Rattle.lattice.specs.Lattice.{sameKey, inactive, turnOffAt}
 use Rattle.lattice.specs.Kept.{noEdge}
+use Rattle.numbers.specs.Listed.{listedEdge}
 use Rattle.numbers.specs.Marks.{anyAt}
+use Rattle.numbers.specs.Separators.{apart, copyOf}
 use Rattle.numbers.specs.Singles.{barred}
 
 abbrev pub startOf : NumEdge → ℕ
@@ -36,3 +43,10 @@ silenceAt marks es i = cond (barredBy marks (getD es i noEdge)) (turnOffAt es i)
 
 abbrev pub silencedBy : List Bool → List Edge → List Edge
 silencedBy marks es = map (λ (e : Edge). cond (barredBy marks e) (inactive e) e) es
+
+-- "edges of G4's list that are one place long and meet either condition, and the copies F1 made of them": e is such an edge; es is the lattice before F1
+pub record MayNotStand (t : Table) (w : List ℕ) (es : List Edge) (e : Edge) : Type 0 where
+  pub single : NumEdge
+  pub in-list : List·Memᴰ single (fifthList t w)
+  pub is-barred : barred single ≡ true
+  pub is : (sameKey (listedEdge single) e ≡ true) ⊎ ((apart es (listedEdge single) ≡ true) × (sameKey (copyOf (listedEdge single)) e ≡ true))
