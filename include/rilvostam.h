@@ -101,6 +101,15 @@ uint32_t rilvostam_add_numbers_without_singles(const uint8_t *line, size_t line_
                                                const uint8_t *edges, size_t edges_len, uint8_t *work, size_t work_len,
                                                uint8_t *out, size_t out_len, uint64_t *at);
 
+/* The same with decimals: at least one digit, one point (U+002E, where the table has no record for it) and at least one digit, each touching the next, are one edge: 一.五, and 1.5 where
+ * the table has 1 and 5 as digits. Its value is the digits divided by the power of ten, its decimals 1 to 15: a sixteenth decimal stays outside. Digits above
+ * 9,007,199,254,740,991 are refused 7, the point left out: 九零零七一九九二五四七四零九九.二 is. Before 十百千 or 万億兆 the edge becomes their product where that is whole: 二.五千 is 2500.
+ * Nothing else takes it for a number: a percentage and a sign have its txt. For a line without a point, and with a table that has a record for it, answer and output are those of
+ * rilvostam_add_numbers. */
+uint32_t rilvostam_add_numbers_with_decimals(const uint8_t *line, size_t line_len, const uint8_t *table, size_t table_len,
+                                             const uint8_t *edges, size_t edges_len, uint8_t *work, size_t work_len,
+                                             uint8_t *out, size_t out_len, uint64_t *at);
+
 /* Many lines with one table, which is checked once: a page of entries, one for each line, in their order. A line ends before a newline (0x0A) or at the end of the bytes; what
  * follows the last newline is a line only where it is not empty. So no bytes are no line, and a newline alone is one empty line.
  * An entry is a status (4 bytes), a number (8 bytes) and, where the status is 0, so many bytes of listing. Status and number are what rilvostam_add_numbers answers for the line with

@@ -109,6 +109,20 @@ static void numbers(void) {
     CHECK(rilvostam_which_numbers(bytes("x"), 1, two_values, sizeof two_values - 1, n, 3) == 2 && n[0].value == 5 && n[1].value == 3);
 }
 
+/* The call with decimals: 1.5 is one edge, which the reading calls know; so it is one number. */
+static void decimals(void) {
+    const char *line = "一.五";
+    rilvostam_edge n[3];
+    uint64_t at, found;
+    size_t len = list(line);
+    CHECK(rilvostam_which_numbers(bytes(line), strlen(line), listing, len, n, 3) == 2);
+    CHECK(rilvostam_add_numbers_with_decimals(bytes(line), strlen(line), table, sizeof table, no_edges, 2, work, sizeof work, listing, sizeof listing, &at) == RILVOSTAM_OK);
+    len = (size_t)at;
+    CHECK(rilvostam_which_numbers(bytes(line), strlen(line), listing, len, n, 3) == 1 && n[0].value == 1.5 && n[0].decimals == 1 && is(n[0].txt, "1.5") && is(n[0].orig_txt, line));
+    CHECK(rilvostam_right_neighbor(bytes(line), strlen(line), listing, len, 0, 0, &found) == RILVOSTAM_OK && found == n[0].offset);
+    CHECK(rilvostam_add_numbers_with_decimals(bytes(line), strlen(line), table, sizeof table, no_edges, 2, work, sizeof work, listing, len - 1, &at) == RILVOSTAM_TOO_LONG && at == 0);
+}
+
 /* What the entries of a page say, behind what was said before: the length of each listing, or a refusal with what goes with it. */
 static void say_entries(const uint8_t *page, size_t len, char *said) {
     rilvostam_entry e;
@@ -202,6 +216,7 @@ int main(void) {
     words();
     edges();
     numbers();
+    decimals();
     many_lines();
     tables();
     reading();

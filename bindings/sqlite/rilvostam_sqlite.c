@@ -2,7 +2,8 @@
  *     rilvostam_number(line)   the value of a line that is one number, or NULL
  *     rilvostam_write(n)       the numeral of a number
  *     rilvostam_edges(line)    a table-valued function: the edges of a line in the listing's order
- *     rilvostam_numbers(line)  the same of those that say which number the line is, longest first: rilvostam_which_numbers of the header
+ *     rilvostam_edges_with_decimals(line)   the same, by the call with decimals: 一.五 is one edge
+ *     rilvostam_numbers(line)  the edges that say which number the line is, longest first: rilvostam_which_numbers of the header
  * NULL gives NULL, or no edge. What the library refuses is an error, in its words. */
 #include <sqlite3ext.h>
 SQLITE_EXTENSION_INIT1
@@ -63,15 +64,15 @@ static void write_number(sqlite3_context *context, int count, sqlite3_value **va
     else sqlite3_result_text(context, (const char *)out, (int)at, SQLITE_TRANSIENT);
 }
 
-/* ---- rilvostam_edges(line), rilvostam_numbers(line) */
-enum { START, END, TYPE, TXT, ACTIVE, ORIG_TXT, VALUE, NUMERATOR, DENOMINATOR, BASE, SCRIPT, VALUE_S, LINE };
+/* ---- rilvostam_edges(line), rilvostam_edges_with_decimals(line), rilvostam_numbers(line) */
+enum { START, END, TYPE, TXT, ACTIVE, ORIG_TXT, VALUE, NUMERATOR, DENOMINATOR, BASE, SCRIPT, VALUE_S, DECIMALS, LINE };
 
 typedef struct {
     sqlite3_vtab base;
     const char *name; /* of the function */
 } table_of;
 
-static const char edges_name[] = "rilvostam_edges", numbers_name[] = "rilvostam_numbers";
+static const char edges_name[] = "rilvostam_edges", decimals_name[] = "rilvostam_edges_with_decimals", numbers_name[] = "rilvostam_numbers";
 
 typedef struct {
     sqlite3_vtab_cursor base;
@@ -87,7 +88,7 @@ typedef struct {
 static int connect(sqlite3 *db, void *aux, int argc, const char *const *argv, sqlite3_vtab **table, char **error) {
     (void)argc, (void)argv, (void)error;
     int status = sqlite3_declare_vtab(db, "CREATE TABLE x(start INTEGER, \"end\" INTEGER, type TEXT, txt TEXT, active INTEGER, orig_txt TEXT, value REAL, numerator INTEGER,"
-                                          " denominator INTEGER, base INTEGER, script TEXT, value_s TEXT, line HIDDEN)");
+                                          " denominator INTEGER, base INTEGER, script TEXT, value_s TEXT, decimals INTEGER, line HIDDEN)");
     if (status != SQLITE_OK) return status;
     table_of *made = sqlite3_malloc(sizeof *made);
     if (!made) return SQLITE_NOMEM;
@@ -118,7 +119,7 @@ static int best_index(sqlite3_vtab *table, sqlite3_index_info *info) {
 }
 
 static int open_cursor(sqlite3_vtab *table, sqlite3_vtab_cursor **opened) {
-    int all = ((table_of *)table)->name == edges_name;
+    int all = ((table_of *)table)->name != numbers_name;
     cursor *c = sqlite3_malloc(sizeof *c);
     if (!c) return SQLITE_NOMEM;
     memset(c, 0, sizeof *c);
@@ -163,7 +164,9 @@ static int filter(sqlite3_vtab_cursor *base, int plan, const char *plan_text, in
     rilvostam_plain_table(table, sizeof table, &table_length);
     uint8_t *work = sqlite3_malloc(RILVOSTAM_WORK);
     if (!work) return SQLITE_NOMEM;
-    uint32_t status = rilvostam_add_numbers(line, length, table, table_length, (const uint8_t *)"\0", 2, work, RILVOSTAM_WORK, c->listing, RILVOSTAM_OUT, &at);
+    int decimals = ((table_of *)base->pVtab)->name == decimals_name;
+    uint32_t status = (decimals ? rilvostam_add_numbers_with_decimals : rilvostam_add_numbers)(line, length, table, table_length, (const uint8_t *)"\0", 2, work, RILVOSTAM_WORK, c->listing,
+                                                                                               RILVOSTAM_OUT, &at);
     sqlite3_free(work);
     if (status) {
         sqlite3_free(base->pVtab->zErrMsg);
@@ -218,6 +221,9 @@ static int column(sqlite3_vtab_cursor *base, sqlite3_context *context, int asked
     case VALUE_S:
         if (map & RILVOSTAM_HAS_VALUE_S) text(context, c, RILVOSTAM_EDGE_VALUE_S);
         break;
+    case DECIMALS:
+        if (map & RILVOSTAM_HAS_DECIMALS) sqlite3_result_int64(context, (sqlite3_int64)c->edge[RILVOSTAM_EDGE_DECIMALS]);
+        break;
     }
     return SQLITE_OK;
 }
@@ -239,6 +245,7 @@ int sqlite3_rilvostamsqlite_init(sqlite3 *db, char **error, const sqlite3_api_ro
     int status = sqlite3_create_function(db, "rilvostam_number", 1, how, NULL, number, NULL, NULL);
     if (status == SQLITE_OK) status = sqlite3_create_function(db, "rilvostam_write", 1, how, NULL, write_number, NULL, NULL);
     if (status == SQLITE_OK) status = sqlite3_create_module(db, edges_name, &module, (void *)edges_name);
+    if (status == SQLITE_OK) status = sqlite3_create_module(db, decimals_name, &module, (void *)decimals_name);
     if (status == SQLITE_OK) status = sqlite3_create_module(db, numbers_name, &module, (void *)numbers_name);
     return status;
 }

@@ -196,32 +196,63 @@ def run(path, count, seed):
 
 
 # ---- the vectors
+FULL, LEAST = 32768, 65536
+SHARES = PLAIN + [record(c, b"digit", c.encode(), int(c), 1) for c in "0123456789"], (("百分之", "%"), ("分之",), ("+",), ("-",))
+SURROGATE = bytes.fromhex("0100 00000000 00d80000 00 00")
+
+
+def needed(line, records=PLAIN, lists=LISTS):
+    """The table with the records that the line asks for, so that a row is short."""
+    return table([r for r in records if chr(r[0]) in line], lists)
+
+
 def cases():
+    """Line, table, given edges, bytes of output and work space, words, and the refusal where a check of 1 to 6 finds one."""
     for line, _ in PASSES + STAGES:
-        yield line, MARKED, given(), line
+        yield line.encode(), needed(line), given(), FULL, LEAST, line, None
     for bytes_, line, words in ODD:
-        yield line, bytes_, given(), f"{line}: {words}"
-    yield from (
-        ("", MARKED, given(), "the empty line"), ("一五", MARKED, given(), "no point: as the first call"), ("一万五", MARKED, given(), "no point: as the first call"),
-        ("一.五", MARKED, given((0, 3, b"D1", b"1.5")), "a given edge in its stead stays"), ("一.五", MARKED, given((0, 3, b"q", b"1.5")), "a given edge of another type stays beside it"),
-        ("1.5", MARKED, given(), "no records: the fallback's digits"), ("一.五", MARKED, given((0, 4, b"q", b"1")), "refused 6 alike"),
-        ("九" * 17, MARKED, given(), "refused 7 alike"), ("百-一.五%二.五", MARKED, given(), "signs and markers"),
+        yield line.encode(), bytes_, given(), FULL, LEAST, f"{line}: {words}", None
+    accepted = (
+        ("", given(), "the empty line"), ("一五", given(), "no point: as the first call"), ("一万五", given(), "no point: as the first call"), ("." * 256, given(), "256 points"),
+        ("一.五", given((0, 3, b"D1", b"1.5")), "a given edge in its stead stays"), ("一.五", given((0, 3, b"q", b"1.5")), "a given edge of another type stays beside it"),
+        ("-一.五", given((1, 4, b"q", b"z")), "a given edge of its span: the sign's edge all the same"), ("百%一.五", given((0, 2, b"q", b"z")), "a longer given edge hides 百"),
+        ("1.5", given(), "no records: the fallback's digits"), ("百-一.五%二.五", given(), "signs and markers"), ("九" * 17, given(), "7 as from the first call"),
+        ("一.五百" * 64, given(), "64 numbers with decimals"), ("一.五" + "億一零百一兆一十" * 31, given(), "8: over 1,024 edges"),
     )
+    for line, edges, words in accepted:
+        yield line.encode(), needed(line), edges, FULL, LEAST, words, None
+    shares = (
+        ("百分之1.5", "a percentage marker's own rule has the txt"), ("百分之100.0", "100.0 is no right value either"), ("100.0分之3", "100.0 is not left 100"), ("100分之3", "100 is"),
+    )
+    for line, words in shares:
+        yield line.encode(), needed(line, *SHARES), given(), FULL, LEAST, words, None
+    half, few = "一.五".encode(), needed("一.五")
+    size = len(model.add_numbers(half, few, given(), True, with_decimals=True))
+    yield half, few, given(), size, LEAST, "an output as long as the listing", None
+    yield half, few, given(), size - 1, LEAST, "8: a byte less", None
+    yield ("九." + NINES[1:] + "二").encode(), needed(NINES + "二"), given(), 0, LEAST, "7 before 8", None
+    yield b"\xff", b"", b"", 0, LEAST - 1, "1 before all others", (1, 0)
+    yield half + b"\xe4\xb8", b"", b"", 0, LEAST, "2", (2, 7)
+    yield b"." * 257, b"", b"", 0, LEAST, "3", (3, 256)
+    yield half, b"", b"", 0, LEAST, "4", (4, 0)
+    yield half, SURROGATE, b"", 0, LEAST, "5", (5, 6)
+    yield half, few, b"", 0, LEAST, "6", (6, 0)
+    yield half, few, given((0, 4, b"q", b"1")), 0, LEAST, "6: an edge past the line", (6, 2)
+    yield half, few, b"\x01\0\0\x02" + given((0, 3, b"q", b"1"))[4:] + b"\x01", FULL, LEAST, "6: decimals of a given edge", (6, 2)
 
 
 def shown(answer):
     if len(answer) == 5:
         return " refused %d %d" % struct.unpack("<BI", answer)
-    return "".join(f" {a}-{z}{mark}" + (f"{k}:{value}" if k else "") for a, z, mark, _, k, value in edges_of(answer))
+    return "".join(f" {a}-{z}{mark}{txt.decode()}" + (f"/{k}:{value}" if k else "") for a, z, mark, txt, k, value in edges_of(answer))
 
 
 def vectors(directory):
     with open(directory + "/stdin", "w", encoding="utf-8") as rows, open(directory + "/stdout", "w", encoding="utf-8") as answers:
-        for line, bytes_, edges, words in cases():
-            case = line.encode(), bytes_, edges
-            bad = any(e["end"] > len(line) for e in model.read_given(edges))
-            both = [struct.pack("<BI", 6, 2)] * 2 if bad else [model.add_numbers(*case, True, with_decimals=d) for d in (False, True)]
-            print(*(s.hex() for s in case), words, file=rows)
+        for *case, out, work, words, refused in cases():
+            both = [struct.pack("<BI", *refused)] * 2 if refused else [model.add_numbers(*case, True, with_decimals=d) for d in (False, True)]
+            both = [struct.pack("<BI", 8, 0) if len(a) != 5 and len(a) > out else a for a in both]
+            print(*(s.hex() for s in case), struct.pack("<H", out).hex(), struct.pack("<H", work - 1).hex(), words, file=rows)
             print("first:" + shown(both[0]) + ", with decimals:" + shown(both[1]), words, file=answers)
 
 

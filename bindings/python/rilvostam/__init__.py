@@ -30,6 +30,7 @@ __all__ = [
     "TOP",
     "add_numbers",
     "add_numbers_to_lines",
+    "add_numbers_with_decimals",
     "add_numbers_without_singles",
     "check_table",
     "formal_table",
@@ -282,6 +283,15 @@ def add_numbers(line: Text, table: Optional[bytes] = None, edges: bytes = NO_EDG
 def add_numbers_without_singles(line: Text, table: Optional[bytes] = None, edges: bytes = NO_EDGES) -> Listing:
     """The same, but 兩参參伍陆陸什 and characters of a value above 1000 that stand alone are inactive."""
     return _called("add_numbers_without_singles", line, table, edges)
+
+
+def add_numbers_with_decimals(line: Text, table: Optional[bytes] = None, edges: bytes = NO_EDGES) -> Listing:
+    """The same, but digits, a point without a record in the table and digits are one edge, with its count of decimals, 1 to 15.
+
+    >>> [(edge.txt, edge.value, edge.decimals) for edge in add_numbers_with_decimals("深一.五").path()]
+    [('1.5', 1.5, 1)]
+    """
+    return _called("add_numbers_with_decimals", line, table, edges)
 
 
 def add_numbers_to_lines(lines: Text, table: Optional[bytes] = None) -> Iterator[Union[Listing, Refused]]:

@@ -24,6 +24,7 @@ _FUNCTIONS: Dict[str, List[Any]] = {
     "version": [],
     "add_numbers": _CALL,
     "add_numbers_without_singles": _CALL,
+    "add_numbers_with_decimals": _CALL,
     "add_numbers_to_lines": _PART + _BYTES + _OUT * 2 + [_AT, _AT],
     "best_edge": _READ + [_U64, _U64, _U8, _AT],
     "right_neighbor": _READ + [_U64, _U8, _AT],

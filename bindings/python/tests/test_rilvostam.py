@@ -73,6 +73,12 @@ class Lines(unittest.TestCase):
         self.assertEqual([e.active for e in rilvostam.add_numbers_without_singles("万")], [False])
         self.assertEqual([e.active for e in rilvostam.add_numbers_without_singles("千")], [True])
 
+    def test_decimals(self):
+        self.assertEqual([(e.txt, e.value, e.decimals) for e in rilvostam.add_numbers_with_decimals("一.五")], [("1", 1.0, None), ("5", 5.0, None), ("1.5", 1.5, 1)])
+        self.assertEqual(rilvostam.add_numbers_with_decimals("二.五千").path()[0].txt, "2500")
+        self.assertEqual(bytes(rilvostam.add_numbers_with_decimals("一万五")), bytes(rilvostam.add_numbers("一万五")))
+        self.assertEqual([e.txt for e in rilvostam.add_numbers("一.五")], ["1", "5"])
+
     def test_refusals(self):
         cases = [
             (2, 3, lambda: rilvostam.add_numbers("五".encode() + b"\xff")),

@@ -63,6 +63,11 @@ mod c {
             work: *mut u8, work_len: usize, out: *mut u8, out_len: usize, at: *mut u64,
         ) -> u32;
         #[rustfmt::skip]
+        pub fn rilvostam_add_numbers_with_decimals(
+            line: *const u8, line_len: usize, table: *const u8, table_len: usize, edges: *const u8, edges_len: usize,
+            work: *mut u8, work_len: usize, out: *mut u8, out_len: usize, at: *mut u64,
+        ) -> u32;
+        #[rustfmt::skip]
         pub fn rilvostam_best_edge(
             line: *const u8, line_len: usize, listing: *const u8, listing_len: usize, start: u64, end: u64, skip: u8, at: *mut u64,
         ) -> u32;
@@ -167,6 +172,43 @@ pub fn add_numbers_without_singles_into(
     // SAFETY: as above.
     let status = unsafe {
         c::rilvostam_add_numbers_without_singles(
+            line.as_ptr(),
+            line.len(),
+            table.as_ptr(),
+            table.len(),
+            edges.as_ptr(),
+            edges.len(),
+            work.as_mut_ptr(),
+            work.len(),
+            out.as_mut_ptr(),
+            out.len(),
+            &mut at,
+        )
+    };
+    answer(status, at)
+}
+
+/// The listing with decimals: digits, a point that has no record in the table and digits, each touching the next, are one edge with a count of decimals, 1 to 15 (一.五).
+/// For a line without a point it is the one of [`add_numbers`]. [`add_numbers_with_decimals_into`] allocates nothing.
+pub fn add_numbers_with_decimals(line: &str, table: &[u8], edges: &[u8]) -> Result<Vec<u8>, Refusal> {
+    let (mut work, mut out) = (vec![0; WORK], vec![0; OUT]);
+    let length = add_numbers_with_decimals_into(line.as_bytes(), table, edges, &mut work, &mut out)?;
+    out.truncate(length);
+    Ok(out)
+}
+
+/// The same into lent buffers, as [`add_numbers_into`].
+pub fn add_numbers_with_decimals_into(
+    line: &[u8],
+    table: &[u8],
+    edges: &[u8],
+    work: &mut [u8],
+    out: &mut [u8],
+) -> Result<usize, Refusal> {
+    let mut at = 0;
+    // SAFETY: as above.
+    let status = unsafe {
+        c::rilvostam_add_numbers_with_decimals(
             line.as_ptr(),
             line.len(),
             table.as_ptr(),

@@ -123,6 +123,28 @@ fn without_singles() {
 }
 
 #[test]
+fn with_decimals() {
+    let table = plain_table();
+    let numbers = |line: &str| -> Vec<(String, Option<f64>, Option<u8>)> {
+        let listing = add_numbers_with_decimals(line, &table, NO_EDGES).unwrap();
+        edges(&listing).filter_map(|e| e.num.map(|n| (e.txt.to_string(), n.value, n.decimals))).collect()
+    };
+    // The digits alone, then D1's edge over them, with the point in its txt.
+    assert_eq!(numbers("一.五"), [("1".to_string(), Some(1.0), None), ("5".to_string(), Some(5.0), None), ("1.5".to_string(), Some(1.5), Some(1))]);
+    // 二.五千 is 2500, without decimals; 一.二三十 stays two edges, as 12.3 is not whole.
+    assert!(numbers("二.五千").contains(&("2500".to_string(), Some(2500.0), None)));
+    assert!(numbers("一.二三十").iter().all(|n| n.1 < Some(12.0)));
+    // The first call joins nothing across a point, and without one the bytes are the same.
+    assert_eq!(edges(&listing("一.五")).count(), 2);
+    assert_eq!(add_numbers_with_decimals("一万五", &table, NO_EDGES).unwrap(), listing("一万五"));
+    // A sixteenth decimal stays outside; the digits of one number are at most TOP, the point left out.
+    assert_eq!(numbers(&format!("零.{}", "一".repeat(16))).iter().filter_map(|n| n.2).collect::<Vec<_>>(), [15]);
+    assert_eq!(add_numbers_with_decimals("九零零七一九九二五四七四零九九.一", &table, NO_EDGES).map(|_| ()), Ok(()));
+    let refused = add_numbers_with_decimals("九零零七一九九二五四七四零九九.二", &table, NO_EDGES).unwrap_err();
+    assert_eq!((refused.number(), refused.at), (7, 0));
+}
+
+#[test]
 fn nearest() {
     let line = "墓三号x二十".as_bytes();
     let listing = listing("墓三号x二十");

@@ -1,40 +1,46 @@
 -- Laws of the call's answers (`specs/Answers.antt`). No contract cites this file.
 -- In order: the stages' answers; the checks'. Assumes nothing.
-use mathlib.Core.Path.{_≡_, sym, _∙_, subst}
-use mathlib.Core.Bool.{Bool}
+use mathlib.Core.Path.{_≡_, refl, sym, ap, _∙_, subst}
 use mathlib.Core.List.{List}
-use mathlib.Core.Option.{none, some}
+use mathlib.Core.Option.{Option}
 use Prim.Native.Nat.{ℕ, _≤_, _<_}
 use lib.ListN.{length}
 use borrow.Author.Tests.{lt-ltb, le-ltb}
-use Rattle.text.specs.declared.Place.{Place}
 use Rattle.text.specs.Text.{chars}
 use Rattle.text.specs.Line.{lineCheck}
 use Rattle.table.specs.Table.{Table}
 use Rattle.table.specs.Answers.{tableOf}
 use Rattle.table.specs.declared.shape.Shape.{Shape}
-use Rattle.passes.specs.Passes.{aboveAt}
 use Rattle.edge.specs.Edge.{Edge}
 use Rattle.edge.specs.Layout.{listed}
-use Rattle.numbers.specs.Call.{finished, latticeBy, Stages, afterChecks, afterLineCheck, answerBy}
+use Rattle.numbers.specs.Call.{finished, unlessAbove, Stages, afterChecks, decimalAfterChecks, afterLineCheck, answerBy}
 use Rattle.answers.specs.declared.Refusal.{Refusal}
-use Rattle.answers.specs.declared.Refusal.the-variants.{ShortWork, AboveTop}
+use Rattle.answers.specs.declared.Refusal.the-variants.{ShortWork}
 use Rattle.call.specs.declared.checks.CallCheck.the-variants as CallCheck
+use Rattle.call.specs.declared.stages.CallKind.{CallKind}
+use Rattle.call.specs.declared.stages.CallKind.the-variants.{First, WithoutSingles, WithDecimals}
+use Rattle.call.specs.declared.stages.StagesAnswer.{StagesAnswer}
+use Rattle.call.specs.declared.stages.StagesAnswer.the-variants.{Above, Made}
 use Rattle.answers.specs.declared.Answer.{Answer}
 use Rattle.answers.specs.declared.Answer.the-variants as Answer
 use Rattle.call.specs.Answers.{AnswerIs}
 use Rattle.call.specs.Checks.{Accepted, CallCheckIs}
+use Rattle.call.specs.Kinds.{callPasses, callLattice, callStages}
+use Rattle.call.specs.Stages.{StagesAre, Leads}
 use Rattle.call.proofs.checks.CheckLaws.{sound-answer}
 
 -- ---- the stages
-module _ (b : Bool) (t : Table) (w : List ℕ) (out : List ℕ) (given : List Edge) where
-  pub answer-above : (p : Place) → aboveAt t w ≡ some (p .0) → AnswerIs out out (Answer.Refused (AboveTop p)) (afterChecks b t w (length out) given)
-  unfolding afterChecks
-  answer-above p e = record { answer = rw e; output = rw e }
+module _ (t : Table) (w : List ℕ) (given : List Edge) (u : List ℕ) (out : ℕ) where
+  call-stages : (k : CallKind) → callStages k t w out given ≡ unlessAbove (callPasses k t w .above) (finished out (callLattice k t w given))
+  unfolding afterChecks decimalAfterChecks
+  call-stages First = refl
+  call-stages WithoutSingles = refl
+  call-stages WithDecimals = refl
 
-  pub answer-below : aboveAt t w ≡ none → (now : List ℕ) (r : Answer) → AnswerIs out now r (finished (length out) (latticeBy b t w given)) → AnswerIs out now r (afterChecks b t w (length out) given)
-  unfolding afterChecks
-  answer-below e now r q = rw e q
+  pub stages-lead : (k : CallKind) (r : StagesAnswer) → StagesAre k t w given u r → Leads u out r (callStages k t w out given)
+  unfolding StagesAre Leads
+  stages-lead k (Above p) e = call-stages k ∙ ap (λ (o : Option ℕ). unlessAbove o (finished out (callLattice k t w given))) e
+  stages-lead k (Made l) (e, q) = (callLattice k t w given, q, call-stages k ∙ ap (λ (o : Option ℕ). unlessAbove o (finished out (callLattice k t w given))) e)
 
 -- ---- the checks
 module _ (stages : Stages) (line table given out : List ℕ) (work : ℕ) where

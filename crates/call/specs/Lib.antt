@@ -3,7 +3,8 @@
 pub mod Checks
 -- last_stages: The stages after the passes.
 pub mod Rest
--- stages: All stages, up to the finished lattice.
+-- stages: The calls by their kinds; all stages, up to the finished lattice.
+pub mod Kinds
 pub mod Stages
 -- ending: What the call answers.
 pub mod Answers

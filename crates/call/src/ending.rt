@@ -1,23 +1,24 @@
-// The end of the call: the finished listing goes to the output, or is refused by 8.
-ghost use mathlib.Core.List.{List};
+// The end of the call: refusal 7, or the finished listing in the output, or refusal 8.
 ghost use lib.ListN.{length};
-ghost use Rattle.edge.specs.Edge.{Edge};
-ghost use Rattle.lattice.specs.Kept.{Holds};
-ghost use Rattle.numbers.specs.Call.{finished};
+ghost use Rattle.numbers.specs.Call as numbers;
 ghost use Rattle.call.specs.Answers.{AnswerIs};
+ghost use Rattle.call.specs.Stages.{Leads};
+use crate::stages::StagesAnswer;
 use answers::Answer;
 use answers::Refusal;
 use lattice::Finished;
-use lattice::Lattice;
 
-// What the call answers for a finished lattice.
-pub fn finish_call(work: &[u8], lattice: Lattice, out: &mut [u8]) -> Answer
-    requires { ⌜ ((es : List Edge) × Holds (now work) lattice es) ⌝ }
-    ensures { λ r. ⌜ ((es : List Edge) → Holds (now (work .entry)) lattice es
-        → AnswerIs (now (out .entry)) (now (out .exit)) r (finished (length (now (out .entry))) es)) ⌝ }
+// What the call answers for what its stages answered. The output is written only here.
+pub fn finish_call(work: &[u8], stages: StagesAnswer, out: &mut [u8]) -> Answer
+    requires { ⌜ ((a : numbers.Answer) × Leads (now work) (length (now out)) stages a) ⌝ }
+    ensures { λ r. ⌜ ((a : numbers.Answer) → Leads (now (work .entry)) (length (now (out .entry))) stages a
+        → AnswerIs (now (out .entry)) (now (out .exit)) r a) ⌝ }
 {
-    match lattice::ends::finish(work, lattice, out) {
-        Finished::Listing(len) => Answer::Listing(len),
-        Finished::TooLong => Answer::Refused(Refusal::TooLong),
+    match stages {
+        StagesAnswer::Above(p) => Answer::Refused(Refusal::AboveTop(p)),
+        StagesAnswer::Made(l) => match lattice::ends::finish(work, l, out) {
+            Finished::Listing(len) => Answer::Listing(len),
+            Finished::TooLong => Answer::Refused(Refusal::TooLong),
+        },
     }
 }

@@ -1,80 +1,36 @@
 // The whole call, `add_numbers` (01, "What a call is lent", "The rest of the call"): the checks in their order, then the stages. `add_numbers_without_singles` (02, S-12) is the
-// same with one stage more.
+// same with one stage more, `add_numbers_with_decimals` (02, S-13) the same after passes that join decimals.
 pub mod checks; // checks.rt: the checks 2 to 6
 pub mod last_stages; // last_stages.rt: the stages after the passes, in turn
 pub mod stages; // stages.rt: all stages, up to the finished lattice
-pub mod ending; // ending.rt: the listing in the output, or refusal 8
+pub mod ending; // ending.rt: refusal 7, or the listing in the output, or refusal 8
 
 ghost use mathlib.Core.Path.{_≡_};
-ghost use Prim.Native.Nat.{ℕ, _≤_};
 ghost use lib.ListN.{length};
-ghost use Rattle.numbers.specs.Ready.{workSize};
-ghost use Rattle.text.specs.Text.{chars};
-ghost use Rattle.table.specs.Answers.{tableOf};
-ghost use Rattle.edge.specs.Layout.{listed};
-ghost use Rattle.numbers.specs.Call.{afterChecks, answerBy, addNumbers, addNumbersWithoutSingles};
-ghost use Rattle.table_check.specs.Indexed.{RecordIndex};
-ghost use Rattle.call.specs.Checks.{Accepted};
+ghost use Rattle.numbers.specs.Call.{answerBy, addNumbers, addNumbersWithoutSingles, addNumbersWithDecimals};
+ghost use Rattle.call.specs.Kinds.{callStages};
 ghost use Rattle.call.specs.Answers.{AnswerIs};
 use crate::checks::CallCheck;
-use crate::stages::StagesAnswer;
+use crate::stages::CallKind;
 pub use answers::Answer;
 pub use answers::Refusal;
 pub use answers::refusal_told;
 use table::index::INDEX_SIZE;
-use table::shape::Shape;
 
 // The least work space (refusal 1).
 pub const WORK_SIZE: usize = 65536;
 
-// The stages and their ending, for what passed its checks; silencing says whether singles that may not stand turn inactive. The output is written only at the end.
-fn checked_call(
-    line: &[u8],
-    table: &[u8],
-    shape: Shape,
-    places: usize,
-    edges: &[u8],
-    count: usize,
-    index: &[u32; INDEX_SIZE],
-    entries: usize,
-    work: &mut [u8],
-    out: &mut [u8],
-    silencing: bool,
-) -> Answer
-    requires { ⌜ (workSize ≤ length (now work)) × Accepted (now line) (now table) (now edges) places shape count
-        × RecordIndex (now table) shape (now index) entries ⌝ }
-    ensures { λ r. ⌜ AnswerIs (now (out .entry)) (now (out .exit)) r
-        (afterChecks silencing (tableOf (now (table .entry)) shape) (chars (now (line .entry)))
-        (length (now (out .entry))) (listed (now (edges .entry)))) ⌝ }
-{
-    match crate::stages::run_stages(
-        work,
-        line,
-        table,
-        shape,
-        places,
-        edges,
-        count,
-        index,
-        entries,
-        silencing,
-    ) {
-        StagesAnswer::Above(p) => Answer::Refused(Refusal::AboveTop(p)),
-        StagesAnswer::Made(l) => crate::ending::finish_call(work, l, out),
-    }
-}
-
-// Both calls: the checks in their order, then the stages.
+// Every call: the checks in their order, then the stages and their ending.
 fn add_numbers_by(
     line: &[u8],
     table: &[u8],
     edges: &[u8],
     work: &mut [u8],
     out: &mut [u8],
-    silencing: bool,
+    kind: CallKind,
 ) -> Answer
     ensures { λ r. ⌜ AnswerIs (now (out .entry)) (now (out .exit)) r
-        (answerBy (afterChecks silencing) (now (line .entry)) (now (table .entry)) (now (edges .entry))
+        (answerBy (callStages kind) (now (line .entry)) (now (table .entry)) (now (edges .entry))
         (length (now (work .entry))) (length (now (out .entry)))) ⌝ }
 {
     if work.len() < WORK_SIZE {
@@ -84,19 +40,21 @@ fn add_numbers_by(
     let mut entries: usize = 0;
     match crate::checks::check(line, table, edges, &mut index, &mut entries) {
         CallCheck::Refused(r) => Answer::Refused(r),
-        CallCheck::Accepted(n, h, count) => checked_call(
-            line,
-            table,
-            h,
-            n,
-            edges,
-            count,
-            &index,
-            entries,
-            work,
-            out,
-            silencing,
-        ),
+        CallCheck::Accepted(n, h, count) => {
+            let stages = crate::stages::run_stages(
+                work,
+                line,
+                table,
+                h,
+                n,
+                edges,
+                count,
+                &index,
+                entries,
+                kind,
+            );
+            crate::ending::finish_call(work, stages, out)
+        }
     }
 }
 
@@ -112,7 +70,7 @@ pub fn add_numbers(
         (addNumbers (now (line .entry)) (now (table .entry)) (now (edges .entry)) (length (now (work .entry)))
         (length (now (out .entry)))) ⌝ }
 {
-    add_numbers_by(line, table, edges, work, out, false)
+    add_numbers_by(line, table, edges, work, out, CallKind::First)
 }
 
 // The call in which some singles may not stand: the same, with their active bits off.
@@ -127,5 +85,20 @@ pub fn add_numbers_without_singles(
         (addNumbersWithoutSingles (now (line .entry)) (now (table .entry)) (now (edges .entry))
         (length (now (work .entry))) (length (now (out .entry)))) ⌝ }
 {
-    add_numbers_by(line, table, edges, work, out, true)
+    add_numbers_by(line, table, edges, work, out, CallKind::WithoutSingles)
+}
+
+// The call with decimals: D1 joins digits, a point and digits too.
+pub fn add_numbers_with_decimals(
+    line: &[u8],
+    table: &[u8],
+    edges: &[u8],
+    work: &mut [u8],
+    out: &mut [u8],
+) -> Answer
+    ensures { λ r. ⌜ AnswerIs (now (out .entry)) (now (out .exit)) r
+        (addNumbersWithDecimals (now (line .entry)) (now (table .entry)) (now (edges .entry))
+        (length (now (work .entry))) (length (now (out .entry)))) ⌝ }
+{
+    add_numbers_by(line, table, edges, work, out, CallKind::WithDecimals)
 }

@@ -32,7 +32,7 @@ use Rattle.passes.specs.Characters.{charEdge}
 use Rattle.passes.specs.Passes as passes
 use Rattle.passes.specs.Passes.{digitEdge, isScript, cjk}
 use Rattle.pass_list.specs.StoredEdge.{StoredEdge, Small}
-use Rattle.pass_list.specs.Edges.{between, edgeOf, WellMade, noPoint}
+use Rattle.pass_list.specs.Edges.{between, edgeOf, WellMade}
 use Rattle.pass_list.specs.Kind.{kindNumber}
 use Rattle.numbers.proofs.SaysLaws.{legal-digit}
 use Rattle.characters.specs.CharStored.{numberIf, charStored}
@@ -105,10 +105,10 @@ pub legal-parts : (least : ℕ) (r : Record) → legalRecord least r ≡ true �
 unfolding legalRecord
 legal-parts least r h = and-true (legalNumbers (numbersIn r)) (digitRule r) (and-true (legalTexts r) _ (and-true (legalCodePoint least (r .code-point)) _ h .1) .1)
 
--- ---- one character: c stands at place i of the line w, and the record p that is read at the offset at of the table t is its record
-module _ (w t : List ℕ) (p : NumProp) (at i c : ℕ) where
+-- ---- one character: c stands at place i of the line w, the record p that is read at the offset at of the table t is its record, and b says whether a point that counts follows
+module _ (w t : List ℕ) (p : NumProp) (at i c : ℕ) (b : Bool) where
   abbrev stored-edge : StoredEdge
-  stored-edge = charStored t p at i c
+  stored-edge = charStored t p at i c b
 
   module _ (inside : i < length w) (here : getD w i 0 ≡ c) (reads : Is (recordOf t p) (p .next) ≡ readRecord t at) where
     here-text : between w i (i + 1) ≡ encode c
@@ -151,9 +151,9 @@ module _ (w t : List ℕ) (p : NumProp) (at i c : ℕ) where
           let one : i + 1 - i ≡ 1 = omega arith in
           rw one (digit-txt (partOf t (p .«num_type»)) (bit (p .map) 1) (p .numbers .value) (optionally (bit (p .map) 0) (partOf t (p .rom))) (encode c) legal d)
 
-      pub char-made : digitRule (recordOf t p) ≡ true → WellMade noPoint w t stored-edge
+      pub char-made : (point : ℕ → Bool) → b ≡ point (i + 1) → digitRule (recordOf t p) ≡ true → WellMade point w t stored-edge
       unfolding charStored
-      char-made legal = record {
+      char-made point marked legal = record {
         ordered = omega arith;
         inside = omega arith;
         value-absent = absent (bit (p .map) 1) (p .numbers .value);
@@ -163,21 +163,23 @@ module _ (w t : List ℕ) (p : NumProp) (at i c : ℕ) where
         script = ap (λ (e : NumEdge). isScript (e .script) cjk) char-edge-is ∙ script-same;
         digit-text = λ d. ap (λ (e : NumEdge). e .txt) char-edge-is ∙ digit-text legal d;
         digit-whole = λ d. refl;
-        mark = refl;
+        few-decimals = omega arith;
+        decimals-inside = λ h. absurd (omega arith);
+        mark = marked;
         point-before = λ h. absurd (omega arith);
       }
 
 -- ---- the bounds
-module _ (t : List ℕ) (p : NumProp) (at i c : ℕ) where
-  pub char-kind : kindNumber (charStored t p at i c .kind) ≡ 0
+module _ (t : List ℕ) (p : NumProp) (at i c : ℕ) (b : Bool) where
+  pub char-kind : kindNumber (charStored t p at i c b .kind) ≡ 0
   unfolding charStored
   char-kind = refl
 
-  pub char-whole : charStored t p at i c .decimals ≡ 0
+  pub char-whole : charStored t p at i c b .decimals ≡ 0
   unfolding charStored
   char-whole = refl
 
-  pub char-small : legalNumbers (numbersIn (recordOf t p)) ≡ true → Small (charStored t p at i c)
+  pub char-small : legalNumbers (numbersIn (recordOf t p)) ≡ true → Small (charStored t p at i c b)
   unfolding legalNumbers recordOf charStored
   char-small h =
       let mult = and-true _ (allOf small (optionally (bit (p .map) 4) (p .numbers .mult))) h in

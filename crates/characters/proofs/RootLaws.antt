@@ -1,7 +1,7 @@
 -- The stored edge of a character takes what it needs from the table (pass_edge/specs/Grounded.antt): its record, which the table's check accepted, and its script. No
 -- contract cites this file. Assumes nothing.
 use mathlib.Core.Path.{_≡_, sym}
-use mathlib.Core.Bool.{true}
+use mathlib.Core.Bool.{Bool, true}
 use mathlib.Core.List.{List}
 use mathlib.Core.Option.{some}
 use Prim.Native.Nat.{ℕ, _≤_}
@@ -46,9 +46,9 @@ module _ (t : List ℕ) (rs : List Record) (c : ℕ) (p : NumProp) (at least : �
       let m = at-most (record-short t at (sym (f .reads)) .script) e in
       record { within = w; short = omega arith; formed = script-formed (recordOf t p) _ (legal-texts least (recordOf t p) legal) e }
 
-  pub char-rooted : (i : ℕ) → Rooted t (charStored t p at i c)
+  pub char-rooted : (i : ℕ) (b : Bool) → Rooted t (charStored t p at i c b)
   unfolding charStored
-  char-rooted i =
+  char-rooted i b =
       record {
         legal = λ z. record { prop = recordOf t p; next = p .next; reads = sym (f .reads); texts = legal-texts least (recordOf t p) legal; numbers = numbers };
         one = λ z. add-one i;

@@ -1,9 +1,9 @@
 -- The stored edge of a character (01, "From characters to edges"): p is its record, which stands at the offset at of the table's bytes t. Definitions only.
 --     numberIf b n            the number n where b holds, else 0
---     charStored t p at i c   the stored edge of the code point c at place i
+--     charStored t p at i c b the stored edge of the code point c at place i; b: a point without a record stands at its end, and counts (02, S-13)
 -- proofs/CharLaws.antt shows that it stands for the definition's edge.
 -- Assumes nothing.
-use mathlib.Core.Bool.{Bool, false, cond, _&&_, _||_}
+use mathlib.Core.Bool.{Bool, cond, _&&_, _||_}
 use mathlib.Core.List.{List}
 use Prim.Native.Nat.{ℕ, _+_}
 use lib.Dec.{leb, eqb}
@@ -20,8 +20,8 @@ abbrev pub numberIf : Bool → ℕ → ℕ
 numberIf b n = cond b n 0
 
 -- the marks: type "digit" with a value 0 to 9; 零 or 〇; script cjkBit
-unfoldable pub charStored : List ℕ → NumProp → ℕ → ℕ → ℕ → StoredEdge
-charStored t p at i c = record {
+unfoldable pub charStored : List ℕ → NumProp → ℕ → ℕ → ℕ → Bool → StoredEdge
+charStored t p at i c b = record {
   start = i;
   end = i + 1;
   kind = Character;
@@ -40,5 +40,5 @@ charStored t p at i c = record {
   gap = eqb c 0x96F6 || eqb c 0x3007;
   cjk = bit (p .map) 5 && same (partOf t (p .script)) cjk;
   decimals = 0;
-  point = false;
+  point = b;
 }

@@ -37,9 +37,17 @@ fn is_cjk(table: &[u8], script: Part) -> bool
     text::same_bytes(&table[at..end], b"CJK")
 }
 
-fn char_num(table: &[u8], prop: NumProp, record_at: Offset, place: Place, code: u32) -> PassData
-    requires { ⌜ Inside (now table) prop × Small (charStored (now table) prop («record_at» .0) (place .0) code) ⌝ }
-    ensures { λ r. ⌜ r ≡ numData (charStored (now (table .entry)) prop («record_at» .0) (place .0) code) ⌝ }
+fn char_num(
+    table: &[u8],
+    prop: NumProp,
+    record_at: Offset,
+    place: Place,
+    code: u32,
+    point: bool,
+) -> PassData
+    requires { ⌜ Inside (now table) prop
+        × Small (charStored (now table) prop («record_at» .0) (place .0) code point) ⌝ }
+    ensures { λ r. ⌜ r ≡ numData (charStored (now (table .entry)) prop («record_at» .0) (place .0) code point) ⌝ }
 {
     let n = prop.numbers;
     let num_type = prop.num_type;
@@ -63,29 +71,30 @@ fn char_num(table: &[u8], prop: NumProp, record_at: Offset, place: Place, code: 
         gap: (code == 0x96F6) | (code == 0x3007),
         cjk: has_script & is_cjk(table, script),
         decimals: 0,
-        point: false,
+        point: point,
         script: script_at,
         script_len: script.len,
     }
 }
 
-// The edge of a code point at a place of the line; its record stands at record_at in the table.
+// The edge of a code point at a place of the line; its record stands at record_at in the table. A point that counts stands at its end, or none.
 pub fn char_edge(
     table: &[u8],
     prop: NumProp,
     record_at: Offset,
     place: Place,
     code: u32,
+    point: bool,
 ) -> PassEdge
-    requires { ⌜ Inside (now table) prop × Small (charStored (now table) prop («record_at» .0) (place .0) code)
+    requires { ⌜ Inside (now table) prop × Small (charStored (now table) prop («record_at» .0) (place .0) code point)
         × (place .0 + 1 < u16Limit) ⌝ }
-    ensures { λ r. ⌜ EdgeIs r (charStored (now (table .entry)) prop («record_at» .0) (place .0) code) ⌝ }
+    ensures { λ r. ⌜ EdgeIs r (charStored (now (table .entry)) prop («record_at» .0) (place .0) code point) ⌝ }
 {
     PassEdge {
         start: place,
         end: Place(place.0 + 1),
         kind: Kind::Character,
         record_at: record_at,
-        num: char_num(table, prop, record_at, place, code),
+        num: char_num(table, prop, record_at, place, code, point),
     }
 }

@@ -11,7 +11,7 @@ use lib.Ieee.{Float, nan, inf, fin, Format, binary64, prec, emax, low, up, down,
 use lib.Ieee.Exact.{HasValue}
 use lib.Ieee.Scale.{round-same}
 use lib.Ieee.Fits.{down-pos, div-fits}
-use lib.Ieee.Bits.{ofBits-toBits}
+use lib.Ieee.Bits.{ofBits-toBits, toBits-lt}
 use Rattle.whole.specs.Whole.{TOP, ofNat}
 use Rattle.whole.proofs.WholeLaws.{ofNat-value}
 use Rattle.decimals.specs.Quotient.{quotient}
@@ -65,10 +65,14 @@ unfolding ofNat ofInt
 quotient-same n k h j =
     quotient-rounded (n * 10 ^ k) k h j ∙ round-same binary64 false (n * 10 ^ k) (10 ^ k) n 1 (power-positive k) (lit< tt) (mul-one (n * 10 ^ k))
 
--- the bits that a listing has for it are read back as it
+-- the bits that a listing has for it are read back as it, and are a u64
 pub quotient-bits-back : (n k : ℕ) → ofBits binary64 (toBits binary64 (quotient n k)) ≡ quotient n k
 unfolding quotient
 quotient-bits-back n k = ofBits-toBits binary64 (quotient n k) (div-fits binary64 (ofNat n) (ofNat (10 ^ k)))
+
+pub quotient-bits-fit : (n k : ℕ) → toBits binary64 (quotient n k) < 2 ^ 64
+unfolding quotient
+quotient-bits-fit n k = toBits-lt binary64 (quotient n k) (div-fits binary64 (ofNat n) (ofNat (10 ^ k)))
 
 -- it is no NaN, so that it may be read and written as an f64
 odd-not-nan : (d : ℕ) (s : Bool) (q k l : ℕ) → T (not (isNan (odd d s q k l)))

@@ -1,3 +1,4 @@
 -- The proofs of `first_stages::chars`.
+pub mod PointLaws
 pub mod AddingLaws
 pub mod FirstLaws

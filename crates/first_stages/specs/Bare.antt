@@ -2,19 +2,14 @@
 --     bareChar rs c   the code point c has no record among rs, and is no ASCII digit
 --     bare rs w       so is each of the code points w
 --     Assumes nothing.
-use mathlib.Core.Bool.{Bool, true, false, _&&_, not}
+use mathlib.Core.Bool.{Bool, true, _&&_, not}
 use mathlib.Core.List.{List, [], _∷_}
-use mathlib.Core.Option.{Option, none, some}
 use Prim.Native.Nat.{ℕ}
-use Rattle.table.specs.Table.{Record, find}
+use Rattle.table.specs.Table.{Record, find, isNone}
 use Rattle.numbers.specs.Fallback.{asciiDigit}
 
-abbrev pub absent : Option Record → Bool
-absent none = true
-absent (some r) = false
-
 unfoldable pub bareChar : List Record → ℕ → Bool
-bareChar rs c = not (asciiDigit c) && absent (find rs c)
+bareChar rs c = not (asciiDigit c) && isNone (find rs c)
 
 unfoldable pub bare : List Record → List ℕ → Bool
 bare rs [] = true

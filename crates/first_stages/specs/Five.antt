@@ -12,7 +12,6 @@ use Rattle.passes.specs.Passes.{five}
 use Rattle.pass_list.specs.StoredEdge.{StoredEdge, Every}
 use Rattle.pass_list.specs.StoredPass.{after, added, firstAbove}
 use Rattle.pass_list.specs.Stored.{storedListAt}
-use Rattle.pass_list.specs.Edges.{edgeOf}
 use Rattle.pass_list.specs.InTurn.{through, addedBy}
 use Rattle.pass_list.specs.Kind.{kindNumber}
 use Rattle.pass_run.specs.Nth.{nth}
@@ -21,13 +20,13 @@ use Rattle.lattice.specs.declared.Lattice.{Lattice}
 use Rattle.lattice.specs.Lattice.{addAll}
 use Rattle.lattice.specs.Kept.{Holds, END}
 use Rattle.pass_edge.specs.Grounded.{AllGrounded}
-use Rattle.numbers.specs.Listed.{listedEdge}
+use Rattle.pass_edge.specs.Adding.{listedOf}
 use Rattle.first_stages.specs.declared.five_passes.PassesAnswer.{PassesAnswer}
 use Rattle.first_stages.specs.declared.five_passes.PassesAnswer.the-variants.{Added, Above}
 use Rattle.text.specs.Line.{maxChars}
 
 abbrev pub listedStored : List ℕ → List ℕ → List StoredEdge → List Edge
-listedStored w t l = map listedEdge (map (edgeOf w t) l)
+listedStored w t l = map (listedOf w t) l
 
 -- the list behind the lattice
 abbrev pub behind : List ℕ → ℕ → List StoredEdge

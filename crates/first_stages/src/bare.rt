@@ -3,38 +3,18 @@ ghost use mathlib.Core.Path.{_≡_};
 ghost use mathlib.Core.Bool.{true};
 ghost use Prim.Native.Nat.{ℕ};
 ghost use Rattle.text.specs.Text.{chars, wellFormed};
-ghost use Rattle.table.specs.Table.{find};
 ghost use Rattle.table.specs.Answers.{tableOf};
 ghost use Rattle.table.specs.Index.{Whole, Indexed};
 ghost use Rattle.table_check.specs.Indexed.{RecordIndex};
 ghost use Rattle.numbers.specs.Ready.{Ready};
 ghost use Rattle.characters.specs.Initial.{recordsIn};
-ghost use Rattle.first_stages.specs.Bare.{absent, bareChar, bare};
+ghost use Rattle.first_stages.specs.Bare.{bareChar, bare};
 use table::filter::may_have;
-use table::index::CharRecord;
 use table::index::INDEX_SIZE;
 use table::index::RecordRun;
-use table::index::find_marked;
+use table::index::is_absent;
 use table::shape::Shape;
 use text::Offset;
-
-// Whether a character has no record. Apart from bare_char, so that what the search is handed is put into memory only for the few that are searched for.
-fn is_absent(
-    table: &[u8],
-    all: RecordRun,
-    index: &[u32; INDEX_SIZE],
-    entries: usize,
-    code: u32,
-) -> bool
-    requires { ⌜ Whole (now table) (all .at) (all .left)
-        × Indexed (now table) (recordsIn (now table) all) (now index) (all .left) entries ⌝ }
-    ensures { λ r. ⌜ r ≡ absent (find (recordsIn (now (table .entry)) all) code) ⌝ }
-{
-    match find_marked(table, all, index, entries, code) {
-        CharRecord::At(_, _) => false,
-        CharRecord::Nothing => true,
-    }
-}
 
 fn bare_char(
     table: &[u8],

@@ -1,11 +1,12 @@
 // The five passes on the list in the work space, behind the lattice (01, "Five passes, D1 to G4").
 ghost use mathlib.Core.Path.{_≡_};
 ghost use Prim.Native.Nat.{_+_, _*_, _≤_, suc, _<_};
+ghost use mathlib.Core.Bool.{Bool};
 ghost use mathlib.Core.List.{List, map};
 ghost use lib.ListN.{length, drop};
 ghost use Rattle.text.specs.Text.{chars};
 ghost use Rattle.text.specs.Line.{maxChars};
-ghost use Rattle.pass_list.specs.Edges.{edgeOf};
+ghost use Rattle.pass_list.specs.Edges.{pointsOf};
 ghost use Rattle.pass_list.specs.Stored.{storedAt, storedListAt};
 ghost use Rattle.pass_list.specs.InTurn.{ofKind};
 ghost use Rattle.pass_list.specs.Layout.{SIZE};
@@ -14,9 +15,8 @@ ghost use Rattle.numbers.specs.Ready.{Offsets, workSize};
 ghost use Rattle.edge.specs.Edge.{Edge};
 ghost use Rattle.lattice.specs.Lattice.{addAll};
 ghost use Rattle.lattice.specs.Kept.{Holds, END, SameBehind};
-ghost use Rattle.numbers.specs.Listed.{listedEdge};
 ghost use Rattle.pass_edge.specs.Grounded.{Grounded, AllGrounded};
-ghost use Rattle.pass_edge.specs.Adding.{Addable, Added, addIf};
+ghost use Rattle.pass_edge.specs.Adding.{Addable, Added, listedOf, addIf};
 ghost use Rattle.first_stages.specs.Five.{PassList, OnePass, FivePasses};
 use lattice::Lattice;
 use pass_edge::Fraction;
@@ -83,7 +83,8 @@ fn add_if(
 ) -> Lattice
     requires { ⌜ ((es : List Edge) × Holds (now work) lattice es) × Offsets (now line) (now offs)
         × (length (chars (now line)) ≤ maxChars)
-        × Grounded (chars (now line)) (now table) (storedAt (drop END (now work)) (i * SIZE))
+        × ((b : Bool) × Grounded (pointsOf b (chars (now line))) (chars (now line)) (now table)
+        (storedAt (drop END (now work)) (i * SIZE)))
         × (END + i * SIZE + SIZE ≤ length (now work)) × (kind ≡ 0 → ⊥) ⌝ }
     ensures { λ r. ⌜ SameBehind (now (work .entry)) (now (work .exit))
         × ((es : List Edge) → Holds (now (work .entry)) lattice es
@@ -116,8 +117,8 @@ fn add_of_kind(
     ensures { λ r. ⌜ SameBehind (now (work .entry)) (now (work .exit))
         × ((es : List Edge) → Holds (now (work .entry)) lattice es
         → Holds (now (work .exit)) r (addAll es
-        (map listedEdge (map (edgeOf (chars (now (line .entry))) (now (table .entry)))
-        (ofKind kind (storedListAt (drop END (now (work .entry))) 0 stored)))))) ⌝ }
+        (map (listedOf (chars (now (line .entry))) (now (table .entry)))
+        (ofKind kind (storedListAt (drop END (now (work .entry))) 0 stored))))) ⌝ }
 {
     // two words, not a structure: one that is handed back in two pieces and copied as a whole makes the processor wait
     let mut count = lattice.count;

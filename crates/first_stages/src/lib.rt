@@ -18,7 +18,7 @@ use table::index::INDEX_SIZE;
 use table::shape::Shape;
 use text::check::PLACES;
 
-// The given edges, those of the characters, and those that the five passes join.
+// The given edges, those of the characters, and those that the five passes join: with decimals, where the call has them (02, S-13).
 pub fn run_first_stages(
     work: &mut [u8],
     line: &[u8],
@@ -29,11 +29,12 @@ pub fn run_first_stages(
     count: usize,
     index: &[u32; INDEX_SIZE],
     entries: usize,
+    decimals: bool,
 ) -> PassesAnswer
     requires { ⌜ Offsets (now line) (now offs) × (workSize ≤ length (now work))
         × ((n : ℕ) × Ready (now line) (now table) shape n × (checkListing true n (now edges) ≡ Edges count))
         × RecordIndex (now table) shape (now index) entries ⌝ }
-    ensures { λ r. ⌜ CallPassed (now (line .entry)) (now (table .entry)) shape (now (edges .entry))
+    ensures { λ r. ⌜ CallPassed decimals (now (line .entry)) (now (table .entry)) shape (now (edges .entry))
         (now (work .exit)) r ⌝ }
 {
     let none = lattice::ends::empty(work);
@@ -47,6 +48,7 @@ pub fn run_first_stages(
         shape,
         index,
         entries,
+        decimals,
     );
     let l = first.lattice;
     crate::five_passes::five_passes(work, l, line, offs, table, first.count)

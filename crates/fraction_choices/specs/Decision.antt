@@ -3,7 +3,7 @@
 --     sizeOf m                    how many characters a marker has
 --     choice f i j, noChoice      a choice, and the one that makes nothing
 --     optionOf v                  the value that the code read
---     WholeValued e               the value of the edge e, if it has one, is a whole number up to TOP
+--     WholeValued e               the value of the edge e, if it has one and no decimals, is a whole number up to TOP
 --     otherwiseOf, bothOf, withValuesOf, betweenOf
 -- Assumes nothing.
 use mathlib.Core.Path.{_≡_}
@@ -40,7 +40,7 @@ optionOf (Whole v) = some v
 optionOf Nothing = none
 
 abbrev pub WholeValued : Edge → Type 0
-WholeValued e = (x : Numeric) (b : ℕ) → e .num ≡ some x → x .value ≡ some b → (v : ℕ) × (v ≤ TOP) × (b ≡ f64Bits v)
+WholeValued e = (x : Numeric) (b : ℕ) → e .num ≡ some x → x .decimals ≡ none → x .value ≡ some b → (v : ℕ) × (v ≤ TOP) × (b ≡ f64Bits v)
 
 abbrev pub otherwiseOf : Bool → List Edge → ℕ → Choice
 otherwiseOf percent es zero = noChoice

@@ -87,7 +87,7 @@ module _ {n : ℕ} (few : n ≤ 256) where
           content = sound-is n (percentEdge s z x) (record { rises = rises; within = within; type = formed-ascii percentageType refl; txt = formed-append x (37 ∷ []) formed (formed-ascii (37 ∷ []) refl); num = refl });
         };
         short = λ y p. absurd (none-some p);
-        value = λ y b p v. absurd (none-some p);
+        value = λ y b p d v. absurd (none-some p);
       }
 
   -- ---- a fraction
@@ -155,7 +155,7 @@ module _ {n : ℕ} (few : n ≤ 256) where
           script = short;
           value-s = λ t e. absurd (none-some e);
         });
-        value = λ y v p e. absurd (none-some (ap (λ (x : Numeric). x .value) (some-inj p) ∙ e));
+        value = λ y v p d e. absurd (none-some (ap (λ (x : Numeric). x .value) (some-inj p) ∙ e));
       }
 
   -- ---- what a marker leads to

@@ -16,6 +16,7 @@ ghost use Rattle.lines.specs.Pages.{answerFor};
 ghost use Rattle.lines.specs.Steps.{TableReady, Left};
 use answers::Answer;
 use answers::Refusal;
+use call::stages::CallKind;
 use call::stages::StagesAnswer;
 use lattice::Lattice;
 use table::index::INDEX_SIZE;
@@ -58,7 +59,7 @@ fn stages_answer(
         0,
         index,
         entries,
-        false,
+        CallKind::First,
     ) {
         StagesAnswer::Above(p) => Answer::Refused(Refusal::AboveTop(p)),
         StagesAnswer::Made(l) => finished_answer(l),

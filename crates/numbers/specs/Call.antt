@@ -1,6 +1,6 @@
 -- The whole call (01, "What a call is lent", "The rest of the call"): the finished lattice, and the checks 1 to 8 in their order. Definitions only.
 -- The call of 02, S-12, is the same with one stage more, the one of S-13 the same after other passes.
---     FivePasses              what the five passes of a call give; wholePasses t w: those of the first call; decimalPasses t w: with decimals (S-13)
+--     FivePasses              what the five passes of a call give; wholePasses t w: those of the first call; decimalPasses t w: with decimals (S-13); passesBy d t w: of either
 --     latticeBy b t w given   the finished lattice of the line w (code points) with table t and given edges; b says whether some singles may not stand
 --     latticeOf t w given     that of the first call
 --     decimalLattice t w given   that of the call with decimals
@@ -59,6 +59,10 @@ decimalPasses t w = record {
   fifth = bareEdges (decimalFifthList t w);
   above = decimalAboveAt t w;
 }
+
+-- d: the call has decimals
+abbrev pub passesBy : Bool → Table → List ℕ → FivePasses
+passesBy d t w = cond d (decimalPasses t w) (wholePasses t w)
 
 -- "order of first addition, given edges first"
 abbrev pub withEdges : FivePasses → List Edge → List Edge

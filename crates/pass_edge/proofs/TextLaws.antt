@@ -4,7 +4,7 @@ use mathlib.Core.Path.{_≡_, refl, sym, ap, _∙_, subst}
 use mathlib.Core.Bool.{Bool, true, false, cond}
 use mathlib.Core.List.{List, [], _∷_}
 use mathlib.Core.Option.{Option, none, some, Option·getD}
-use Prim.Native.Nat.{ℕ, suc, _+_, _*_, _-_, _/_, _%_, _≤_}
+use Prim.Native.Nat.{ℕ, suc, _+_, _*_, _-_, _/_, _%_, _≤_, _<_}
 use native.Mathlib.Omega.{arith}
 use lib.ListN.{length, take, drop, getD, length-append}
 use lib.Dec.{eqb, ltb}
@@ -15,18 +15,18 @@ use Rattle.text.specs.Sequence.{encode}
 use Rattle.text.specs.Text.{chars, encodes, offsetOf}
 use Rattle.table.specs.Table.{Text}
 use Rattle.whole.specs.Whole.{ofNat}
-use Rattle.whole.specs.Decimal.{decimal, padded}
-use Rattle.whole.proofs.DecimalLaws.{length-padded, length-decimal-top}
+use Rattle.whole.specs.Decimal.{decimal}
+use Rattle.whole.proofs.DecimalLaws.{length-decimal-top}
 use Rattle.pass_list.specs.declared.record.PassEdge.{PassEdge}
 use Rattle.pass_list.specs.StoredEdge.{StoredEdge, EdgeIs}
-use Rattle.pass_list.specs.Edges.{between, rowText, kindName, txtOf, edgeOf}
-use Rattle.pass_list.proofs.in_turn.Theorems.{no-decimals}
+use Rattle.pass_list.specs.Edges.{between, digitsText, rowText, kindName, txtOf, edgeOf}
 use Rattle.pass_list.specs.Kind.{kindNumber}
 use Rattle.numbers.specs.Ready.{Offsets}
 use Rattle.pass_edge.proofs.places.PlacesLaws.{offset-rises, part-between}
 use Rattle.text.proofs.PlaceLaws.{offset-le}
 use Rattle.pass_edge.specs.Grounded.{LegalAt, Rooted, Grounded, StoredIs}
 use Rattle.pass_edge.specs.Texts.{charTxt, charType, typeOf, Front}
+use Rattle.pass_edge.proofs.DigitsLaws.{length-digits}
 use Rattle.pass_edge.proofs.RecordLaws.{take-short, AtMost, record-short, typeEnd, Lies, type-lies, rom-lies, rom-absent}
 
 -- ---- a character's bytes
@@ -119,8 +119,8 @@ module _ (w t : List ℕ) (e : PassEdge) (x : StoredEdge) (h : EdgeIs e x) where
   unfolding charTxt
   txt-char z = let k : kindNumber (x .kind) ≡ 0 = sym kind-is ∙ z in rw (eq-eqb (kindNumber (x .kind)) 0 k, h .is)
 
-  pub txt-digits : {v : ℕ} → (kindNumber (e .kind) ≡ 0 → ⊥) → kindNumber (e .kind) ≡ 1 → x .decimals ≡ 0 → v ≡ x .value → padded (e .end .0 - e .start .0) v ≡ txtOf w t x
-  txt-digits n z d q = let k : kindNumber (x .kind) ≡ 1 = sym kind-is ∙ z in rw (ne-eqb (kindNumber (x .kind)) 0 (λ o. omega arith), eq-eqb (kindNumber (x .kind)) 1 k, d, h .is, q)
+  pub txt-digits : {v : ℕ} → (kindNumber (e .kind) ≡ 0 → ⊥) → kindNumber (e .kind) ≡ 1 → v ≡ x .value → digitsText (e .num .decimals) (e .end .0 - e .start .0) v ≡ txtOf w t x
+  txt-digits n z q = let k : kindNumber (x .kind) ≡ 1 = sym kind-is ∙ z in rw (ne-eqb (kindNumber (x .kind)) 0 (λ o. omega arith), eq-eqb (kindNumber (x .kind)) 1 k, h .is, q)
 
   pub txt-value : {v : ℕ} → (kindNumber (e .kind) ≡ 0 → ⊥) → (kindNumber (e .kind) ≡ 1 → ⊥) → v ≡ x .value → decimal v ≡ txtOf w t x
   txt-value n z q = rw (ne-eqb (kindNumber (x .kind)) 0 (λ o. n (kind-is ∙ o)), ne-eqb (kindNumber (x .kind)) 1 (λ o. z (kind-is ∙ o)), q)
@@ -147,13 +147,20 @@ unfolding charTxt
 own-short w t at a b l o =
     rw (l .reads) (get-short (l .prop .rom) (between w a b) (record-short t at (l .reads) .rom) (omega (arith, between-short w a b)))
 
-pub txt-short : (w t : List ℕ) (x : StoredEdge) → Grounded w t x → length w ≤ 256 → length (txtOf w t x) ≤ 256
+-- a row's digits are as long as its span
+pub row-inside : {point : ℕ → Bool} {w t : List ℕ} {x : StoredEdge} → Grounded point w t x → 0 < x .decimals → suc (suc (x .decimals)) ≤ x .end - x .start
+row-inside s h = omega (arith, s .made .decimals-inside h)
+
+pub row-length : {point : ℕ → Bool} {w t : List ℕ} {x : StoredEdge} → Grounded point w t x → length (rowText x) ≡ x .end - x .start
+row-length {x = x} s = length-digits (x .decimals) (x .end - x .start) (x .value) (row-inside s)
+
+pub txt-short : {point : ℕ → Bool} (w t : List ℕ) (x : StoredEdge) → Grounded point w t x → length w ≤ 256 → length (txtOf w t x) ≤ 256
 unfolding charTxt
 txt-short w t x s n = go (eqb (kindNumber (x .kind)) 0) (eqb (kindNumber (x .kind)) 1) refl
   where
     go : (b c : Bool) → eqb (kindNumber (x .kind)) 0 ≡ b → length (cond b (charTxt w t (x .record-at) (x .start) (x .end)) (cond c (rowText x) (decimal (x .value)))) ≤ 256
     go true c e = let k = eqb-true (kindNumber (x .kind)) 0 e in omega (arith, own-short w t (x .record-at) (x .start) (x .end) (s .rooted .legal k) (s .rooted .one k))
-    go false true e = rw (no-decimals (s .made)) (omega (arith, length-padded (x .end - x .start) (x .value), s .made .inside))
+    go false true e = omega (arith, row-length s, s .made .inside)
     go false false e = omega (arith, length-decimal-top (x .value) (s .small .value))
 
 module _ (line t : List ℕ) (e : PassEdge) (x : StoredEdge) (h : StoredIs line t e x) where
@@ -163,12 +170,19 @@ module _ (line t : List ℕ) (e : PassEdge) (x : StoredEdge) (h : StoredIs line 
       let b : e .end .0 ≡ x .end = ap (λ (e : PassEdge). e .end .0) (h .is .is) in
       (omega (arith, h .sound .made .ordered), omega (arith, h .sound .made .inside))
 
+  -- a row's decimals
+  pub decimals-few : (e .num .decimals ≤ 15) × (0 < e .num .decimals → suc (suc (e .num .decimals)) ≤ e .end .0 - e .start .0)
+  decimals-few = rw (h .is .is) (h .sound .made .few-decimals, row-inside (h .sound))
+
   pub char-fits : length (chars line) ≤ 256 → kindNumber (e .kind) ≡ 0 → length (charTxt (chars line) t (e .«record_at» .0) (e .start .0) (e .end .0)) ≤ 256
   char-fits n z = rw (txt-char (chars line) t e x (h .is) z) (txt-short (chars line) t x (h .sound) n)
 
--- the value of a stored edge, as the code has it
+-- the value and the decimals of a stored edge, as the code has them
 pub value-is : (e : PassEdge) (x : StoredEdge) → EdgeIs e x → e .num .value ≡ ofNat (x .value)
 value-is e x h = ap (λ (e : PassEdge). e .num .value) (h .is)
+
+pub decimals-are : (e : PassEdge) (x : StoredEdge) → EdgeIs e x → e .num .decimals ≡ x .decimals
+decimals-are e x h = ap (λ (e : PassEdge). e .num .decimals) (h .is)
 
 -- ---- the type of a sound stored edge
 pub type-of-edge : (w t : List ℕ) (x : StoredEdge) → edgeOf w t x .type ≡ typeOf t x
@@ -185,7 +199,7 @@ name-short k = go (eqb k 1) (eqb k 2) (eqb k 3) (eqb k 4)
     go false false false true = omega arith
     go false false false false = omega arith
 
-pub type-short : (w t : List ℕ) (x : StoredEdge) → Grounded w t x → length (typeOf t x) ≤ 60
+pub type-short : {point : ℕ → Bool} (w t : List ℕ) (x : StoredEdge) → Grounded point w t x → length (typeOf t x) ≤ 60
 unfolding typeOf
 type-short w t x s = go (eqb (kindNumber (x .kind)) 0) refl
   where

@@ -2,18 +2,20 @@
 --     storedFraction t k at   the fraction of a stored edge of kind k whose record stands at an offset of the table, in lowest terms, where it has one
 --     recordFraction p        the fraction of the record that a NumProp stands for, in lowest terms, where it has one
 --     FractionIs f o          the code's f is the fraction o, where there is one
---     Listable offs e         the places of e have offsets that rise, and its floats are no NaN
+--     Listable offs e         the places of e have offsets that rise, its value is a whole number up to TOP with at most 15 decimals, and its multiplier is no NaN
 --     storedMap e f           the listing's map for the edge e; f: it has a fraction
+--     divided k v             the value v divided by the power of ten, where there are decimals
 --     storedFields ..         the fields of e: orig_txt between two places of the line, the script in the table, D1's digits at the front of a buffer
 -- Assumes nothing.
 use mathlib.Core.Path.{_≡_}
 use mathlib.Core.Bool.{Bool, cond, not}
 use mathlib.Core.List.{List}
 use mathlib.Core.Option.{Option, none, Option·map}
-use Prim.Native.Nat.{ℕ, _+_, _*_, _-_, _≤_}
-use lib.Dec.{T, eqb}
-use lib.Ieee.{isNan}
+use Prim.Native.Nat.{ℕ, zero, suc, _+_, _*_, _-_, _^_, _≤_}
+use lib.Dec.{T, eqb, ltb}
+use lib.Ieee.{Float, binary64, div, isNan}
 use lib.ListN.{getD}
+use Rattle.whole.specs.Whole.{TOP, ofNat}
 use Rattle.table.specs.Layout.{bit}
 use Rattle.table.specs.Answers.{optionally}
 use Rattle.table.specs.declared.layout.NumProp.{NumProp}
@@ -43,14 +45,23 @@ pub record Listable (offs : List ℕ) (e : PassEdge) : Type 0 where
   pub starts : e .start .0 ≤ maxChars
   pub ends : e .end .0 ≤ maxChars
   pub rises : getD offs (e .start .0) 0 ≤ getD offs (e .end .0) 0
-  pub value : T (not (isNan (e .num .value)))
+  -- what the digits say without the point
+  pub digits : ℕ
+  pub value : e .num .value ≡ ofNat digits
+  pub small : digits ≤ TOP
+  pub few : e .num .decimals ≤ 15
   pub mult : T (not (isNan (e .num .«base_multiplier»)))
 
 -- numeric and active, 1 and 128, and a bit for each field that is there
 abbrev pub storedMap : PassEdge → Bool → ℕ
 storedMap e f =
     129 + 2 * flag (e .num .«has_value») + 4 * flag f + 8 * flag (e .num .«has_base») + 16 * flag (e .num .«has_mult») + 32 * flag (e .num .«has_script»)
-    + 64 * flag (e .num .«large_power») + 256 * flag (eqb (kindNumber (e .kind)) 1)
+    + 64 * flag (e .num .«large_power») + 256 * flag (eqb (kindNumber (e .kind)) 1) + 512 * flag (ltb 0 (e .num .decimals))
+
+-- 02, S-13: "divided in f64 by the power of ten"
+abbrev pub divided : ℕ → Float → Float
+divided zero v = v
+divided (suc k) v = div binary64 v (ofNat (10 ^ suc k))
 
 -- a part that is there, or none
 abbrev pub partOr : Bool → ℕ → ℕ → Part
@@ -60,7 +71,7 @@ unfoldable pub storedFields : List ℕ → PassEdge → Fraction → ℕ → Num
 unfolding fieldsOf
 storedFields offs e f len = fieldsOf (record {
   map = storedMap e (f .there);
-  value = e .num .value;
+  value = divided (e .num .decimals) (e .num .value);
   numerator = f .numerator;
   denominator = f .denominator;
   base = e .num .base;
@@ -68,5 +79,5 @@ storedFields offs e f len = fieldsOf (record {
   orig = record { at = record { 0 = getD offs (e .start .0) 0 }; len = getD offs (e .end .0) 0 - getD offs (e .start .0) 0 };
   script = partOr (e .num .«has_script») (e .num .script .0) (e .num .«script_len»);
   «value_s» = partOr (eqb (kindNumber (e .kind)) 1) 0 len;
-  decimals = 0;
+  decimals = e .num .decimals;
 })

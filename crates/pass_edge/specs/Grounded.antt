@@ -2,12 +2,12 @@
 --     LegalAt t at      at an offset of t stands a record that the table's check accepts
 --     ScriptAt t at n   n bytes of t from an offset on are a script: they are there, a string of the table, and UTF-8
 --     Rooted t x        what x takes from the table stands there: a character's record, a script; a character is one place long
---     Grounded w t x    x is made as its edge says, its numbers are within 01's bounds, and it is rooted
---     AllGrounded w t l each stored edge of l is grounded
---     StoredIs l t e x    the code's edge e is the stored edge x, which is grounded in the line's bytes l and the table's t
+--     Grounded point w t x   x is made as its edge says, with the points of `point`, its numbers are within 01's bounds, and it is rooted
+--     AllGrounded w t l      each stored edge of l is grounded, whether points count or not
+--     StoredIs l t e x       the code's edge e is the stored edge x, which is grounded in the line's bytes l and the table's t
 -- Assumes nothing.
 use mathlib.Core.Path.{_≡_}
-use mathlib.Core.Bool.{true}
+use mathlib.Core.Bool.{Bool, true}
 use mathlib.Core.List.{List}
 use Prim.Native.Nat.{ℕ, suc, _+_, _≤_}
 use lib.ListN.{length}
@@ -18,7 +18,7 @@ use Rattle.table.specs.Layout.{Is, readRecord, numbersIn, maxString}
 use Rattle.table.specs.Check.{legalTexts, legalNumbers}
 use Rattle.pass_list.specs.declared.record.PassEdge.{PassEdge}
 use Rattle.pass_list.specs.StoredEdge.{StoredEdge, Small, Every, EdgeIs}
-use Rattle.pass_list.specs.Edges.{WellMade, noPoint}
+use Rattle.pass_list.specs.Edges.{WellMade, pointsOf}
 use Rattle.pass_list.specs.Kind.{kindNumber}
 
 pub record LegalAt (t : List ℕ) (at : ℕ) : Type 0 where
@@ -38,14 +38,17 @@ pub record Rooted (t : List ℕ) (x : StoredEdge) : Type 0 where
   pub one : kindNumber (x .kind) ≡ 0 → x .end ≡ suc (x .start)
   pub script : x .has-script ≡ true → ScriptAt t (x .script-at) (x .script-len)
 
-pub record Grounded (w t : List ℕ) (x : StoredEdge) : Type 0 where
-  pub made : WellMade noPoint w t x
+pub record Grounded (point : ℕ → Bool) (w t : List ℕ) (x : StoredEdge) : Type 0 where
+  pub made : WellMade point w t x
   pub small : Small x
   pub rooted : Rooted t x
 
-abbrev pub AllGrounded : List ℕ → List ℕ → List StoredEdge → Type 0
-AllGrounded w t = Every (Grounded w t)
+pub record AllGrounded (w t : List ℕ) (l : List StoredEdge) : Type 0 where
+  -- whether points count
+  pub marks : Bool
+  pub each : Every (Grounded (pointsOf marks w) w t) l
 
 pub record StoredIs (line table : List ℕ) (e : PassEdge) (x : StoredEdge) : Type 0 where
   pub is : EdgeIs e x
-  pub sound : Grounded (chars line) table x
+  pub marks : Bool
+  pub sound : Grounded (pointsOf marks (chars line)) (chars line) table x

@@ -1,20 +1,20 @@
 // A stored edge of the pass list with its texts as an edge of the lattice (01, "From characters to edges"): the fields that it is listed with.
 ghost use mathlib.Core.Path.{_≡_};
-ghost use Prim.Native.Nat.{_*_, _≤_};
+ghost use Prim.Native.Nat.{ℕ, _*_, _≤_};
 ghost use mathlib.Core.List.{List};
 ghost use lib.ListN.{length};
 ghost use Rattle.text.specs.Text.{chars};
 ghost use Rattle.text.specs.Line.{maxChars};
+ghost use Rattle.whole.specs.Whole.{ofNat};
 ghost use Rattle.pass_list.specs.StoredEdge.{StoredEdge};
-ghost use Rattle.pass_list.specs.Edges.{edgeOf};
 ghost use Rattle.pass_list.specs.Kind.{kindNumber};
 ghost use Rattle.numbers.specs.Ready.{Offsets};
 ghost use Rattle.edge.specs.Edge.{Edge};
 ghost use Rattle.lattice.specs.Lattice.{add};
 ghost use Rattle.lattice.specs.Kept.{Holds, SameBehind};
-ghost use Rattle.numbers.specs.Listed.{listedEdge};
 ghost use Rattle.pass_edge.specs.Texts.{TextsAre};
-ghost use Rattle.pass_edge.specs.Fields.{storedFraction, FractionIs, storedMap, partOr, storedFields, Listable};
+ghost use Rattle.pass_edge.specs.Adding.{listedOf};
+ghost use Rattle.pass_edge.specs.Fields.{storedFraction, FractionIs, storedMap, divided, partOr, storedFields, Listable};
 use crate::Fraction;
 use edge::NumData;
 use edge::NumFields;
@@ -43,6 +43,18 @@ fn map_of(edge: PassEdge, fraction: bool) -> u16
         + bit_if(edge.num.has_script, bits::SCRIPT)
         + bit_if(edge.num.large_power, bits::LARGE_POWER)
         + bit_if(is_row(kind), bits::VALUE_S)
+        + bit_if(edge.num.decimals > 0, bits::DECIMALS)
+}
+
+// The value that is listed: the digits, divided by the power of ten where some stand after the point (02, S-13).
+fn listed_value(digits: f64, decimals: u16) -> f64
+    requires { ⌜ ((n : ℕ) × (digits ≡ ofNat n)) × (decimals ≤ 15) ⌝ }
+    ensures { λ r. ⌜ r ≡ divided decimals digits ⌝ }
+{
+    if decimals == 0 {
+        return digits;
+    }
+    decimals::quotient(digits, decimals as u64)
 }
 
 // A part that is there, or none.
@@ -77,7 +89,7 @@ fn fields_of(offs: &[usize; PLACES], edge: PassEdge, fraction: Fraction, len: us
     let value_s = part_or(is_row(kind), Offset(0), len);
     edge::data::num_fields(NumData {
         map: map_of(edge, fraction.there),
-        value: edge.num.value,
+        value: listed_value(edge.num.value, edge.num.decimals),
         numerator: fraction.numerator,
         denominator: fraction.denominator,
         base: edge.num.base,
@@ -85,7 +97,7 @@ fn fields_of(offs: &[usize; PLACES], edge: PassEdge, fraction: Fraction, len: us
         orig: orig,
         script: script,
         value_s: value_s,
-        decimals: 0,
+        decimals: edge.num.decimals as u8,
     })
 }
 
@@ -108,8 +120,7 @@ pub fn add_texts(
     ensures { λ r. ⌜ SameBehind (now (work .entry)) (now (work .exit))
         × ((es : List Edge) (i : StoredEdge) → Holds (now (work .entry)) lattice es
         → TextsAre (now (line .entry)) (now (table .entry)) edge (now (ty .entry)) (now (txt .entry)) i
-        → Holds (now (work .exit)) r (add es (listedEdge
-        (edgeOf (chars (now (line .entry))) (now (table .entry)) i)))) ⌝ }
+        → Holds (now (work .exit)) r (add es (listedOf (chars (now (line .entry))) (now (table .entry)) i))) ⌝ }
 {
     let d = fields_of(offs, edge, fraction, txt.len());
     lattice_add::numeric::add_numeric(

@@ -6,14 +6,15 @@
 --     edgeOf w t x, chainOf w t c                 the edge that x stands for, the chain that c stands for
 --     decimalEdgeOf w t x, decimalChainOf w t c   the same, with the decimals
 --     WellMade point w t x  the marks of x say what the texts of its edge say, its absent numbers are 0, and its points are those of `point`, by their places
+--     pointsOf b w      the places of the line w that hold a point, where b says that points count
 --     noPoint           the points of the first call
 -- Assumes nothing.
 use mathlib.Core.Path.{_≡_}
-use mathlib.Core.Bool.{Bool, true, false, cond}
+use mathlib.Core.Bool.{Bool, true, false, cond, _&&_}
 use mathlib.Core.List.{List, [], _∷_, _++_}
 use mathlib.Core.Option.{Option, none, some, Option·getD, Option·map}
-use Prim.Native.Nat.{ℕ, zero, suc, _-_, _≤_, _<_}
-use lib.ListN.{length, take, drop}
+use Prim.Native.Nat.{ℕ, zero, suc, _+_, _-_, _≤_, _<_}
+use lib.ListN.{length, take, drop, getD}
 use lib.Dec.{eqb}
 use Rattle.fields.specs.Part.{part}
 use Rattle.whole.specs.Decimal.{decimal, padded}
@@ -94,9 +95,16 @@ pub record WellMade (point : ℕ → Bool) (w t : List ℕ) (x : StoredEdge) : T
   -- a digit's txt is that digit, as the table's check has it
   pub digit-text : x .digit ≡ true → edgeOf w t x .txt ≡ padded (x .end - x .start) (x .value)
   pub digit-whole : x .digit ≡ true → x .decimals ≡ 0
+  -- "A sixteenth decimal stays outside" (02, S-13), and before the point stands a digit
+  pub few-decimals : x .decimals ≤ 15
+  pub decimals-inside : 0 < x .decimals → x .start + suc (suc (x .decimals)) ≤ x .end
   pub mark : x .point ≡ point (x .end)
   -- before its decimals stands a point
   pub point-before : 0 < x .decimals → point (x .end - suc (x .decimals)) ≡ true
+
+-- "one point (U+002E, where that has no record)": b says that it has none, and that the call has decimals
+abbrev pub pointsOf : Bool → List ℕ → ℕ → Bool
+pointsOf b w p = b && eqb (getD w p 0) pointCharacter
 
 -- "For lines without a point the call agrees with the first": no edge has decimals then
 abbrev pub noPoint : ℕ → Bool

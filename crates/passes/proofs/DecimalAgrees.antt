@@ -8,12 +8,12 @@ use mathlib.Core.List.{List, [], _∷_, map, map-append}
 use mathlib.Core.Option.{none, some, Option·map}
 use lib.Dec.{eqb}
 use lib.ListN.{getD}
-use Rattle.table.specs.Table.{Table, Record, find}
+use Rattle.table.specs.Table.{Table, Record, find, isNone}
 use Rattle.passes.specs.NumEdge.{NumEdge, firstAbove}
 use Rattle.passes.specs.Characters.{firstList}
 use Rattle.passes.specs.Passes as passes
 use Rattle.passes.specs.Passes.{Pass, D1, G1, G2, G3, G4, Chain, longer, touches, d1Rule, joined, five, fifthList, joinedEdges, aboveAt}
-use Rattle.passes.specs.DecimalPasses.{DecimalEdge, wholeEdge, wholeChain, begin, next, nextDigit, nextLater, joinsDigit, joinsPoint, edgesOf, chainsOf, joinedOf, after, added, through, addedBy, pointAt, pointCharacter, isNone, bareEdges, decimalFirstList, decimalFifthList, decimalJoinedEdges, decimalAboveAt}
+use Rattle.passes.specs.DecimalPasses.{DecimalEdge, wholeEdge, wholeChain, begin, next, nextDigit, nextLater, joinsDigit, joinsPoint, edgesOf, chainsOf, joinedOf, after, added, through, addedBy, pointAt, pointCharacter, bareEdges, decimalFirstList, decimalFifthList, decimalJoinedEdges, decimalAboveAt}
 use Rattle.passes.proofs.ChainsLaws.{chains-map}
 use Rattle.passes.proofs.ChainsAlike.{Each}
 

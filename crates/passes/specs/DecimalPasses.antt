@@ -13,7 +13,7 @@ use mathlib.Core.List.{List, [], _∷_, _++_, map}
 use mathlib.Core.Option.{Option, none, some, Option·map}
 use lib.Dec.{leb, ltb, eqb}
 use lib.ListN.{getD}
-use Rattle.table.specs.Table.{Record, Table, find}
+use Rattle.table.specs.Table.{Table, find, isNone}
 use Rattle.passes.specs.NumEdge.{NumEdge, placed, orZero, firstAbove}
 use Rattle.passes.specs.Characters.{firstList}
 use Rattle.passes.specs.Chains.{chains}
@@ -46,10 +46,6 @@ begin e = record { chain = passes.begin (e .edge); decimals = e .decimals }
 -- "one point (U+002E, where that has no record)"
 abbrev pub pointCharacter : ℕ
 pointCharacter = 0x2E
-
-abbrev pub isNone : Option Record → Bool
-isNone none = true
-isNone (some r) = false
 
 unfoldable pub pointAt : Table → List ℕ → ℕ → Bool
 pointAt t w p = isNone (find (t .records) pointCharacter) && eqb (getD w p 0) pointCharacter

@@ -24,7 +24,7 @@ use Rattle.answers.specs.declared.Answer.the-variants as Code
 use Rattle.answers.specs.declared.Refusal.{Refusal}
 use Rattle.answers.specs.Answers.{number, place, answerOf}
 use Rattle.call.specs.Answers.{AnswerIs}
-use Rattle.finished.specs.Finished.{Bytes, edgesOf, Finished}
+use Rattle.finished.specs.Finished.{Bytes, edgesOf, FinishedAs}
 use Rattle.finished.proofs.Readable.{finished-read}
 use Rattle.rows.specs.Rows.{mark, rowBytes}
 use Rattle.rows.specs.ListingRows.{rowsBytes, RowsFit}
@@ -52,10 +52,9 @@ rows-short n (e ∷ es) few (cons l ls) =
     let bytes = length-append (edgeBytes e) (edgesBytes es) in
     omega (arith, rows-short n es few ls)
 
-rows-room : (line given : List ℕ) {bytes : List ℕ} {t : _} → Finished t line given bytes → length (rowsBytes (listed bytes)) ≤ 65536
+rows-room : (es : List Edge) (line : List ℕ) {bytes : List ℕ} → FinishedAs es line bytes → length (rowsBytes (listed bytes)) ≤ 65536
 unfolding listingBytes
-rows-room line given {bytes} {t} f =
-    let es = edgesOf t line given in
+rows-room es line {bytes} f =
     let r = rows-short (length (chars line)) es (reads line bytes _ _ (f .readable) .few) (f .legal) in
     let l : length bytes ≡ length (bytesOf 2 (length es)) + length (edgesBytes es) = ap length (f .bytes-are) ∙ length-append (bytesOf 2 (length es)) (edgesBytes es) in
     let few = f .few in
@@ -73,7 +72,7 @@ rows-fit line table given work out bytes text b e room =
     record {
       count = omega arith;
       whole = subst (λ (k : ℕ). Whole k bytes 2) (r .edges) (spans-whole _ _ bytes 2 (r .spans));
-      room = let k = rows-room line given f in omega arith;
+      room = let k = rows-room es line f in omega arith;
     }
 
 -- ---- the call answered a listing of n bytes: it stands at the output's front

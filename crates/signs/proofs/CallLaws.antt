@@ -3,8 +3,8 @@
 use mathlib.Core.Path.{_≡_, refl, sym, ap, _∙_}
 use mathlib.Core.Bool.{Bool, true, false, cond, _&&_}
 use mathlib.Core.List.{List, [], _∷_, _++_, map}
-use mathlib.Core.Option.{some, Option·some-ne-none}
-use Prim.Native.Nat.{ℕ, _-_, _≤_, _<_}
+use mathlib.Core.Option.{Option, none, some, Option·some-ne-none}
+use Prim.Native.Nat.{ℕ, zero, suc, _-_, _≤_, _<_}
 use native.Mathlib.Omega.{arith}
 use lib.ListN.{length, length-append}
 use lib.Dec.{leb, ltb}
@@ -21,7 +21,8 @@ use Rattle.lattice.specs.Lattice.{addAll}
 use Rattle.pass_list.specs.StoredEdge.{nil, cons}
 use Rattle.numbers.specs.CallEdge.{CallEdge, CallEdges}
 use Rattle.numbers.proofs.stages.CallLaws.{add-all-call}
-use Rattle.numbers.specs.Listed.{listedEdge}
+use Rattle.passes.specs.DecimalPasses.{DecimalEdge}
+use Rattle.numbers.specs.Listed.{listedWith, listedEdge, listedBy, listedDecimal}
 use Rattle.numbers.specs.Signs.{endsAt, signEdge, signed, signs}
 
 -- ---- texts with a sign: c is its ASCII byte
@@ -40,8 +41,8 @@ plus-byte : SignByte 43
 unfolding encodes encode
 plus-byte = record { alone = encodes-well-formed (43 ∷ []) (refl, tt); behind = encodes-well-formed (32 ∷ 43 ∷ []) (refl, (refl, tt)) }
 
--- ---- the edge for one sign
-module _ {n : ℕ} (e : NumEdge) (h : CallEdge n (listedEdge e)) where
+-- ---- the edge for one sign: value and decimals are as the edge before it is listed
+module _ {n : ℕ} (e : NumEdge) (value decimals : Option ℕ) (h : CallEdge n (listedWith value decimals e)) where
   record Parts : Type 0 where
     pub ordered : e .start < e .end
     pub inside : leb (e .end) n ≡ true
@@ -49,9 +50,9 @@ module _ {n : ℕ} (e : NumEdge) (h : CallEdge n (listedEdge e)) where
     pub txt : wellFormed (e .txt) ≡ true
 
   parts : Parts
-  unfolding sound listedEdge
+  unfolding sound
   parts =
-      let whole = and-true ((ltb (e .start) (e .end) && leb (e .end) n) && (wellFormed (e .type) && wellFormed (e .txt))) (each soundNumeric (listedEdge e .num)) (h .legal .content) .0 in
+      let whole = and-true ((ltb (e .start) (e .end) && leb (e .end) n) && (wellFormed (e .type) && wellFormed (e .txt))) (each soundNumeric (listedWith value decimals e .num)) (h .legal .content) .0 in
       let two = and-true (ltb (e .start) (e .end) && leb (e .end) n) (wellFormed (e .type) && wellFormed (e .txt)) whole in
       let places = and-true (ltb (e .start) (e .end)) (leb (e .end) n) (two .0) in
       let texts = and-true (wellFormed (e .type)) (wellFormed (e .txt)) (two .1) in
@@ -64,7 +65,6 @@ module _ {n : ℕ} (e : NumEdge) (h : CallEdge n (listedEdge e)) where
     pub txt : length (e .txt) ≤ 256
 
   lengths : Lengths
-  unfolding listedEdge
   lengths = let s = h .short _ refl in record { start = h .legal .fits .start; end = h .legal .fits .end; type = s .type; txt = s .txt }
 
   sign-call : (c : ℕ) → SignByte c → (m : Text) → CallEdge n (signEdge (e .start - length (chars m)) c e)
@@ -81,7 +81,7 @@ module _ {n : ℕ} (e : NumEdge) (h : CallEdge n (listedEdge e)) where
           content = rw (lt-ltb (e .start - length (chars m)) (e .end) less, p .inside, formed-append (e .type) (32 ∷ c ∷ []) (p .type) (b .behind), formed-append (c ∷ []) (e .txt) (b .alone) (p .txt));
         };
         short = λ x q. absurd (never x q);
-        value = λ x v q g. absurd (never x q);
+        value = λ x v q k g. absurd (never x q);
       }
 
   signed-call : (w : List ℕ) (c : ℕ) → SignByte c → (ms : List Text) → CallEdges n (signed w c e ms)
@@ -98,15 +98,27 @@ every-append : {n : ℕ} (es fs : List Edge) → CallEdges n es → CallEdges n 
 every-append [] fs nil k = k
 every-append (e ∷ es) fs (cons p h) k = cons p (every-append es fs h k)
 
-pub signs-call : {n : ℕ} (t : Table) (w : List ℕ) (es : List NumEdge) → CallEdges n (map listedEdge es) → CallEdges n (signs t w es)
-unfolding signs
-signs-call t w [] nil = nil
-signs-call {n} t w (e ∷ es) (cons p h) = every-append _ (signs t w es) (go (has (e .value))) (signs-call t w es h)
+-- an edge is listed with a value and its decimals
+listed-call : {n : ℕ} (d : DecimalEdge) → CallEdge n (listedDecimal d) → (value : Option ℕ) × (decimals : Option ℕ) × CallEdge n (listedWith value decimals (d .edge))
+unfolding listedDecimal listedEdge
+listed-call {n} d h = go (d .decimals) h
   where
-    go : (b : Bool) → CallEdges n (cond b (signed w 45 e (t .minus-signs) ++ signed w 43 e (t .plus-signs)) [])
-    go true = every-append _ _ (signed-call e p w 45 minus-byte (t .minus-signs)) (signed-call e p w 43 plus-byte (t .plus-signs))
+    go : (k : ℕ) → CallEdge n (listedBy k (d .edge)) → (value : Option ℕ) × (decimals : Option ℕ) × CallEdge n (listedWith value decimals (d .edge))
+    go zero q = (_, none, q)
+    go (suc k) q = (_, some (suc k), q)
+
+-- of is the passes' edge of each
+pub signs-call : {n : ℕ} {A : Type 0} (of : A → DecimalEdge) (t : Table) (w : List ℕ) (l : List A) → CallEdges n (map (λ (x : A). listedDecimal (of x)) l)
+    → CallEdges n (signs t w (map (λ (x : A). of x .edge) l))
+unfolding signs
+signs-call of t w [] nil = nil
+signs-call {n} {A} of t w (x ∷ l) (cons p h) = every-append _ (signs t w (map (λ (x : A). of x .edge) l)) (go (has (of x .edge .value))) (signs-call of t w l h)
+  where
+    go : (b : Bool) → CallEdges n (cond b (signed w 45 (of x .edge) (t .minus-signs) ++ signed w 43 (of x .edge) (t .plus-signs)) [])
+    go true = let (v, k, q) = listed-call (of x) p in every-append _ _ (signed-call (of x .edge) v k q w 45 minus-byte (t .minus-signs)) (signed-call (of x .edge) v k q w 43 plus-byte (t .plus-signs))
     go false = nil
 
 -- so the lattice's edges stay such
-pub add-signs-call : {n : ℕ} {fs : List Edge} (t : Table) (w : List ℕ) (es : List NumEdge) → CallEdges n fs → CallEdges n (map listedEdge es) → CallEdges n (addAll fs (signs t w es))
-add-signs-call t w es h k = add-all-call h (signs-call t w es k)
+pub add-signs-call : {n : ℕ} {fs : List Edge} {A : Type 0} (of : A → DecimalEdge) (t : Table) (w : List ℕ) (l : List A) → CallEdges n fs → CallEdges n (map (λ (x : A). listedDecimal (of x)) l)
+    → CallEdges n (addAll fs (signs t w (map (λ (x : A). of x .edge) l)))
+add-signs-call of t w l h k = add-all-call h (signs-call of t w l k)

@@ -1,6 +1,6 @@
 -- Laws of G6 for a stored edge of the pass list, and for the whole list (`specs/SignEdges.antt`). No contract cites this file.
 -- In order: both lists; the stored edges one at a time. Assumes nothing.
-use mathlib.Core.Path.{_≡_, refl, sym, ap, _∙_}
+use mathlib.Core.Path.{_≡_, refl, sym, ap, _∙_, subst}
 use mathlib.Core.Bool.{Bool, true, false, cond}
 use mathlib.Core.List.{List, [], _∷_, _++_, map}
 use Prim.Native.Nat.{ℕ, _+_, _-_, _*_, _≤_, _<_}
@@ -11,9 +11,9 @@ use Rattle.table.specs.Answers.{tableOf}
 use Rattle.table.specs.declared.shape.Shape.{Shape}
 use Rattle.passes.specs.NumEdge.{has}
 use Rattle.pass_list.specs.declared.record.PassEdge.{PassEdge}
-use Rattle.pass_list.specs.StoredEdge.{StoredEdge, EdgeIs, cons}
+use Rattle.pass_list.specs.StoredEdge.{StoredEdge, Every, EdgeIs, cons}
 use Rattle.pass_list.specs.Stored.{storedAt, storedListAt}
-use Rattle.pass_list.specs.Edges.{edgeOf}
+use Rattle.pass_list.specs.Edges.{edgeOf, pointsOf}
 use Rattle.pass_list.proofs.StoredLaws.{stored-edges-cons, stored-edges-none}
 use Rattle.pass_list.specs.Layout.{SIZE}
 use Rattle.edge.specs.Edge.{Edge}
@@ -80,12 +80,16 @@ module _ (t : Table) (w table s : List ℕ) (n : ℕ) where
     unfolding signs
     rest-end h = rw (stored-edges-none s i n h)
 
-sounds-parts : {w table : List ℕ} {x : StoredEdge} {l : List StoredEdge} → AllGrounded w table (x ∷ l) → Grounded w table x × AllGrounded w table l
-sounds-parts (cons p q) = (p, q)
+parts : {P : StoredEdge → Type 0} {x : StoredEdge} {l : List StoredEdge} → Every P (x ∷ l) → P x × Every P l
+parts (cons p q) = (p, q)
 
 module _ (w table s : List ℕ) (n : ℕ) where
   pub sounds-start : AllGrounded w table (storedListAt s 0 n) → AllGrounded w table (storedListAt s 0 (n - 0))
   sounds-start h = rw (sub-zero n) h
 
-  pub sounds-next : (i : ℕ) → i < n → AllGrounded w table (storedListAt s i (n - i)) → Grounded w table (storedAt s (i * SIZE)) × AllGrounded w table (storedListAt s (i + 1) (n - (i + 1)))
-  sounds-next i h k = sounds-parts (rw (stored-edges-cons s i n h) at k)
+  -- the i-th, with the points that count, and those behind it
+  pub sounds-next : (i : ℕ) → i < n → AllGrounded w table (storedListAt s i (n - i))
+      → ((b : Bool) × Grounded (pointsOf b w) w table (storedAt s (i * SIZE))) × AllGrounded w table (storedListAt s (i + 1) (n - (i + 1)))
+  sounds-next i h k =
+      let (p, q) = parts (subst (Every (Grounded (pointsOf (k .marks) w) w table)) (stored-edges-cons s i n h) (k .each)) in
+      ((k .marks, p), record { marks = k .marks; each = q })

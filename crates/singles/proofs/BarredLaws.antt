@@ -19,7 +19,7 @@ use Rattle.passes.specs.NumEdge.{NumEdge, orZero}
 use Rattle.pass_list.specs.declared.record.PassEdge.{PassEdge}
 use Rattle.pass_list.specs.StoredEdge.{StoredEdge}
 use Rattle.pass_list.specs.Stored.{storedAt, storedListAt}
-use Rattle.pass_list.specs.Edges.{between, edgeOf, WellMade, noPoint}
+use Rattle.pass_list.specs.Edges.{between, edgeOf, WellMade}
 use Rattle.pass_list.specs.Layout.{SIZE}
 use Rattle.pass_list.proofs.StoredLaws.{length-stored-edges}
 use Rattle.pass_edge.specs.Grounded.{AllGrounded, StoredIs}
@@ -50,7 +50,7 @@ value-or-zero : (there : Bool) (v : ℕ) → (there ≡ false → v ≡ 0) → o
 value-or-zero true v h = refl
 value-or-zero false v h = sym (h refl)
 
-barred-is : (w t : List ℕ) (x : StoredEdge) → WellMade noPoint w t x
+barred-is : {point : ℕ → Bool} (w t : List ℕ) (x : StoredEdge) → WellMade point w t x
     → barred (edgeOf w t x) ≡ (eqb (x .end) (suc (x .start)) && (oneOf barredCharacters (between w (x .start) (x .end)) || ltb 1000 (x .value)))
 unfolding barred edgeOf
 barred-is w t x m = rw (value-or-zero (x .has-value) (x .value) (m .value-absent))

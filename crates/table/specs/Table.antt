@@ -3,6 +3,7 @@
 --     Record      what the table says of one character; a field that is absent is none
 --     Table       the four lists in 01's order, then the records
 --     find rs c   the record of the code point c, where there is one
+--     isNone o    there is no record
 --     Assumes nothing.
 use Prim.Native.Nat.{ℕ}
 use mathlib.Core.Bool.{Bool, true, false, cond}
@@ -35,3 +36,7 @@ pub record Table : Type 0 where
 unfoldable pub find : List Record → ℕ → Option Record
 find [] c = none
 find (r ∷ rs) c = cond (eqb (r .code-point) c) (some r) (find rs c)
+
+abbrev pub isNone : Option Record → Bool
+isNone none = true
+isNone (some r) = false

@@ -5,7 +5,7 @@ ghost use mathlib.Core.Path.{_≡_};
 ghost use mathlib.Core.List.{List};
 ghost use Prim.Native.Nat.{ℕ, _-_, _*_, _<_};
 ghost use lib.ListN.{length};
-ghost use Rattle.table.specs.Table.{Record};
+ghost use Rattle.table.specs.Table.{Record, find, isNone};
 ghost use Rattle.table.specs.Layout.{recordsAt};
 ghost use Rattle.table.specs.Filter.{mark, indexSize};
 ghost use Rattle.table.specs.Index.{FoundIs, Entry, strideOf, Entered, Indexed, IndexGrowing, Whole, RecordsAhead};
@@ -133,23 +133,7 @@ fn nearest_entry(
     from
 }
 
-// The record of a character among all records, whose index has n entries. The filter is not asked: it is apart from find_char, so that asking the filter is no call.
-pub fn find_marked(
-    table: &[u8],
-    all: RecordRun,
-    offs: &[u32; INDEX_SIZE],
-    n: usize,
-    c: u32,
-) -> CharRecord
-    requires { ⌜ Whole (now table) (all .at) (all .left)
-        × Indexed (now table) (recordsAt (all .left) (now table) (all .at)) (now offs) (all .left) n ⌝ }
-    ensures { λ r. ⌜ FoundIs (now (table .entry)) (recordsAt (all .left) (now (table .entry)) (all .at)) c r ⌝ }
-{
-    let from = nearest_entry(table, all, offs, n, c);
-    find_from(table, from, c)
-}
-
-// The same, the filter asked first.
+// The record of a character among all records, whose index has n entries. The filter is asked first.
 pub fn find_char(
     table: &[u8],
     all: RecordRun,
@@ -164,5 +148,20 @@ pub fn find_char(
     if !may_have(offs, c) {
         return CharRecord::Nothing;
     }
-    find_marked(table, all, offs, n, c)
+    let from = nearest_entry(table, all, offs, n, c);
+    find_from(table, from, c)
+}
+
+// Whether a character has no record among all. For a caller who asked the filter: apart from that, so that what the search is handed is put into
+// memory only for the few characters that are searched for.
+pub fn is_absent(table: &[u8], all: RecordRun, offs: &[u32; INDEX_SIZE], n: usize, c: u32) -> bool
+    requires { ⌜ Whole (now table) (all .at) (all .left)
+        × Indexed (now table) (recordsAt (all .left) (now table) (all .at)) (now offs) (all .left) n ⌝ }
+    ensures { λ r. ⌜ r ≡ isNone (find (recordsAt (all .left) (now (table .entry)) (all .at)) c) ⌝ }
+{
+    let from = nearest_entry(table, all, offs, n, c);
+    match find_from(table, from, c) {
+        CharRecord::At(_, _) => false,
+        CharRecord::Nothing => true,
+    }
 }

@@ -13,11 +13,17 @@ use Rattle.lattice.specs.declared.Finished.{Finished}
 use Rattle.lattice.specs.declared.Finished.the-variants as Finished
 use Rattle.lattice.specs.Lattice.{overfull}
 use Rattle.lattice.specs.Kept as lattice
-use Rattle.numbers.specs.Call.{finished}
-use Rattle.answers.specs.declared.Refusal.the-variants.{TooLong}
+use Rattle.numbers.specs.Call.{Answer, refused, finished}
+use Rattle.text.specs.declared.Place.{Place}
+use Rattle.answers.specs.declared.Refusal.the-variants.{AboveTop, TooLong}
 use Rattle.answers.specs.declared.Answer.the-variants as Answer
 use Rattle.call.specs.Answers.{AnswerIs}
 
+-- 7
+pub answer-above : (out : List ℕ) {a : Answer} (p : Place) → a ≡ refused 7 (p .0) → AnswerIs out out (Answer.Refused (AboveTop p)) a
+answer-above out p e = rw e (record { answer = refl; output = refl })
+
+-- 8, or the listing
 or-false : (b c : Bool) → (b || c) ≡ false → c ≡ false
 or-false true c z = absurd (let x : _≡_ {A = ℕ} 0 1 = cc in omega arith)
 or-false false c z = z

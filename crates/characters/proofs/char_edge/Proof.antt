@@ -5,8 +5,8 @@ use borrow.Author.Needs.{needs}
 use Rattle.characters.proofs.char_edge.Statement.{statement}
 use Rattle.characters.proofs.char_edge.Tie as tie
 
-add-t6 : tie.Need-add-t6
-add-t6 c = search needs
+add-t7 : tie.Need-add-t7
+add-t7 c = search needs
 
 char-num-requires : tie.Need-char-num-requires
 char-num-requires c κs = search needs
@@ -30,4 +30,4 @@ returns c =
     }
 
 pub char-edge-spec : {M : Type 1} → statement M
-char-edge-spec = tie.close (tie.spec add-t6 char-num-requires returns)
+char-edge-spec = tie.close (tie.spec add-t7 char-num-requires returns)

@@ -1,5 +1,5 @@
 -- Laws of `specs/Bare.antt`. No contract cites this file.
--- In order: a character, a turn over the line; the stages of a bare line, one after the other; its lattice; no given edges. Assumes nothing.
+-- In order: a character, a turn over the line; the stages of a bare line, one after the other; its lattice, and that of the call with decimals; no given edges. Assumes nothing.
 use mathlib.Core.Path.{_≡_, refl, sym, ap, _∙_}
 use mathlib.Core.Bool.{Bool, true, false, cond, _&&_, not}
 use mathlib.Core.List.{List, [], _∷_, _++_, map}
@@ -13,10 +13,12 @@ use Rattle.text.specs.Sequence.{seq}
 use Rattle.text.specs.Text.{chars}
 use Rattle.text.proofs.RowLaws.{and-true}
 use Rattle.text.proofs.TextLaws.{chars-char}
-use Rattle.table.specs.Table.{Record, Table, find}
+use Rattle.table.specs.Table.{Record, Table, find, isNone}
 use Rattle.passes.specs.NumEdge.{NumEdge, firstAbove}
 use Rattle.passes.specs.Characters.{withEdge, charEdges, firstList}
 use Rattle.passes.specs.Chains.{chains}
+use Rattle.passes.specs.DecimalPasses as decimal
+use Rattle.passes.specs.DecimalPasses.{pointAt}
 use Rattle.passes.specs.Passes.{chainsOf, joinedOf, after, added, through, addedBy, five, fifthList, joinedEdges, aboveAt}
 use Rattle.edge.specs.Edge.{Edge}
 use Rattle.edge.specs.Layout.{edgesAt, listed}
@@ -29,16 +31,16 @@ use Rattle.numbers.specs.Fractions.{Marker, percentage, connector, noMarker, Ou
 use Rattle.numbers.specs.Signs.{signs}
 use Rattle.numbers.specs.Separators.{copies, separate}
 use Rattle.numbers.specs.Singles.{withoutSingles}
-use Rattle.numbers.specs.Call.{afterPasses, afterSigns, separateBy, latticeBy}
+use Rattle.numbers.specs.Call.{decimalPasses, withEdges, withSigns, afterPasses, afterSigns, separateBy, latticeBy, decimalLattice}
 use Rattle.first_stages.proofs.given.GivenLaws.{checked-given}
-use Rattle.first_stages.specs.Bare.{absent, bareChar, bare}
+use Rattle.first_stages.specs.Bare.{bareChar, bare}
 
 -- ---- a character
 pub digit-bare : (rs : List Record) (c : ℕ) → asciiDigit c ≡ true → false ≡ bareChar rs c
 unfolding bareChar
 digit-bare rs c h = rw h
 
-pub sought-bare : (rs : List Record) (c : ℕ) → asciiDigit c ≡ false → absent (find rs c) ≡ bareChar rs c
+pub sought-bare : (rs : List Record) (c : ℕ) → asciiDigit c ≡ false → isNone (find rs c) ≡ bareChar rs c
 unfolding bareChar
 sought-bare rs c h = rw h
 
@@ -65,15 +67,15 @@ bare-end rs = refl
 -- ---- the stages of a bare line
 bare-find : (rs : List Record) (c : ℕ) → bareChar rs c ≡ true → find rs c ≡ none
 unfolding bareChar
-bare-find rs c h = go (find rs c) (and-true (not (asciiDigit c)) (absent (find rs c)) h .1)
+bare-find rs c h = go (find rs c) (and-true (not (asciiDigit c)) (isNone (find rs c)) h .1)
   where
-    go : (r : Option Record) → absent r ≡ true → r ≡ none
+    go : (r : Option Record) → isNone r ≡ true → r ≡ none
     go none e = refl
     go (some r) e = let z : _≡_ {A = ℕ} 0 1 = cc in absurd (omega arith)
 
 no-digit : (rs : List Record) (c : ℕ) → bareChar rs c ≡ true → asciiDigit c ≡ false
 unfolding bareChar
-no-digit rs c h = go (asciiDigit c) (and-true (not (asciiDigit c)) (absent (find rs c)) h .0)
+no-digit rs c h = go (asciiDigit c) (and-true (not (asciiDigit c)) (isNone (find rs c)) h .0)
   where
     go : (b : Bool) → not b ≡ true → b ≡ false
     go false e = refl
@@ -101,6 +103,15 @@ no-joined = refl
 no-fifth : through five [] ≡ []
 unfolding through after chainsOf chains
 no-fifth = refl
+
+module _ (point : ℕ → Bool) where
+  no-decimal-joined : decimal.addedBy point five [] ≡ []
+  unfolding decimal.addedBy decimal.added decimal.after decimal.joinedOf decimal.chainsOf chains
+  no-decimal-joined = refl
+
+  no-decimal-fifth : decimal.through point five [] ≡ []
+  unfolding decimal.through decimal.after decimal.chainsOf chains
+  no-decimal-fifth = refl
 
 -- no edge, so no neighbour of a marker
 no-outcome : (t : Table) (w : List ℕ) (p : ℕ) → outcomeAt t w [] p ≡ nothing
@@ -159,6 +170,23 @@ module _ (t : Table) (w : List ℕ) (h : bare (t .records) w ≡ true) where
   pub bare-lattice : (b : Bool) → latticeBy b t w [] ≡ []
   unfolding latticeBy addAll
   bare-lattice b = rw (bare-signs, none-apart-by b t w, bare-fallback (t .records) [] 0 w h)
+
+  -- ---- the call with decimals
+  pub bare-decimal-above : decimalPasses t w .above ≡ none
+  unfolding firstAbove
+  bare-decimal-above = rw (no-first, no-decimal-joined (pointAt t w))
+
+  bare-decimal-passes : withEdges (decimalPasses t w) [] ≡ []
+  unfolding addAll
+  bare-decimal-passes = rw (no-first, no-decimal-joined (pointAt t w))
+
+  bare-decimal-signs : withSigns t w (decimalPasses t w .fifth) [] ≡ []
+  unfolding addAll
+  bare-decimal-signs = rw (no-first, no-decimal-fifth (pointAt t w), no-fractions t w, no-signs t w)
+
+  pub bare-decimal-lattice : decimalLattice t w [] ≡ []
+  unfolding decimalLattice addAll
+  bare-decimal-lattice = rw (bare-decimal-passes, bare-decimal-signs, none-apart, bare-fallback (t .records) [] 0 w h)
 
 -- ---- no given edges
 pub none-given : (n : ℕ) (s : List ℕ) (k : ℕ) → checkListing true n s ≡ Edges k → k ≡ 0 → listed s ≡ []

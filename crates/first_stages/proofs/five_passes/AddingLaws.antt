@@ -13,7 +13,7 @@ use Rattle.text.specs.Text.{chars}
 use Rattle.pass_list.specs.declared.record.PassEdge.{PassEdge}
 use Rattle.pass_list.specs.StoredEdge.{StoredEdge, Every, cons, EdgeIs}
 use Rattle.pass_list.specs.Stored.{storedOf, storedAt, storedListAt}
-use Rattle.pass_list.specs.Edges.{edgeOf}
+use Rattle.pass_list.specs.Edges.{pointsOf}
 use Rattle.pass_list.proofs.StoredLaws.{stored-edges-snoc}
 use Rattle.pass_list.specs.InTurn.{ofKind}
 use Rattle.pass_list.specs.Layout.{SIZE}
@@ -23,17 +23,17 @@ use Rattle.lattice.specs.Lattice.{add, addAll}
 use Rattle.lattice.specs.declared.Lattice.{Lattice}
 use Rattle.lattice.specs.Kept.{Holds, END, SameBehind}
 use Rattle.lattice.proofs.HoldsLaws.{add-all-append}
-use Rattle.numbers.specs.Listed.{listedEdge}
-use Rattle.pass_edge.specs.Grounded.{Grounded, StoredIs}
-use Rattle.pass_edge.specs.Adding.{Added, kindEdges, addIf}
+use Rattle.pass_edge.specs.Grounded.{Grounded, AllGrounded, StoredIs}
+use Rattle.pass_edge.specs.Adding.{Added, listedOf, kindEdges, addIf}
 
 -- ---- a stored edge behind the lattice
 pub stored-edge-behind-is : (w : List ℕ) (at : ℕ) → storedAt w (END + at) ≡ storedAt (drop END w) at
 unfolding storedAt
 stored-edge-behind-is w at = ap storedOf (sym (part-of-drop w END at SIZE))
 
-pub stored-edge-behind : (line t : List ℕ) (w : List ℕ) (at : ℕ) (e : PassEdge) → Grounded (chars line) t (storedAt (drop END w) at) → EdgeIs e (storedAt w (END + at)) → StoredIs line t e (storedAt (drop END w) at)
-stored-edge-behind line t w at e s h = record { is = subst (EdgeIs e) (stored-edge-behind-is w at) h; sound = s }
+pub stored-edge-behind : (line t : List ℕ) (w : List ℕ) (at : ℕ) (e : PassEdge) (b : Bool) → Grounded (pointsOf b (chars line)) (chars line) t (storedAt (drop END w) at) → EdgeIs e (storedAt w (END + at))
+    → StoredIs line t e (storedAt (drop END w) at)
+stored-edge-behind line t w at e b s h = record { is = subst (EdgeIs e) (stored-edge-behind-is w at) h; marks = b; sound = s }
 
 -- its kind can be read alone
 pub kind-behind : (w : List ℕ) (at : ℕ) → storedAt w (END + at) .kind ≡ storedAt (drop END w) at .kind
@@ -51,7 +51,7 @@ stored-edge-of P s n j e h = rw zero-add at (every-stored-edges P s 0 n j e h)
 
 -- ---- one stored edge
 module _ (w t : List ℕ) (k : ℕ) (es : List Edge) (x : StoredEdge) where
-  adds : kindNumber (x .kind) ≡ k → add es (listedEdge (edgeOf w t x)) ≡ addIf w t k es x
+  adds : kindNumber (x .kind) ≡ k → add es (listedOf w t x) ≡ addIf w t k es x
   unfolding addIf
   adds h = rw (eq-eqb (kindNumber (x .kind)) k h)
 
@@ -77,15 +77,13 @@ of-kind-append k (x ∷ l) m = go (eqb (kindNumber (x .kind)) k) (of-kind-append
 module _ (w t : List ℕ) (k : ℕ) (es : List Edge) where
   edges-append : (l m : List StoredEdge) → kindEdges w t k (l ++ m) ≡ kindEdges w t k l ++ kindEdges w t k m
   edges-append l m =
-      ap (λ (r : List StoredEdge). map listedEdge (map (edgeOf w t) r)) (of-kind-append k l m)
-      ∙ ap (map listedEdge) (map-append (edgeOf w t) (ofKind k l) (ofKind k m))
-      ∙ map-append listedEdge (map (edgeOf w t) (ofKind k l)) (map (edgeOf w t) (ofKind k m))
+      ap (map (listedOf w t)) (of-kind-append k l m) ∙ map-append (listedOf w t) (ofKind k l) (ofKind k m)
 
   one-edge : (fs : List Edge) (x : StoredEdge) → addAll fs (kindEdges w t k (x ∷ [])) ≡ addIf w t k fs x
   unfolding ofKind addIf addAll
   one-edge fs x = go (eqb (kindNumber (x .kind)) k)
     where
-      go : (b : Bool) → addAll fs (map listedEdge (map (edgeOf w t) (cond b (x ∷ []) []))) ≡ cond b (add fs (listedEdge (edgeOf w t x))) fs
+      go : (b : Bool) → addAll fs (map (listedOf w t) (cond b (x ∷ []) [])) ≡ cond b (add fs (listedOf w t x)) fs
       go true = refl
       go false = refl
 
@@ -118,8 +116,8 @@ same-long : (s u : List ℕ) → END ≤ length s → END ≤ length u → SameB
 same-long s u h k e = omega (arith, length-drop END s, length-drop END u, ap length e)
 
 module _ (w t : List ℕ) (k n : ℕ) (s : List ℕ) (l : Lattice) (u : List ℕ) (r : Lattice) (i : ℕ) (a : Adding w t k n s l u r i) where
-  pub stored-edge-sound : Every (Grounded w t) (storedListAt (drop END s) 0 n) → i < n → Grounded w t (storedAt (drop END u) (i * SIZE))
-  stored-edge-sound e h = rw (a .frame) (stored-edge-of (Grounded w t) (drop END s) n i e h)
+  pub stored-edge-sound : AllGrounded w t (storedListAt (drop END s) 0 n) → i < n → (b : Bool) × Grounded (pointsOf b w) w t (storedAt (drop END u) (i * SIZE))
+  stored-edge-sound e h = (e .marks, rw (a .frame) (stored-edge-of (Grounded (pointsOf (e .marks) w) w t) (drop END s) n i (e .each) h))
 
   pub adding-more : (v : List ℕ) (m : Lattice) → (es : List Edge) → Holds s l es → i < n → SameBehind u v
       → ((fs : List Edge) → Holds u r fs → Holds v m (addIf w t k fs (storedAt (drop END u) (i * SIZE)))) → Adding w t k n s l v m (i + 1)

@@ -1,7 +1,7 @@
 -- Laws of the five passes in the work space (`specs/Five.antt`). No contract cites this file.
 -- In order: the i-th pass; what it leaves; all five in turn. Assumes nothing.
 use mathlib.Core.Path.{_≡_, refl, sym, ap, _∙_, subst}
-use mathlib.Core.List.{List, [], _∷_, _++_, map, map-append}
+use mathlib.Core.List.{List, [], _∷_, _++_, map-append}
 use mathlib.Core.Option.{Option, none, some}
 use Prim.Native.Nat.{ℕ, zero, suc, _+_, _-_, _*_, _≤_, _<_}
 use native.Mathlib.Numerals.{add-one}
@@ -17,7 +17,6 @@ use Rattle.pass_list.specs.StoredEdge.{StoredEdge, Every, AllSmall, nil, cons}
 use Rattle.pass_list.specs.StoredPass.{kindOf, after, added, firstAbove}
 use Rattle.pass_list.specs.Stored.{storedListAt}
 use Rattle.pass_list.specs.Answers.{passed, PassAnswerIs}
-use Rattle.pass_list.specs.Edges.{edgeOf}
 use Rattle.pass_list.proofs.StoredLaws.{length-stored-edges}
 use Rattle.pass_list.specs.InTurn.{through, addedBy, ofKind}
 use Rattle.pass_list.proofs.in_turn.InTurnLaws.{above-here, above-later}
@@ -31,7 +30,7 @@ use Rattle.lattice.proofs.HoldsLaws.{add-all-append}
 use Rattle.pass_list.proofs.in_turn.EveryLaws.{every-append}
 use Rattle.pass_list.specs.Kind.{kindNumber}
 use Rattle.pass_edge.specs.Grounded.{Grounded, AllGrounded}
-use Rattle.numbers.specs.Listed.{listedEdge}
+use Rattle.pass_edge.specs.Adding.{listedOf}
 use Rattle.first_stages.specs.declared.five_passes.PassesAnswer.{PassesAnswer}
 use Rattle.first_stages.specs.declared.five_passes.PassesAnswer.the-variants.{Added, Above}
 use Rattle.first_stages.specs.Five.{listedStored, behind, PassList, OneDone, OnePass, FiveDone, FivePasses}
@@ -55,7 +54,7 @@ nth-kind (suc (suc (suc (suc (suc i))))) h = absurd (omega arith)
 -- ---- what it leaves
 module _ {w t : List ℕ} {i : ℕ} {s : List ℕ} {n : ℕ} (scalars : Scalars w) (h : i < 5) (q : PassList w t (suc i) s n) where
   pub pass-small : AllSmall (behind s n)
-  pass-small = sounds-small (q .sounds)
+  pass-small = sounds-small (q .sounds .each)
 
   earlier : Every (λ x. kindNumber (x .kind) < kindOf (nth i)) (behind s n)
   earlier = rw (nth-kind i h) (q .kinds)
@@ -122,7 +121,7 @@ module _ {w t : List ℕ} {i : ℕ} {s : List ℕ} {n : ℕ} (scalars : Scalars 
 
 -- ---- all five in turn
 pub listed-append : (w t : List ℕ) (l m : List StoredEdge) → listedStored w t (l ++ m) ≡ listedStored w t l ++ listedStored w t m
-listed-append w t l m = ap (map listedEdge) (map-append (edgeOf w t) l m) ∙ map-append listedEdge (map (edgeOf w t) l) (map (edgeOf w t) m)
+listed-append w t l m = map-append (listedOf w t) l m
 
 -- i passes ran, from s to u
 pub record Going (w t s : List ℕ) (l : Lattice) (n : ℕ) (u : List ℕ) (m : Lattice) (k i : ℕ) : Type 0 where

@@ -14,13 +14,13 @@ use Rattle.whole.specs.Whole.{TOP}
 use Rattle.passes.specs.Passes.{Pass, D1, G1, G2, G3, G4}
 use Rattle.pass_list.specs.StoredEdge.{StoredEdge, Small, Every, AllSmall, nil, cons}
 use Rattle.pass_list.specs.StoredPass.{StoredChain, begin, joins, longer, over, counted, withNumbers, retags, retagged, next, chainsOf, edgesOf, joinedOf, after, added, firstAbove}
-use Rattle.pass_list.specs.Edges.{noPoint}
+use Rattle.pass_list.specs.Edges.{pointsOf}
 use Rattle.pass_list.specs.InTurn.{through, addedBy}
-use Rattle.pass_list.proofs.in_turn.Theorems.{no-points}
 use Rattle.pass_list.proofs.in_turn.Simulation.{chains-every, after-made}
 use Rattle.pass_list.proofs.in_turn.InTurnLaws.{above-here, above-later}
 use Rattle.pass_list.proofs.in_turn.EveryLaws.{every-append}
 use Rattle.pass_edge.specs.Grounded.{Grounded, AllGrounded}
+use Rattle.characters.proofs.Theorems.{point-there}
 use Rattle.first_stages.proofs.five_passes.RootLaws.{after-rooted, sounds-of, sounds-made, sounds-small, sounds-rooted}
 
 -- ---- the numbers of a chain: its base and its multiplier are within 01's bounds, and so is its value while nothing was joined
@@ -89,27 +89,35 @@ joined-every {P} (c ∷ cs) (cons h hs) = go (c .more) (joined-every cs hs)
     go true r = cons h r
     go false r = r
 
-module _ (w t : List ℕ) (scalars : Scalars w) where
-  pub after-grounded : (p : Pass) (l : List StoredEdge) → AllGrounded w t l → firstAbove (added p l) ≡ none → AllGrounded w t (after p l)
-  after-grounded p l s e = sounds-of (after-made noPoint w t scalars (no-points w) p l (sounds-made s)) (after-small p l (sounds-small s) e) (after-rooted t p l (sounds-rooted s))
+-- b: points count
+module _ (b : Bool) (w t : List ℕ) (scalars : Scalars w) where
+  abbrev Sound : List StoredEdge → Type 0
+  Sound = Every (Grounded (pointsOf b w) w t)
 
-  added-grounded : (p : Pass) (l : List StoredEdge) → AllGrounded w t (after p l) → AllGrounded w t (added p l)
+  after-sound : (p : Pass) (l : List StoredEdge) → Sound l → firstAbove (added p l) ≡ none → Sound (after p l)
+  after-sound p l s e = sounds-of (after-made (pointsOf b w) w t scalars (point-there b w) p l (sounds-made s)) (after-small p l (sounds-small s) e) (after-rooted t p l (sounds-rooted s))
+
+  added-sound : (p : Pass) (l : List StoredEdge) → Sound (after p l) → Sound (added p l)
   unfolding after added
-  added-grounded p l s = joined-every (chainsOf p l) s
+  added-sound p l s = joined-every (chainsOf p l) s
 
   -- ---- the passes in turn
   pub record PassesGrounded (ps : List Pass) (l : List StoredEdge) : Type 0 where
-    pub last : AllGrounded w t (through ps l)
-    pub joined : AllGrounded w t (addedBy ps l)
+    pub last : Sound (through ps l)
+    pub joined : Sound (addedBy ps l)
 
-  pub passes-grounded : (ps : List Pass) (l : List StoredEdge) → AllGrounded w t l → firstAbove (addedBy ps l) ≡ none → PassesGrounded ps l
+  pub passes-grounded : (ps : List Pass) (l : List StoredEdge) → Sound l → firstAbove (addedBy ps l) ≡ none → PassesGrounded ps l
   unfolding through addedBy
   passes-grounded [] l s e = record { last = s; joined = nil }
   passes-grounded (p ∷ ps) l s e = go (firstAbove (added p l)) refl (passes-grounded ps (after p l))
     where
-      go : (o : Option ℕ) → firstAbove (added p l) ≡ o → (AllGrounded w t (after p l) → firstAbove (addedBy ps (after p l)) ≡ none → PassesGrounded ps (after p l)) → PassesGrounded (p ∷ ps) l
+      go : (o : Option ℕ) → firstAbove (added p l) ≡ o → (Sound (after p l) → firstAbove (addedBy ps (after p l)) ≡ none → PassesGrounded ps (after p l)) → PassesGrounded (p ∷ ps) l
       go (some a) f more = absurd (Option·some-ne-none a (sym (above-here p ps l a f) ∙ e))
       go none f more =
-          let kept = after-grounded p l s f in
+          let kept = after-sound p l s f in
           let r = more kept (sym (above-later p ps l f) ∙ e) in
-          record { last = r .last; joined = every-append (Grounded w t) (added p l) (addedBy ps (after p l)) (added-grounded p l kept) (r .joined) }
+          record { last = r .last; joined = every-append (Grounded (pointsOf b w) w t) (added p l) (addedBy ps (after p l)) (added-sound p l kept) (r .joined) }
+
+-- a pass keeps the marks
+pub after-grounded : (w t : List ℕ) → Scalars w → (p : Pass) (l : List StoredEdge) → AllGrounded w t l → firstAbove (added p l) ≡ none → AllGrounded w t (after p l)
+after-grounded w t scalars p l s e = record { marks = s .marks; each = after-sound (s .marks) w t scalars p l (s .each) e }

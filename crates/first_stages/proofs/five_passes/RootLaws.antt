@@ -9,9 +9,9 @@ use native.Mathlib.Omega.{arith}
 use Rattle.passes.specs.Passes.{Pass, D1, G1, G2, G3, G4}
 use Rattle.pass_list.specs.StoredEdge.{StoredEdge, Every, AllSmall, nil, cons}
 use Rattle.pass_list.specs.StoredPass.{StoredChain, kindOf, begin, joins, longer, over, counted, withNumbers, retags, retagged, joinedValue, joinedDecimals, next, chainsOf, edgesOf, after}
-use Rattle.pass_list.specs.Edges.{WellMade, noPoint}
+use Rattle.pass_list.specs.Edges.{WellMade}
 use Rattle.pass_list.proofs.in_turn.Simulation.{chains-every}
-use Rattle.pass_edge.specs.Grounded.{ScriptAt, Rooted, AllGrounded}
+use Rattle.pass_edge.specs.Grounded.{ScriptAt, Rooted, Grounded}
 
 module _ (t : List ℕ) where
   abbrev Script : StoredEdge → Type 0
@@ -70,19 +70,19 @@ module _ (t : List ℕ) where
   after-rooted p l h = edges-rooted (chainsOf p l) (chains-every begin (next p) (Rooted t) RootedChain begin-rooted (λ c x d k h e. next-rooted p c x d h e) l h)
 
 -- ---- sound stored edges
-module _ {w t : List ℕ} where
-  pub sounds-of : {l : List StoredEdge} → Every (WellMade noPoint w t) l → AllSmall l → Every (Rooted t) l → AllGrounded w t l
+module _ {point : ℕ → Bool} {w t : List ℕ} where
+  pub sounds-of : {l : List StoredEdge} → Every (WellMade point w t) l → AllSmall l → Every (Rooted t) l → Every (Grounded point w t) l
   sounds-of {l = []} nil nil nil = nil
   sounds-of {l = x ∷ l} (cons m ms) (cons s ss) (cons r rs) = cons (record { made = m; small = s; rooted = r }) (sounds-of ms ss rs)
 
-  pub sounds-made : {l : List StoredEdge} → AllGrounded w t l → Every (WellMade noPoint w t) l
+  pub sounds-made : {l : List StoredEdge} → Every (Grounded point w t) l → Every (WellMade point w t) l
   sounds-made {l = []} nil = nil
   sounds-made {l = x ∷ l} (cons s ss) = cons (s .made) (sounds-made ss)
 
-  pub sounds-small : {l : List StoredEdge} → AllGrounded w t l → AllSmall l
+  pub sounds-small : {l : List StoredEdge} → Every (Grounded point w t) l → AllSmall l
   sounds-small {l = []} nil = nil
   sounds-small {l = x ∷ l} (cons s ss) = cons (s .small) (sounds-small ss)
 
-  pub sounds-rooted : {l : List StoredEdge} → AllGrounded w t l → Every (Rooted t) l
+  pub sounds-rooted : {l : List StoredEdge} → Every (Grounded point w t) l → Every (Rooted t) l
   sounds-rooted {l = []} nil = nil
   sounds-rooted {l = x ∷ l} (cons s ss) = cons (s .rooted) (sounds-rooted ss)

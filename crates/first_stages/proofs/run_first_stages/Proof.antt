@@ -43,7 +43,7 @@ returns c = let q = c .before .before in
     let s = start g in
     let e = g .before .before .before .before in
     let f = r .initialize-num-edges in
-    call-passed (s .args .line .now) (s .args .table .now) (s .args .shape) (s .args .edges .now) (s .pre .2 .1) (s .pre .2 .2) (λ j. e .before .before .shared-slice-known3 .given j .fits) (f .last .0) (f .result) (f .ensures .initial)
+    call-passed (s .args .decimals) (s .args .line .now) (s .args .table .now) (s .args .shape) (s .args .edges .now) (s .pre .2 .1) (s .pre .2 .2) (λ j. e .before .before .shared-slice-known3 .given j .fits) (f .last .0) (f .result) (f .ensures .initial)
     (q .five-passes .last .0) (q .five-passes .result) (f .ensures .holds _ (held g)) (q .five-passes .ensures)
 
 pub run-first-stages-spec : {M : Type 1} → statement M

@@ -63,20 +63,22 @@ module _ (s : List ℕ) (at : ℕ) {e : EdgeView} (head : e ≡ viewAt s at) {nu
       has-value : stands 1 (mapAt s at) ≡ true
       has-value = sym (map-is 1) ∙ sym bit-1 ∙ not-false valued there
 
+      no-count : stands 9 (mapAt s at) ≡ false
+      no-count = sym (map-is 9) ∙ sym bit-9 ∙ uncounted
+
       -- where the value stands
       bits-at : ℕ
       bits-at = leAt s (stringEnd s (headEnd s at)) 8
 
       number-of : (v : ℕ) × (v ≤ TOP) × (bits-at ≡ f64Bits v)
       unfolding edgeAt numericAt bits-at
-      number-of = whole (numericAt (mapAt s at) s (headEnd s at)) bits-at (rw is-numeric) (rw has-value)
+      number-of = whole (numericAt (mapAt s at) s (headEnd s at)) bits-at (rw is-numeric) (rw no-count) (rw has-value)
 
       value-is : wholeValue (edgeAt s at) ≡ some (number-of .0)
       unfolding wholeValue edgeAt numericAt bits-at
       value-is =
           let v = number-of in
-          let z : stands 9 (mapAt s at) ≡ false = sym (map-is 9) ∙ sym bit-9 ∙ uncounted in
-          rw (is-numeric, has-value, z) (ap some (ap (λ (b : ℕ). toUnsigned 64 (ofBits binary64 b)) (v .2) ∙ ap (toUnsigned 64) (f64-bits-back (v .0)) ∙ ofNat-to-unsigned (v .1)))
+          rw (is-numeric, has-value, no-count) (ap some (ap (λ (b : ℕ). toUnsigned 64 (ofBits binary64 b)) (v .2) ∙ ap (toUnsigned 64) (f64-bits-back (v .0)) ∙ ofNat-to-unsigned (v .1)))
 
       value-stands : fieldsAt (mapAt s at) s (headEnd s at) .value ≡ bits-at
       unfolding fieldsAt bits-at

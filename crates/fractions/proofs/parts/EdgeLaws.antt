@@ -122,7 +122,7 @@ value-is e c (v, p) = by-num (e .num) refl p
     by-value : (x : Numeric) → e .num ≡ some x → x .decimals ≡ none → (b : Option ℕ) → x .value ≡ b → Option·map (λ y. toUnsigned 64 (ofBits binary64 y)) b ≡ some v → ValueIs e
     by-value x q w none r s = absurd (none-some s)
     by-value x q w (some b) r s =
-        let k = c .value x b q r in
+        let k = c .value x b q w r in
         record {
           numbers = x;
           num = q;

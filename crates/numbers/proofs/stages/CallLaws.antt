@@ -55,7 +55,7 @@ pub inactive-call : {n : ℕ} (e : Edge) → CallEdge n e → CallEdge n (inacti
 inactive-call e c = record {
   legal = inactive-legal e (c .legal);
   short = λ x p. let q = inactive-some e x p in subst (Short (inactive e)) (sym (q .2)) (quiet-short e (q .0) (c .short (q .0) (q .1)));
-  value = λ x b p v. let q = inactive-some e x p in c .value (q .0) b (q .1) (sym (ap (λ (z : Numeric). z .value) (q .2)) ∙ v);
+  value = λ x b p d v. let q = inactive-some e x p in c .value (q .0) b (q .1) (sym (ap (λ (z : Numeric). z .decimals) (q .2)) ∙ d) (sym (ap (λ (z : Numeric). z .value) (q .2)) ∙ v);
 }
 
 -- ---- edges added

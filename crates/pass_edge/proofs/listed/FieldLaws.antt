@@ -1,14 +1,18 @@
 -- Laws of a stored edge's fields. In order: the fraction; a numeric edge by its map and its fields; the stored edge's map; its fields; what can be written.
 use mathlib.Core.Path.{_≡_, refl, sym, ap, _∙_, subst}
-use mathlib.Core.Bool.{Bool, true, false, cond}
+use mathlib.Core.Bool.{Bool, true, false, cond, not}
 use mathlib.Core.List.{List}
 use mathlib.Core.Option.{Option, none, some, Option·map, Option·some-injective, Option·some-ne-none}
-use Prim.Native.Nat.{ℕ, _+_, _*_, _-_, _≤_, _<_}
+use Prim.Native.Nat.{ℕ, zero, suc, _+_, _*_, _-_, _≤_, _<_}
 use native.Mathlib.Omega.{arith}
 use lib.ListN.{length, getD}
-use lib.Dec.{eqb}
-use borrow.Author.Tests.{eq-eqb, ne-eqb, eqb-true}
+use lib.Dec.{T, eqb, ltb}
+use lib.Ieee.{Float, binary64, toBits, isNan}
+use borrow.Author.Tests.{eq-eqb, ne-eqb, eqb-true, lt-ltb}
+use Rattle.whole.specs.Whole.{TOP, ofNat}
 use Rattle.whole.proofs.WholeLaws.{ofNat-not-nan}
+use Rattle.decimals.specs.Quotient.{quotient}
+use Rattle.decimals.proofs.QuotientLaws.{quotient-not-nan}
 use Rattle.fields.specs.Part.{part, partOf}
 use Rattle.fields.proofs.PartLaws.{part-all}
 use Rattle.fields.specs.Flag.{there, flag}
@@ -27,12 +31,14 @@ use Rattle.edge.specs.Layout.{bit, only}
 use Rattle.edge.specs.View.{numericOf}
 use Rattle.edge.specs.Write.{numeric, fieldsOf, Writable}
 use Rattle.edge.proofs.theorems.ReadBackLaws.{Bits, map-bits}
-use Rattle.numbers.specs.Listed.{listedEdge}
+use Rattle.passes.specs.NumEdge.{NumEdge}
+use Rattle.numbers.specs.Listed.{listedWith, listedEdge, quotientBits, listedBy, listedDecimal}
 use Rattle.pass_edge.specs.declared.Fraction.{Fraction}
 use Rattle.pass_edge.specs.Grounded.{LegalAt, Grounded, StoredIs}
 use Rattle.pass_edge.specs.Texts.{charType, typeOf, TextsAre}
-use Rattle.pass_edge.specs.Fields.{storedFraction, FractionIs, storedMap, partOr, storedFields, Listable}
-use Rattle.pass_edge.proofs.TextLaws.{part-places, spans, Spans, between-short, txt-short, type-short, places-of}
+use Rattle.pass_edge.specs.Fields.{storedFraction, FractionIs, storedMap, divided, partOr, storedFields, Listable}
+use Rattle.pass_edge.specs.Adding.{listedOf}
+use Rattle.pass_edge.proofs.TextLaws.{part-places, spans, Spans, between-short, txt-short, type-short, places-of, value-is, decimals-are}
 
 -- ---- the fraction
 pub fraction-joined : (t : List ℕ) (k at : ℕ) → (k ≡ 0 → ⊥) → none ≡ storedFraction t k at
@@ -75,11 +81,33 @@ numeric-is o c v d n f =
       only-there (n .decimals) (d .decimals) (bit 9 (d .map)) (b .decimals) (f .decimals),
     )
 
+-- ---- the value that is listed
+pub divided-is : (k n : ℕ) {v : Float} → v ≡ ofNat n → (k ≡ 0 → ⊥) → quotient n k ≡ divided k v
+unfolding quotient
+divided-is zero n e h = absurd (h refl)
+divided-is (suc k) n e h = rw e
+
+divided-not-nan : (k n : ℕ) → n ≤ TOP → k ≤ 15 → T (not (isNan (divided k (ofNat n))))
+divided-not-nan zero n h j = ofNat-not-nan h
+divided-not-nan (suc k) n h j = rw (← (divided-is (suc k) n refl (λ e. omega arith))) (quotient-not-nan n (suc k) h j)
+
+pub listed-not-nan : {offs : List ℕ} {e : PassEdge} {r : Float} → Listable offs e → r ≡ divided (e .num .decimals) (e .num .value) → T (not (isNan r))
+listed-not-nan {e = e} l is = rw (is, l .value) (divided-not-nan (e .num .decimals) (l .digits) (l .small) (l .few))
+
 -- ---- what a stored edge is listed as
+-- the bits of the value n with k decimals, and the count
+abbrev pub valueBits : ℕ → ℕ → ℕ
+valueBits zero n = f64Bits n
+valueBits (suc k) n = quotientBits (suc k) n
+
+abbrev pub countOf : ℕ → Option ℕ
+countOf zero = none
+countOf (suc k) = some (suc k)
+
 unfoldable pub numericIn : List ℕ → List ℕ → StoredEdge → Numeric
 numericIn w t x = record {
   orig = between w (x .start) (x .end);
-  value = Option·map f64Bits (optionally (x .has-value) (x .value));
+  value = Option·map (valueBits (x .decimals)) (optionally (x .has-value) (x .value));
   fraction = storedFraction t (kindNumber (x .kind)) (x .record-at);
   base = optionally (x .has-base) (x .base);
   mult = Option·map f64Bits (optionally (x .has-mult) (x .mult));
@@ -87,18 +115,24 @@ numericIn w t x = record {
   large = x .large-power;
   active = true;
   value-s = cond (eqb (kindNumber (x .kind)) 1) (some (rowText x)) none;
-  decimals = none;
+  decimals = countOf (x .decimals);
 }
 
-pub listed-is : (w t : List ℕ) (x : StoredEdge) → listedEdge (edgeOf w t x) ≡ record { start = x .start; end = x .end; type = typeOf t x; txt = txtOf w t x; num = some (numericIn w t x) }
-unfolding listedEdge edgeOf numericIn typeOf charType storedFraction
-listed-is w t x = refl
+listed-by : (k : ℕ) (e : NumEdge) → listedBy k e ≡ listedWith (Option·map (valueBits k) (e .value)) (countOf k) e
+unfolding listedEdge
+listed-by zero e = refl
+listed-by (suc k) e = refl
+
+pub listed-is : (w t : List ℕ) (x : StoredEdge) → listedOf w t x ≡ record { start = x .start; end = x .end; type = typeOf t x; txt = txtOf w t x; num = some (numericIn w t x) }
+unfolding listedDecimal edgeOf numericIn typeOf charType storedFraction
+listed-is w t x = listed-by (x .decimals) (edgeOf w t x)
 
 -- ---- the stored edge's map
 -- it is the sum of what the fields that are there are worth
-pub map-summed : (e : PassEdge) (f : Bool) {v r b m s l d : ℕ} → v ≡ 2 * flag (e .num .«has_value») → r ≡ 4 * flag f → b ≡ 8 * flag (e .num .«has_base») → m ≡ 16 * flag (e .num .«has_mult»)
-    → s ≡ 32 * flag (e .num .«has_script») → l ≡ 64 * flag (e .num .«large_power») → d ≡ 256 * flag (eqb (kindNumber (e .kind)) 1) → 129 + v + r + b + m + s + l + d ≡ storedMap e f
-map-summed e f hv hr hb hm hs hl hd = rw (hv, hr, hb, hm, hs, hl, hd)
+pub map-summed : (e : PassEdge) (f : Bool) {v r b m s l d c : ℕ} → v ≡ 2 * flag (e .num .«has_value») → r ≡ 4 * flag f → b ≡ 8 * flag (e .num .«has_base») → m ≡ 16 * flag (e .num .«has_mult»)
+    → s ≡ 32 * flag (e .num .«has_script») → l ≡ 64 * flag (e .num .«large_power») → d ≡ 256 * flag (eqb (kindNumber (e .kind)) 1)
+    → c ≡ 512 * flag (ltb 0 (e .num .decimals)) → 129 + v + r + b + m + s + l + d + c ≡ storedMap e f
+map-summed e f hv hr hb hm hs hl hd hc = rw (hv, hr, hb, hm, hs, hl, hd, hc)
 
 there-only : {A : Type 0} (b : Bool) (a : A) → there (optionally b a) ≡ flag b
 there-only true a = refl
@@ -112,13 +146,17 @@ there-digits : (b : Bool) (t : Text) → there (cond b (some t) none) ≡ flag b
 there-digits true t = refl
 there-digits false t = refl
 
+there-count : (k : ℕ) → there (countOf k) ≡ flag (ltb 0 k)
+there-count zero = refl
+there-count (suc k) = ap flag (sym (lt-ltb 0 (suc k) (omega arith)))
+
 module _ (w t : List ℕ) (x : StoredEdge) (f : Fraction) (h : FractionIs f (storedFraction t (kindNumber (x .kind)) (x .record-at))) where
   pub map-listed : storedMap (passEdge x) (f .there) ≡ numericMap (numericIn w t x)
   unfolding numericMap numericIn
   map-listed =
       let fraction : there (storedFraction t (kindNumber (x .kind)) (x .record-at)) ≡ flag (f .there) = ap there (sym h) ∙ there-only (f .there) (f .numerator, f .denominator) in
       rw (
-        there-map f64Bits (optionally (x .has-value) (x .value)),
+        there-map (valueBits (x .decimals)) (optionally (x .has-value) (x .value)),
         there-only (x .has-value) (x .value),
         fraction,
         there-only (x .has-base) (x .base),
@@ -126,6 +164,7 @@ module _ (w t : List ℕ) (x : StoredEdge) (f : Fraction) (h : FractionIs f (sto
         there-only (x .has-mult) (x .mult),
         there-only (x .has-script) (part t (x .script-at) (x .script-len)),
         there-digits (eqb (kindNumber (x .kind)) 1) (rowText x),
+        there-count (x .decimals),
       )
       (omega arith)
 
@@ -140,6 +179,7 @@ map-small e f =
       flag-le (e .num .«has_script»),
       flag-le (e .num .«large_power»),
       flag-le (eqb (kindNumber (e .kind)) 1),
+      flag-le (ltb 0 (e .num .decimals)),
     )
 
 -- ---- the stored edge's fields
@@ -159,22 +199,32 @@ digits-told : (b : Bool) (txt u a : Text) → (b ≡ true → txt ≡ u) → con
 digits-told true txt u a h e = part-all txt ∙ h refl ∙ Option·some-injective u a e
 digits-told false txt u a h e = absurd (Option·some-ne-none a (sym e))
 
+-- the bits of the value, divided
+value-bits : (k n : ℕ) → toBits binary64 (divided k (ofNat n)) ≡ valueBits k n
+unfolding f64Bits quotient
+value-bits zero n = refl
+value-bits (suc k) n = refl
+
+pub count-told : (k a : ℕ) → countOf k ≡ some a → k ≡ a
+count-told zero a e = absurd (Option·some-ne-none a (sym e))
+count-told (suc k) a e = Option·some-injective (suc k) a e
+
 txt-of-digits : (w t : List ℕ) (x : StoredEdge) → eqb (kindNumber (x .kind)) 1 ≡ true → txtOf w t x ≡ rowText x
 txt-of-digits w t x e = let k : kindNumber (x .kind) ≡ 1 = eqb-true (kindNumber (x .kind)) 1 e in rw (ne-eqb (kindNumber (x .kind)) 0 (λ o. omega arith), e)
 
-module _ (line offs t : List ℕ) (x : StoredEdge) (f : Fraction) (sound : Grounded (chars line) t x) (o : Offsets line offs) (h : FractionIs f (storedFraction t (kindNumber (x .kind)) (x .record-at))) (txt : Text) (is : txt ≡ txtOf (chars line) t x) where
+module _ (line offs t : List ℕ) (x : StoredEdge) (f : Fraction) {point : ℕ → Bool} (sound : Grounded point (chars line) t x) (o : Offsets line offs) (h : FractionIs f (storedFraction t (kindNumber (x .kind)) (x .record-at))) (txt : Text) (is : txt ≡ txtOf (chars line) t x) where
   pub fields-are : FieldsAre line t txt (storedFields offs (passEdge x) f (length txt)) (numericIn (chars line) t x)
   unfolding storedFields fieldsOf numericIn f64Bits
   fields-are = record {
     map = map-listed (chars line) t x f h;
     orig = part-places line offs (x .start) (x .end) o (omega (arith, sound .made .ordered)) (sound .made .inside);
-    value = map-told f64Bits (x .has-value) (x .value);
+    value = λ a e. value-bits (x .decimals) (x .value) ∙ map-told (valueBits (x .decimals)) (x .has-value) (x .value) a e;
     fraction = λ a e. only-told (f .there) (f .numerator, f .denominator) a (h ∙ e);
     base = only-told (x .has-base) (x .base);
     mult = map-told f64Bits (x .has-mult) (x .mult);
     script = script-told t (x .has-script) (x .script-at) (x .script-len);
     value-s = λ a e. digits-told (eqb (kindNumber (x .kind)) 1) txt (rowText x) a (λ k. is ∙ txt-of-digits (chars line) t x k) e;
-    decimals = λ a e. absurd (Option·some-ne-none a (sym e));
+    decimals = count-told (x .decimals);
   }
 
 -- ---- what can be written
@@ -189,7 +239,7 @@ part-or-len false at n m h = omega arith
 pub record Room (ty txt : Text) (d : NumFields) : Type 0 where
   pub all : length ty + length txt + d .orig .len + d .script .len + d .«value_s» .len ≤ 1990
 
-module _ (line offs t : List ℕ) (x : StoredEdge) (f : Fraction) (sound : Grounded (chars line) t x) (o : Offsets line offs) (h : FractionIs f (storedFraction t (kindNumber (x .kind)) (x .record-at))) (txt : Text) (is : txt ≡ txtOf (chars line) t x) (few : length (chars line) ≤ 256) where
+module _ (line offs t : List ℕ) (x : StoredEdge) (f : Fraction) {point : ℕ → Bool} (sound : Grounded point (chars line) t x) (o : Offsets line offs) (h : FractionIs f (storedFraction t (kindNumber (x .kind)) (x .record-at))) (txt : Text) (is : txt ≡ txtOf (chars line) t x) (few : length (chars line) ≤ 256) where
   orig-spans : Spans line offs (x .start) (x .end)
   orig-spans = spans line offs (x .start) (x .end) o (omega (arith, sound .made .ordered)) (sound .made .inside)
 
@@ -233,7 +283,10 @@ module _ (line offs t : List ℕ) (e : PassEdge) (x : StoredEdge) (h : StoredIs 
         starts = omega (arith, p .0, p .1);
         ends = omega (arith, p .1);
         rises = spans line offs (e .start .0) (e .end .0) o (p .0) (p .1) .rises;
-        value = rw (ap (λ (e : PassEdge). e .num .value) (h .is .is)) (ofNat-not-nan (h .sound .small .value));
+        digits = x .value;
+        value = value-is e x (h .is);
+        small = h .sound .small .value;
+        few = rw (decimals-are e x (h .is)) (h .sound .made .few-decimals);
         mult = rw (ap (λ (e : PassEdge). e .num .«base_multiplier») (h .is .is)) (ofNat-not-nan (h .sound .small .mult));
       }
 
@@ -252,7 +305,7 @@ module _ (line offs t : List ℕ) (e : PassEdge) (x : StoredEdge) (f : Fraction)
       let short : length ty ≤ 60 = rw (a .type) (type-short (chars line) t x (a .stored-edge .sound)) in
       subst (Room ty txt) stored-edge-fields (room-stored-edge line offs t x f (a .stored-edge .sound) o stored-edge-fraction txt (a .txt) few ty short)
 
-  pub edge-is : numeric (e .start .0) (e .end .0) ty txt line t txt d ≡ listedEdge (edgeOf (chars line) t x)
+  pub edge-is : numeric (e .start .0) (e .end .0) ty txt line t txt d ≡ listedOf (chars line) t x
   edge-is =
       let fields : FieldsAre line t txt d (numericIn (chars line) t x) = subst (λ (d : NumFields). FieldsAre line t txt d (numericIn (chars line) t x)) stored-edge-fields (fields-are line offs t x f (a .stored-edge .sound) o stored-edge-fraction txt (a .txt)) in
       let num : numericOf line t txt d ≡ numericIn (chars line) t x = numeric-is line t txt d (numericIn (chars line) t x) fields in

@@ -4,7 +4,7 @@ use mathlib.Core.Path.{_≡_, refl, sym, ap, _∙_, subst}
 use mathlib.Core.Bool.{Bool, true, false, cond, _&&_}
 use mathlib.Core.List.{List, [], _∷_, _++_}
 use mathlib.Core.Option.{Option, none, some, Option·getD, Option·map}
-use Prim.Native.Nat.{ℕ, zero, suc, _+_, _-_, _/_, _%_, _≤_, _<_}
+use Prim.Native.Nat.{ℕ, zero, suc, _+_, _-_, _/_, _%_, _^_, _≤_, _<_}
 use native.Mathlib.Omega.{arith}
 use lib.ListN.{length, take, drop}
 use lib.Dec.{eqb, ltb, leb}
@@ -21,16 +21,18 @@ use Rattle.table.specs.Table.{Text, Record}
 use Rattle.table.specs.Layout.{numbersIn}
 use Rattle.table.specs.Check.{allOf, small, positive, legalRatio, legalTexts, legalNumbers}
 use Rattle.passes.specs.Characters.{lowest}
+use Rattle.passes.specs.DecimalPasses.{pointCharacter}
 use Rattle.passes.proofs.ratio.RatioLaws.{lowest-at-most, lowest-positive}
 use Rattle.edge.specs.Check.{each, upToTop, soundFraction}
 use Rattle.pass_list.specs.StoredEdge.{StoredEdge, Every, nil, cons}
-use Rattle.pass_list.specs.Edges.{between, rowText, kindName, txtOf}
-use Rattle.pass_list.proofs.in_turn.Theorems.{no-decimals}
+use Rattle.pass_list.specs.Edges.{between, digitsText, rowText, kindName, txtOf}
 use Rattle.pass_list.proofs.in_turn.EveryLaws.{every-append}
 use Rattle.pass_list.specs.Kind.{kindNumber}
 use Rattle.pass_edge.specs.Grounded.{LegalAt, Grounded}
 use Rattle.pass_edge.specs.Texts.{charTxt, charType, typeOf}
 use Rattle.pass_edge.specs.Fields.{storedFraction}
+use Rattle.pass_edge.proofs.DigitsLaws.{digits-parts}
+use Rattle.pass_edge.proofs.TextLaws.{row-inside}
 
 -- ---- ASCII is UTF-8
 abbrev Ascii : List ℕ → Type 0
@@ -58,6 +60,13 @@ unfolding padded
 padded-ascii zero n = nil
 padded-ascii (suc k) n = every-append (λ b. b < 0x80) (padded k (n / 10)) ((48 + n % 10) ∷ []) (padded-ascii k (n / 10)) (cons (omega arith) nil)
 
+digits-ascii : (k n v : ℕ) → (0 < k → suc (suc k) ≤ n) → Ascii (digitsText k n v)
+digits-ascii zero n v h = padded-ascii n v
+digits-ascii (suc k) n v h =
+    let i = h (omega arith) in
+    subst Ascii (digits-parts (suc k) n v (omega arith) (omega arith))
+    (every-append (λ b. b < 0x80) (padded (n - 1 - suc k) (v / 10 ^ suc k)) (pointCharacter ∷ padded (suc k) v) (padded-ascii (n - 1 - suc k) (v / 10 ^ suc k)) (cons (omega arith) (padded-ascii (suc k) v)))
+
 pub padded-formed : (k n : ℕ) → wellFormed (padded k n) ≡ true
 padded-formed k n = ascii-formed (padded k n) (padded-ascii k n)
 
@@ -84,7 +93,7 @@ record-texts r h =
     let both = and-true (wellFormed (r .type)) (allOf wellFormed (r .rom) && allOf wellFormed (r .script)) h in
     (both .0, and-true (allOf wellFormed (r .rom)) (allOf wellFormed (r .script)) (both .1) .0)
 
-module _ (w t : List ℕ) (x : StoredEdge) (s : Grounded w t x) where
+module _ {point : ℕ → Bool} (w t : List ℕ) (x : StoredEdge) (s : Grounded point w t x) where
   pub type-formed : wellFormed (typeOf t x) ≡ true
   unfolding typeOf charType
   type-formed = go (eqb (kindNumber (x .kind)) 0) refl
@@ -95,8 +104,8 @@ module _ (w t : List ℕ) (x : StoredEdge) (s : Grounded w t x) where
 
 -- ---- the txt
 -- a row of digits
-pub row-formed : (w t : List ℕ) (x : StoredEdge) → Grounded w t x → wellFormed (rowText x) ≡ true
-row-formed w t x s = rw (no-decimals (s .made)) (padded-formed (x .end - x .start) (x .value))
+pub row-formed : {point : ℕ → Bool} (w t : List ℕ) (x : StoredEdge) → Grounded point w t x → wellFormed (rowText x) ≡ true
+row-formed w t x s = ascii-formed (rowText x) (digits-ascii (x .decimals) (x .end - x .start) (x .value) (row-inside s))
 
 pub between-formed : (w : List ℕ) (a b : ℕ) → Scalars w → wellFormed (between w a b) ≡ true
 unfolding between
@@ -107,7 +116,7 @@ unfolding allOf
 get-formed none d h k = k
 get-formed (some t) d h k = h
 
-module _ (w t : List ℕ) (x : StoredEdge) (s : Grounded w t x) (scalars : Scalars w) where
+module _ {point : ℕ → Bool} (w t : List ℕ) (x : StoredEdge) (s : Grounded point w t x) (scalars : Scalars w) where
   pub txt-formed : wellFormed (txtOf w t x) ≡ true
   unfolding charTxt
   txt-formed = go (eqb (kindNumber (x .kind)) 0) (eqb (kindNumber (x .kind)) 1) refl
@@ -147,7 +156,7 @@ record-ratio r h =
     let two = and-true (allOf small (r .value) && allOf legalRatio (r .fraction)) (allOf positive (r .base)) three .0 in
     and-true (allOf small (r .value)) (allOf legalRatio (r .fraction)) two .1
 
-module _ (w t : List ℕ) (x : StoredEdge) (s : Grounded w t x) where
+module _ {point : ℕ → Bool} (w t : List ℕ) (x : StoredEdge) (s : Grounded point w t x) where
   pub fraction-fits : AllFits (storedFraction t (kindNumber (x .kind)) (x .record-at))
   unfolding storedFraction
   fraction-fits = go (eqb (kindNumber (x .kind)) 0) refl

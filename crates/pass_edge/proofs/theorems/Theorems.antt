@@ -1,37 +1,36 @@
--- The edges that sound stored edges stand for are edges of the call (numbers/specs/CallEdge.antt): they may be listed, they are short, and their value is whole.
+-- The edges that sound stored edges stand for are edges of the call (numbers/specs/CallEdge.antt): they may be listed, they are short, and their value is whole where they have no decimals.
 -- In order: fields that may be absent; the numeric data; the edge; lists of stored edges. Assumes nothing.
 use mathlib.Core.Path.{_≡_, refl, sym, ap, _∙_, subst}
 use mathlib.Core.Bool.{Bool, true, false, cond, _&&_}
 use mathlib.Core.List.{List, [], _∷_, map}
 use mathlib.Core.Option.{Option, none, some, Option·map, Option·some-injective, Option·some-ne-none}
-use Prim.Native.Nat.{ℕ, _-_, _^_, _≤_, _<_}
+use Prim.Native.Nat.{ℕ, zero, suc, _^_, _≤_, _<_}
 use native.Mathlib.Omega.{arith}
 use lib.ListN.{length}
 use lib.Dec.{eqb, ltb, leb}
 use borrow.Author.Tests.{lt-ltb, le-leb}
 use Rattle.whole.specs.Whole.{TOP}
-use Rattle.whole.proofs.DecimalLaws.{length-padded}
+use Rattle.decimals.proofs.QuotientLaws.{quotient-bits-fit}
 use Rattle.fields.specs.Part.{part}
 use Rattle.fields.proofs.PartLaws.{length-part}
 use Rattle.text.specs.Text.{Scalars, wellFormed}
 use Rattle.table.specs.Table.{Text}
 use Rattle.table.specs.Answers.{optionally}
 use Rattle.edge.specs.Edge.{Edge, Numeric, f64Bits, NumericFits, EdgeFits}
-use Rattle.edge.specs.Check.{each, upToTop, soundFraction, soundNumbers, soundNumeric, sound}
+use Rattle.edge.specs.Check.{each, upToTop, soundFraction, soundCount, soundNumbers, soundNumeric, sound}
 use Rattle.edge.specs.Legal.{Legal}
 use Rattle.edge.proofs.theorems.Theorems.{f64-bits-fit}
 use Rattle.pass_list.specs.StoredEdge.{StoredEdge, Every, nil, cons}
-use Rattle.pass_list.specs.Edges.{between, rowText, edgeOf, txtOf}
-use Rattle.pass_list.proofs.in_turn.Theorems.{no-decimals}
+use Rattle.pass_list.specs.Edges.{between, rowText, txtOf}
 use Rattle.pass_list.specs.Kind.{kindNumber}
 use Rattle.numbers.specs.CallEdge.{Short, CallEdge, CallEdges}
 use Rattle.numbers.proofs.stages.CallLaws.{allowed-map}
-use Rattle.numbers.specs.Listed.{listedEdge}
 use Rattle.pass_edge.specs.Grounded.{ScriptAt, Grounded, AllGrounded}
 use Rattle.pass_edge.specs.Texts.{typeOf}
 use Rattle.pass_edge.specs.Fields.{storedFraction}
-use Rattle.pass_edge.proofs.TextLaws.{between-short, txt-short, type-short}
-use Rattle.pass_edge.proofs.listed.FieldLaws.{numericIn, listed-is, only-told, map-told}
+use Rattle.pass_edge.specs.Adding.{listedOf}
+use Rattle.pass_edge.proofs.TextLaws.{between-short, row-length, txt-short, type-short}
+use Rattle.pass_edge.proofs.listed.FieldLaws.{valueBits, countOf, numericIn, listed-is, count-told, only-told, map-told}
 use Rattle.pass_edge.proofs.theorems.FormedLaws.{row-formed, type-formed, between-formed, txt-formed, FractionFits, AllFits, fraction-fits, fits-sound}
 
 -- ---- fields that may be absent
@@ -47,11 +46,24 @@ each-text : (b : Bool) (u : Text) → (b ≡ true → wellFormed u ≡ true) →
 each-text true u h = h refl
 each-text false u h = refl
 
+-- a count of decimals from 1 on
+each-count : (k : ℕ) → k ≤ 15 → each soundCount (countOf k) ≡ true
+each-count zero h = refl
+each-count (suc k) h = rw (le-leb 1 (suc k) (omega arith), le-leb (suc k) 15 h)
+
+no-count : (k : ℕ) → countOf k ≡ none → k ≡ 0
+no-count zero e = refl
+no-count (suc k) e = absurd (Option·some-ne-none (suc k) e)
+
+bits-fit : (k v : ℕ) → valueBits k v < 2 ^ 64
+bits-fit zero v = f64-bits-fit v
+bits-fit (suc k) v = quotient-bits-fit v (suc k)
+
 fraction-at : {o : Option (ℕ × ℕ)} {p : ℕ × ℕ} → AllFits o → o ≡ some p → FractionFits p
 fraction-at h e = subst AllFits e h
 
 -- ---- the numeric data
-module _ (w t : List ℕ) (x : StoredEdge) (s : Grounded w t x) (scalars : Scalars w) (few : length w ≤ 256) where
+module _ {point : ℕ → Bool} (w t : List ℕ) (x : StoredEdge) (s : Grounded point w t x) (scalars : Scalars w) (few : length w ≤ 256) where
   orig-short : length (between w (x .start) (x .end)) ≤ 1024
   orig-short = omega (arith, between-short w (x .start) (x .end), s .made .inside)
 
@@ -62,23 +74,20 @@ module _ (w t : List ℕ) (x : StoredEdge) (s : Grounded w t x) (scalars : Scala
       let u : part t (x .script-at) (x .script-len) ≡ a = only-told (x .has-script) (part t (x .script-at) (x .script-len)) a e in
       omega (arith, ap length u, c .short)
 
-  row-length : length (rowText x) ≡ x .end - x .start
-  row-length = rw (no-decimals (s .made)) (length-padded (x .end - x .start) (x .value))
-
   digits-short : (a : Text) → optionally (eqb (kindNumber (x .kind)) 1) (rowText x) ≡ some a → length a ≤ 256
-  digits-short a e = omega (arith, ap length (only-told (eqb (kindNumber (x .kind)) 1) (rowText x) a e), row-length, s .made .inside)
+  digits-short a e = omega (arith, ap length (only-told (eqb (kindNumber (x .kind)) 1) (rowText x) a e), row-length s, s .made .inside)
 
   numeric-fits : NumericFits (numericIn w t x)
   unfolding numericIn
   numeric-fits = record {
     orig = omega (arith, orig-short);
-    value = λ v e. rw (sym (map-told f64Bits (x .has-value) (x .value) v e)) (f64-bits-fit (x .value));
+    value = λ v e. rw (sym (map-told (valueBits (x .decimals)) (x .has-value) (x .value) v e)) (bits-fit (x .decimals) (x .value));
     fraction = λ p e. let f = fraction-at (fraction-fits w t x s) e in (omega (arith, f .upper), omega (arith, f .lower));
     base = λ v e. omega (arith, only-told (x .has-base) (x .base) v e, s .small .base);
     mult = λ v e. rw (sym (map-told f64Bits (x .has-mult) (x .mult) v e)) (f64-bits-fit (x .mult));
     script = λ a e. omega (arith, script-short a e);
     value-s = λ a e. omega (arith, digits-short a e);
-    decimals = λ v e. absurd (Option·some-ne-none v (sym e));
+    decimals = λ v e. omega (arith, count-told (x .decimals) v e, s .made .few-decimals);
   }
 
   numeric-sound : soundNumeric (numericIn w t x) ≡ true
@@ -87,6 +96,7 @@ module _ (w t : List ℕ) (x : StoredEdge) (s : Grounded w t x) (scalars : Scala
       rw (
         fits-sound (storedFraction t (kindNumber (x .kind)) (x .record-at)) (fraction-fits w t x s),
         each-number (x .has-base) (x .base) (s .small .base),
+        each-count (x .decimals) (s .made .few-decimals),
         between-formed w (x .start) (x .end) scalars,
         each-text (x .has-script) (part t (x .script-at) (x .script-len)) (λ b. s .rooted .script b .formed),
         each-text (eqb (kindNumber (x .kind)) 1) (rowText x) (λ b. row-formed w t x s),
@@ -119,21 +129,26 @@ module _ (w t : List ℕ) (x : StoredEdge) (s : Grounded w t x) (scalars : Scala
   listed-short = record { type = type-short w t x s; txt = txt-short w t x s few; orig = orig-short; script = script-short; value-s = digits-short }
 
   abbrev WholeValue : Numeric → Type 0
-  WholeValue y = (b : ℕ) → y .value ≡ some b → (v : ℕ) × (v ≤ TOP) × (b ≡ f64Bits v)
+  WholeValue y = (b : ℕ) → y .decimals ≡ none → y .value ≡ some b → (v : ℕ) × (v ≤ TOP) × (b ≡ f64Bits v)
 
   listed-value : WholeValue (numericIn w t x)
   unfolding numericIn
-  listed-value b e = (x .value, s .small .value, sym (map-told f64Bits (x .has-value) (x .value) b e))
+  listed-value b d e =
+      let z : x .decimals ≡ 0 = no-count (x .decimals) d in
+      (x .value, s .small .value, sym (map-told (valueBits (x .decimals)) (x .has-value) (x .value) b e) ∙ ap (λ (k : ℕ). valueBits k (x .value)) z)
 
-  pub stored-edge-call : CallEdge (length w) (listedEdge (edgeOf w t x))
+  pub stored-edge-call : CallEdge (length w) (listedOf w t x)
   stored-edge-call = subst (CallEdge (length w)) (sym (listed-is w t x)) (record {
     legal = record { fits = listed-fits; map = allowed-map (some (numericIn w t x)); content = listed-sound };
     short = of-listed (Short listed) listed-short;
-    value = λ y b e v. of-listed WholeValue listed-value y e b v;
+    value = λ y b e d v. of-listed WholeValue listed-value y e b d v;
   })
 
 -- ---- lists of stored edges
 module _ (w t : List ℕ) (scalars : Scalars w) (few : length w ≤ 256) where
-  pub stored-edges-call : (l : List StoredEdge) → AllGrounded w t l → CallEdges (length w) (map listedEdge (map (edgeOf w t) l))
-  stored-edges-call [] nil = nil
-  stored-edges-call (x ∷ l) (cons s h) = cons (stored-edge-call w t x s scalars few) (stored-edges-call l h)
+  each-call : {point : ℕ → Bool} (l : List StoredEdge) → Every (Grounded point w t) l → CallEdges (length w) (map (listedOf w t) l)
+  each-call [] nil = nil
+  each-call (x ∷ l) (cons s h) = cons (stored-edge-call w t x s scalars few) (each-call l h)
+
+  pub stored-edges-call : (l : List StoredEdge) → AllGrounded w t l → CallEdges (length w) (map (listedOf w t) l)
+  stored-edges-call l g = each-call l (g .each)

@@ -14,7 +14,7 @@ use native.Mathlib.Omega.{arith}
 use lib.ListN.{length, getD, take, drop, length-drop, length-append}
 use lib.Seq.{take-add, drop-drop, drop-cons, length-take-le, take-append-le, drop-append-le, take-append-seam, drop-append-seam}
 use lib.Dec.{ltb, leb, eqb}
-use borrow.Author.Tests.{leb-true, eqb-true, eq-eqb, ne-eqb}
+use borrow.Author.Tests.{leb-true, ltb-true, eqb-true, eq-eqb, ne-eqb}
 use Rattle.whole.specs.Whole.{TOP}
 use Rattle.whole.specs.Decimal.{padded}
 use Rattle.text.specs.Bytes.{same}
@@ -399,9 +399,13 @@ module _ (point : ℕ → Bool) (w t : List ℕ) (scalars : Scalars w) (points :
   unfolding over edgeOf
   over-script p l n v k = refl
 
-  over-made : (p : Pass) (l n e : StoredEdge) (v k : ℕ) → Made l → Made e → Keeps n e → l .end ≤ e .start → (0 < k → point (e .end - suc k) ≡ true) → Made (over p l n v k)
+  -- k decimals over l and e: few, and behind a digit and the point
+  abbrev Behind : StoredEdge → StoredEdge → ℕ → Type 0
+  Behind l e k = (k ≤ 15) × (0 < k → l .start + suc (suc k) ≤ e .end)
+
+  over-made : (p : Pass) (l n e : StoredEdge) (v k : ℕ) → Made l → Made e → Keeps n e → l .end ≤ e .start → Behind l e k → (0 < k → point (e .end - suc k) ≡ true) → Made (over p l n v k)
   unfolding over
-  over-made p l n e v k x y keeps after before =
+  over-made p l n e v k x y keeps after behind before =
       let a = x .ordered in
       let b = y .ordered in
       let c = keeps .end in
@@ -416,6 +420,8 @@ module _ (point : ℕ → Bool) (w t : List ℕ) (scalars : Scalars w) (points :
         script = over-script p l n v k ∙ rw (keeps .script, y .script, keeps .cjk);
         digit-text = λ h. absurd (true≢false (sym h));
         digit-whole = λ h. absurd (true≢false (sym h));
+        few-decimals = behind .0;
+        decimals-inside = λ h. rw c (behind .1 h);
         mark = keeps .mark ∙ y .mark ∙ ap point (sym c);
         point-before = λ h. rw c (before h);
       }
@@ -652,6 +658,33 @@ module _ (point : ℕ → Bool) (w t : List ℕ) (scalars : Scalars w) (points :
             across (inl d) = absurd (true≢false (sym (and-true (touches c e) (ltb (c .edge .decimals) 15) d .0) ∙ a))
             across (inr o) = let f = over-facts o in let g : e .end - 2 ≡ c .edge .end = omega (arith, one, f .2) in rw g (sym (m .mark) ∙ f .0)
 
+    -- its decimals are at most fifteen, behind a digit and the point
+    row-behind : Made (c .edge) → meets D1 c e ≡ true → Behind (c .edge) e (joinedDecimals D1 c e)
+    row-behind m h = go (touches c e) (c .edge .decimals) refl refl
+      where
+        met : ((touches c e && ltb (c .edge .decimals) 15) ≡ true) ⊎ (overPoint c e ≡ true)
+        met = or-true (touches c e && ltb (c .edge .decimals) 15) (overPoint c e) h
+
+        go : (touch : Bool) (k : ℕ) → touches c e ≡ touch → c .edge .decimals ≡ k → Behind (c .edge) e (cond touch (oneMore k) 1)
+        go true zero a z = (omega arith, λ i. absurd (omega arith))
+        go true (suc k) a z = (few met, λ i. omega (arith, eqb-true (c .edge .end) (e .start) a, m .decimals-inside (omega arith), y .ordered))
+          where
+            few : ((touches c e && ltb (c .edge .decimals) 15) ≡ true) ⊎ (overPoint c e ≡ true) → suc (suc k) ≤ 15
+            few (inl d) = omega (arith, ltb-true (c .edge .decimals) 15 (and-true (touches c e) (ltb (c .edge .decimals) 15) d .1))
+            few (inr o) = absurd (omega (arith, over-facts o .1))
+        go false k a z = (omega arith, λ i. across met)
+          where
+            across : ((touches c e && ltb (c .edge .decimals) 15) ≡ true) ⊎ (overPoint c e ≡ true) → c .edge .start + 3 ≤ e .end
+            across (inl d) = absurd (true≢false (sym (and-true (touches c e) (ltb (c .edge .decimals) 15) d .0) ∙ a))
+            across (inr o) = omega (arith, over-facts o .2, m .ordered, y .ordered)
+
+    behind-stays : (p : Pass) → Made (c .edge) → joins p c e ≡ true → Behind (c .edge) e (joinedDecimals p c e)
+    behind-stays D1 m j = row-behind m (meeting D1 j)
+    behind-stays G1 m j = (omega arith, λ i. absurd (omega arith))
+    behind-stays G2 m j = (omega arith, λ i. absurd (omega arith))
+    behind-stays G3 m j = (omega arith, λ i. absurd (omega arith))
+    behind-stays G4 m j = (omega arith, λ i. absurd (omega arith))
+
     before-stays : (p : Pass) → Made (c .edge) → joins p c e ≡ true → 0 < joinedDecimals p c e → point (e .end - suc (joinedDecimals p c e)) ≡ true
     unfolding joins
     before-stays D1 m j = let a = and-true (meets D1 c e) _ j in point-stays m (a .0) (and-true (d1Rule c (counted D1 (c .edge) e)) true (a .1) .0)
@@ -663,7 +696,7 @@ module _ (point : ℕ → Bool) (w t : List ℕ) (scalars : Scalars w) (points :
     longer-made : (p : Pass) → Sound p c → joins p c e ≡ true → Made (longer p c e .edge)
     unfolding longer
     longer-made p s j =
-        over-made p (c .edge) (counted p (c .edge) e) e (joinedValue p c e) (joinedDecimals p c e) (s .made) y (counted-keeps p (c .edge) e y) (meets-after p (meeting p j)) (before-stays p (s .made) j)
+        over-made p (c .edge) (counted p (c .edge) e) e (joinedValue p c e) (joinedDecimals p c e) (s .made) y (counted-keeps p (c .edge) e y) (meets-after p (meeting p j)) (behind-stays p (s .made) j) (before-stays p (s .made) j)
 
     row-longer : (p : Pass) → RowText p (longer p c e)
     unfolding longer over edgeOf

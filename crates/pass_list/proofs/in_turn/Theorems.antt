@@ -6,7 +6,10 @@ use mathlib.Core.Path.{_≡_, refl, sym, ap, _∙_}
 use mathlib.Core.Bool.{Bool, true, false, false≢true}
 use mathlib.Core.List.{List, [], _∷_, map}
 use lib.ListN.{length, getD}
+use lib.Dec.{eqb}
+use borrow.Author.Tests.{eqb-true}
 use Rattle.text.specs.Text.{Scalars}
+use Rattle.text.proofs.RowLaws.{and-true}
 use Rattle.table.specs.Table.{Table}
 use Rattle.passes.specs.NumEdge.{NumEdge}
 use Rattle.passes.specs.NumEdge as edges
@@ -18,13 +21,17 @@ use Rattle.passes.specs.DecimalPasses.{DecimalEdge, wholeEdge, pointCharacter, 
 use Rattle.passes.proofs.DecimalAgrees.{through-whole, added-by-whole, bare-whole}
 use Rattle.pass_list.specs.StoredEdge.{StoredEdge, Every, nil, cons}
 use Rattle.pass_list.specs.StoredPass.{firstAbove}
-use Rattle.pass_list.specs.Edges.{edgeOf, decimalEdgeOf, WellMade, noPoint}
+use Rattle.pass_list.specs.Edges.{edgeOf, decimalEdgeOf, WellMade, pointsOf, noPoint}
 use Rattle.pass_list.specs.InTurn.{through, addedBy}
 use Rattle.pass_list.specs.FirstStored.{FirstStored}
 use Rattle.pass_list.proofs.in_turn.InTurnLaws.{through-agrees, through-made, added-by-agrees, bare-edges, above-by-agrees}
 use Rattle.pass_list.proofs.in_turn.FirstStoredLaws.{first-stored-edges-all}
 
 -- ---- the further call
+-- the places of `pointsOf` hold a point
+pub points-are : (b : Bool) (w : List ℕ) (p : ℕ) → pointsOf b w p ≡ true → getD w p 0 ≡ pointCharacter
+points-are b w p h = eqb-true (getD w p 0) pointCharacter (and-true b (eqb (getD w p 0) pointCharacter) h .1)
+
 whole-edges : (w t : List ℕ) (l : List StoredEdge) → Every (λ x. x .decimals ≡ 0) l → map (decimalEdgeOf w t) l ≡ map wholeEdge (map (edgeOf w t) l)
 whole-edges w t [] nil = refl
 whole-edges w t (x ∷ l) (cons z h) = rw (z, whole-edges w t l h)

@@ -1,6 +1,7 @@
 -- `signs::add_signs` meets its contract. The loop's invariant: with the stored edges that are left, the lattice is what it shall be (`Toward`), and they are sound.
 -- The measure is how many are left. Assumes nothing.
 use mathlib.Core.Path.{_≡_, sym, subst, _∙_}
+use mathlib.Core.Bool.{Bool}
 use mathlib.Core.List.{List, map}
 use Prim.Native.Nat.{ℕ, _+_, _-_, _*_, _≤_}
 use native.Mathlib.Omega.{arith}
@@ -11,7 +12,7 @@ use Rattle.text.specs.Text.{chars}
 use Rattle.table.specs.Answers.{tableOf}
 use Rattle.pass_list.specs.StoredEdge.{Small, EdgeIs}
 use Rattle.pass_list.specs.Stored.{storedAt, storedListAt}
-use Rattle.pass_list.specs.Edges.{edgeOf}
+use Rattle.pass_list.specs.Edges.{edgeOf, pointsOf}
 use Rattle.pass_list.specs.Layout.{SIZE}
 use Rattle.pass_edge.specs.Grounded.{Grounded, AllGrounded}
 use Rattle.numbers.specs.Signs.{signs}
@@ -37,7 +38,7 @@ list-is c = part-to-end (c .before .loop .work) END ∙ c .before .loop .inv .0 
 
 -- the stored edge of this turn is sound, and so are the others
 here : (c : tie.In-loop Inv-loop μ-loop) → let a = c .before .before .before .before .before .args in let s = drop END (a .work .now) in let i = c .before .loop .i in
-    Grounded (chars (a .line .now)) (a .table .now) (storedAt s (i * SIZE)) × AllGrounded (chars (a .line .now)) (a .table .now) (storedListAt s (i + 1) (a .stored - (i + 1)))
+    ((b : Bool) × Grounded (pointsOf b (chars (a .line .now))) (chars (a .line .now)) (a .table .now) (storedAt s (i * SIZE))) × AllGrounded (chars (a .line .now)) (a .table .now) (storedListAt s (i + 1) (a .stored - (i + 1)))
 here c = sounds-next _ _ _ _ _ (c .loop-test .taken) (c .before .loop .inv .1)
 
 room : (c : tie.In-loop Inv-loop μ-loop) → END + c .before .before .before .before .before .args .stored * SIZE ≤ length (c .before .loop .work)
@@ -63,7 +64,7 @@ read-edge-requires : tie.Need-read-edge-requires Inv-loop μ-loop
 read-edge-requires c κs =
     let l = c .before .before in
     let i = l .before .loop .i in
-    (omega (arith, room l, l .loop-test .taken, behind-length END (l .before .loop .work)), subst (λ (s : List ℕ). Small (storedAt s (i * SIZE))) (sym (list-is l)) (here l .0 .small))
+    (omega (arith, room l, l .loop-test .taken, behind-length END (l .before .loop .work)), subst (λ (s : List ℕ). Small (storedAt s (i * SIZE))) (sym (list-is l)) (here l .0 .1 .small))
 
 add-edge-signs-requires : tie.Need-add-edge-signs-requires Inv-loop μ-loop
 add-edge-signs-requires c κs =
@@ -71,7 +72,7 @@ add-edge-signs-requires c κs =
     let l = g .before .before .before in
     let a = l .before .before .before .before .before in
     let d = l .before .loop .inv .0 .holds (a .pre .0 .0) (a .pre .0 .1) in
-    ((d .0, d .1), a .pre .1, (_, record { is = read-is g; sound = here l .0 }), a .pre .2)
+    ((d .0, d .1), a .pre .1, (_, record { is = read-is g; marks = here l .0 .0; sound = here l .0 .1 }), a .pre .2)
 
 loop-less : tie.Need-loop-less Inv-loop μ-loop
 loop-less c = omega arith

@@ -1,6 +1,7 @@
 -- `singles::mark_all_barred` meets its contract. The loop's invariant: with the edges from the i-th on, the marks are those of the whole list (`BarredMarks`). The measure is
 -- how many are left. Assumes nothing.
 use mathlib.Core.Path.{_≡_, sym, subst, ap, _∙_}
+use mathlib.Core.Bool.{Bool}
 use mathlib.Core.List.{List}
 use Prim.Native.Nat.{ℕ, _+_, _-_, _*_, _≤_}
 use native.Mathlib.Omega.{arith}
@@ -10,6 +11,7 @@ use lib.ListN.{length, take, drop, length-drop}
 use Rattle.text.specs.Text.{chars}
 use Rattle.pass_list.specs.StoredEdge.{Small, EdgeIs}
 use Rattle.pass_list.specs.Stored.{storedAt, storedListAt}
+use Rattle.pass_list.specs.Edges.{pointsOf}
 use Rattle.pass_list.specs.Layout.{SIZE}
 use Rattle.lattice.specs.Kept.{END}
 use Rattle.pass_edge.specs.Grounded.{Grounded, AllGrounded, StoredIs}
@@ -32,8 +34,10 @@ list-is : (l : tie.In-loop Inv-loop μ-loop) → let work = start l .args .work 
 list-is l = part-to-end (start l .args .work .now) END
 
 here : (l : tie.In-loop Inv-loop μ-loop) (table : List ℕ) → let a = start l .args in AllGrounded (chars (a .line .now)) table (storedListAt (drop END (a .work .now)) 0 (a .count))
-    → Grounded (chars (a .line .now)) table (storedAt (drop END (a .work .now)) (l .before .loop .i * SIZE))
-here l table g = stored-edge-of (Grounded (chars (start l .args .line .now)) table) (drop END (start l .args .work .now)) (start l .args .count) (l .before .loop .i) g (l .loop-test .taken)
+    → (b : Bool) × Grounded (pointsOf b (chars (a .line .now))) (chars (a .line .now)) table (storedAt (drop END (a .work .now)) (l .before .loop .i * SIZE))
+here l table g =
+    let w = chars (start l .args .line .now) in
+    (g .marks, stored-edge-of (Grounded (pointsOf (g .marks) w) w table) (drop END (start l .args .work .now)) (start l .args .count) (l .before .loop .i) (g .each) (l .loop-test .taken))
 
 read-is : (r : tie.After-read-edge Inv-loop μ-loop) → let l = r .before .before in EdgeIs (r .read-edge .result) (storedAt (drop END (start l .args .work .now)) (l .before .loop .i * SIZE))
 read-is r = let l = r .before .before in subst (λ (s : List ℕ). EdgeIs (r .read-edge .result) (storedAt s (l .before .loop .i * SIZE))) (list-is l) (r .read-edge .ensures)
@@ -41,7 +45,7 @@ read-is r = let l = r .before .before in subst (λ (s : List ℕ). EdgeIs (r .re
 stored-is : (r : tie.After-read-edge Inv-loop μ-loop) (table : List ℕ) → let l = r .before .before in let a = start l .args in
     AllGrounded (chars (a .line .now)) table (storedListAt (drop END (a .work .now)) 0 (a .count))
     → StoredIs (a .line .now) table (r .read-edge .result) (storedAt (drop END (a .work .now)) (l .before .loop .i * SIZE))
-stored-is r table g = record { is = read-is r; sound = here (r .before .before) table g }
+stored-is r table g = let h = here (r .before .before) table g in record { is = read-is r; marks = h .0; sound = h .1 }
 
 loop-holds : tie.Need-loop-holds Inv-loop μ-loop
 loop-holds c = barred-start _ _ _ (c .before .before .pre .4)
@@ -59,7 +63,7 @@ read-edge-requires : tie.Need-read-edge-requires Inv-loop μ-loop
 read-edge-requires c κs =
     let l = c .before in
     let p = start l .pre in
-    (omega (arith, p .3, l .loop-test .taken, ap length (list-is l), length-drop END (start l .args .work .now)), subst (λ (s : List ℕ). Small (storedAt s (l .before .loop .i * SIZE))) (sym (list-is l)) (here l (p .2 .0) (p .2 .1) .small))
+    (omega (arith, p .3, l .loop-test .taken, ap length (list-is l), length-drop END (start l .args .work .now)), subst (λ (s : List ℕ). Small (storedAt s (l .before .loop .i * SIZE))) (sym (list-is l)) (here l (p .2 .0) (p .2 .1) .1 .small))
 
 mark-barred-requires : tie.Need-mark-barred-requires Inv-loop μ-loop
 mark-barred-requires c κs =

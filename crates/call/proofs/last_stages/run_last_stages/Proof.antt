@@ -10,7 +10,7 @@ use Rattle.table.specs.Table.{Table}
 use Rattle.edge.specs.Edge.{Edge}
 use Rattle.passes.specs.NumEdge.{NumEdge}
 use Rattle.pass_list.specs.StoredEdge.{StoredEdge}
-use Rattle.pass_list.specs.Edges.{edgeOf}
+use Rattle.pass_list.specs.Edges.{edgeOf, decimalEdgeOf}
 use Rattle.pass_list.specs.Stored.{storedListAt}
 use Rattle.lattice.specs.Kept.{Holds}
 use Rattle.numbers.specs.CallEdge.{CallEdges}
@@ -50,7 +50,7 @@ signed : (a : tie.After-add-signs) (es : List Edge) → Holds (start (made a) .a
 signed a es q d = signs-moved (T a) (W a) (start (made a) .args .table .now) (made a .fractions .last .0) (start (made a) .args .work .now) (start (made a) .args .stored) (made a .fractions .ensures .0) (fractions (T a) (W a) es) (a .add-signs .ensures .1 _ (made a .fractions .ensures .1 es q d))
 
 signed-call : (a : tie.After-add-signs) (es : List Edge) → CallEdges (start (made a) .args .places) es → CallEdges (start (made a) .args .places) (withSigns (T a) (W a) (Fifth a) es)
-signed-call a es d = let p = start (made a) .pre in add-signs-call (T a) (W a) (Fifth a) (fractions-call (T a) (W a) es (p .0 .few) d) (p .4)
+signed-call a es d = let p = start (made a) .pre in add-signs-call (decimalEdgeOf (W a) (start (made a) .args .table .now)) (T a) (W a) (behind (start (made a) .args .work .now) (start (made a) .args .stored)) (fractions-call (T a) (W a) es (p .0 .few) d) (p .4)
 
 -- the list is still where it was
 kept : (a : tie.After-add-signs) → behind (a .add-signs .last .0) (start (made a) .args .stored) ≡ behind (start (made a) .args .work .now) (start (made a) .args .stored)

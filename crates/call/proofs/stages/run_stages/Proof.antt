@@ -2,7 +2,7 @@
 use borrow.Author.Needs.{needs}
 use Prim.Native.Nat.{ℕ, _≤_}
 use mathlib.Core.Path.{_≡_, sym, ap, _∙_, subst}
-use mathlib.Core.Bool.{true}
+use mathlib.Core.Bool.{Bool, true}
 use mathlib.Core.List.{List, []}
 use native.Mathlib.Omega.{arith}
 use lib.ListN.{length, length-replicate}
@@ -21,11 +21,12 @@ use Rattle.pass_edge.proofs.theorems.Theorems.{stored-edges-call}
 use Rattle.first_stages.specs.Bare.{bare}
 use Rattle.first_stages.specs.Five.{listedStored, behind}
 use Rattle.first_stages.specs.declared.five_passes.PassesAnswer.{PassesAnswer}
-use Rattle.first_stages.proofs.bare.BareLaws.{bare-above, bare-lattice, none-given}
-use Rattle.numbers.specs.Call.{afterPasses, latticeBy}
+use Rattle.first_stages.proofs.bare.BareLaws.{none-given}
+use Rattle.numbers.specs.Call.{withEdges}
+use Rattle.call.specs.Kinds.{hasDecimals, callPasses, callLattice}
 use Rattle.call.specs.Rest.{restOf}
 use Rattle.call.specs.Stages.{StagesAre}
-use Rattle.call.proofs.last_stages.RestLaws.{rest-is}
+use Rattle.call.proofs.last_stages.RestLaws.{rest-is, bare-passes, bare-finished}
 use Rattle.first_stages.specs.Stages.{CallDone, CallPassed}
 use Rattle.singles.proofs.GivenLaws.{checked-given}
 use Rattle.call.proofs.stages.run_stages.Statement.{statement}
@@ -52,26 +53,31 @@ returns c =
     let both = and-true _ _ (t .if1 .taken) in
     let is : bare (table .records) w ≡ true = sym (b .is-bare .ensures) ∙ both .0 in
     let none : listed (s .args .edges .now) ≡ [] = none-given _ _ _ (s .pre .1 .edges) (eqb-true _ _ (both .1)) in
-    (bare-above table w is, subst (Holds (e .empty .last .0) (e .empty .result)) (sym (ap (latticeBy (s .args .silencing) table w) none ∙ bare-lattice table w is (s .args .silencing))) (e .empty .ensures .1))
+    (bare-passes table w is (s .args .kind), subst (Holds (e .empty .last .0) (e .empty .result)) (sym (ap (callLattice (s .args .kind) table w) none ∙ bare-finished table w is (s .args .kind))) (e .empty .ensures .1))
 
 abbrev of-offsets : tie.After-place-offsets → tie.Start
 of-offsets o = o .before .before .before .before .before .before .before .before
 
 abbrev start : tie.After-run-first-stages → tie.Start
-start p = of-offsets (p .before .before .before)
+start p = of-offsets (p .before .before .before .before)
 
 abbrev T : tie.Start → Table
 T s = tableOf (s .args .table .now) (s .args .shape)
 
 abbrev of-call : tie.After-run-last-stages → tie.After-m
-of-call a = a .before .before .before .before
+of-call a = a .before .before .before .before .before
 
 -- what the passes answered
-answered : (p : tie.After-run-first-stages) (r : PassesAnswer) → p .run-first-stages .result ≡ r → CallPassed (start p .args .line .now) (start p .args .table .now) (start p .args .shape) (start p .args .edges .now) (p .run-first-stages .last .0) r
-answered p r e = subst (CallPassed (start p .args .line .now) (start p .args .table .now) (start p .args .shape) (start p .args .edges .now) (p .run-first-stages .last .0)) e (p .run-first-stages .ensures)
+abbrev Passed : tie.After-run-first-stages → Bool → PassesAnswer → Type 0
+Passed p d r = CallPassed d (start p .args .line .now) (start p .args .table .now) (start p .args .shape) (start p .args .edges .now) (p .run-first-stages .last .0) r
+
+answered : (p : tie.After-run-first-stages) (r : PassesAnswer) → p .run-first-stages .result ≡ r → Passed p (hasDecimals (start p .args .kind)) r
+answered p r e =
+    let decimals = p .before .before .before .has-decimals in
+    subst (λ (d : Bool). Passed p d r) (decimals .ensures) (subst (Passed p (decimals .result)) e (p .run-first-stages .ensures))
 
 done : (m : tie.After-m) → let p = m .before .before .before .before in
-    CallDone (start p .args .line .now) (start p .args .table .now) (start p .args .shape) (start p .args .edges .now) (p .run-first-stages .last .0) (m .m .given .0 .0) (m .m .given .0 .1 .0)
+    CallDone (hasDecimals (start p .args .kind)) (start p .args .line .now) (start p .args .table .now) (start p .args .shape) (start p .args .edges .now) (p .run-first-stages .last .0) (m .m .given .0 .0) (m .m .given .0 .1 .0)
 unfolding CallPassed
 done m = answered (m .before .before .before .before) _ (m .m .given .1)
 
@@ -83,21 +89,27 @@ in-line m es q = subst (λ (n : ℕ). CallEdges n es) (start (m .before .before 
 
 -- the finished lattice
 final : (a : tie.After-run-last-stages) → let s = start (of-call a .before .before .before .before) in
-    Holds (a .run-last-stages .last .0) (a .run-last-stages .result) (latticeBy (s .args .silencing) (T s) (chars (s .args .line .now)) (listed (s .args .edges .now)))
+    Holds (a .run-last-stages .last .0) (a .run-last-stages .result) (callLattice (s .args .kind) (T s) (chars (s .args .line .now)) (listed (s .args .edges .now)))
 final a =
     let m = of-call a in
     let s = start (m .before .before .before .before) in
+    let k = s .args .kind in
+    let w = chars (s .args .line .now) in
     let d = done m in
-    let es = afterPasses (T s) (chars (s .args .line .now)) (listed (s .args .edges .now)) in
+    let es = withEdges (callPasses k (T s) w) (listed (s .args .edges .now)) in
     subst (Holds (a .run-last-stages .last .0) (a .run-last-stages .result))
-    (ap (λ (fs : List NumEdge). restOf (s .args .silencing) (T s) (chars (s .args .line .now)) fs es) (d .fifth) ∙ rest-is (s .args .silencing) (T s) (chars (s .args .line .now)) (listed (s .args .edges .now)) (checked-given _ _ _ (s .pre .1 .edges)))
+    (ap (λ (fs : List NumEdge). restOf (a .before .silences-singles .result) (T s) w fs es) (d .fifth)
+    ∙ ap (λ (b : Bool). restOf b (T s) w (callPasses k (T s) w .fifth) es) (a .before .silences-singles .ensures) ∙ rest-is k (T s) w (listed (s .args .edges .now)) (checked-given _ _ _ (s .pre .1 .edges)))
     (a .run-last-stages .ensures es (d .holds) (in-line m es (d .call)))
 
 place-offsets-requires : tie.Need-place-offsets-requires
 place-offsets-requires c κs = let s = c .before .before .before .before .before .before .before in (s .pre .1 .ready .formed, few s, length-replicate {A = ℕ} 257 0)
 
+has-decimals-requires : tie.Need-has-decimals-requires
+has-decimals-requires c κs = search needs
+
 run-first-stages-requires : tie.Need-run-first-stages-requires
-run-first-stages-requires c κs = let o = c .before .before in
+run-first-stages-requires c κs = let o = c .before .before .before in
     let s = of-offsets o in
     (o .place-offsets .ensures, s .pre .0, (s .args .places, s .pre .1 .ready, s .pre .1 .edges), s .pre .2)
 
@@ -107,12 +119,15 @@ enum-known-p c = search needs
 enum-known-m : tie.Need-enum-known-m
 enum-known-m c = search needs
 
+silences-singles-requires : tie.Need-silences-singles-requires
+silences-singles-requires c κs = search needs
+
 run-last-stages-requires : tie.Need-run-last-stages-requires
-run-last-stages-requires c κs = let m = c .before .before .before in
+run-last-stages-requires c κs = let m = c .before .before .before .before in
     let p = m .before .before .before .before in
     let s = start p in
     let d = done m in
-    (s .pre .1 .ready, (_, d .holds, in-line m _ (d .call)), p .before .before .before .place-offsets .ensures, d .sounds, in-line m _ (stored-edges-call _ _ (chars-scalars _) (few s) _ (d .sounds)), omega (arith, d .few, p .run-first-stages .kept .0, s .pre .0))
+    (s .pre .1 .ready, (_, d .holds, in-line m _ (d .call)), p .before .before .before .before .place-offsets .ensures, d .sounds, in-line m _ (stored-edges-call _ _ (chars-scalars _) (few s) _ (d .sounds)), omega (arith, d .few, p .run-first-stages .kept .0, s .pre .0))
 
 same-length-2 : tie.Need-same-length-2
 same-length-2 c = search needs
@@ -137,9 +152,11 @@ run-stages-spec =
     same-length
     returns
     place-offsets-requires
+    has-decimals-requires
     run-first-stages-requires
     enum-known-p
     enum-known-m
+    silences-singles-requires
     run-last-stages-requires
     same-length-2
     returns-2

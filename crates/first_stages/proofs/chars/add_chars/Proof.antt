@@ -17,10 +17,10 @@ use Rattle.first_stages.proofs.chars.add_chars.Statement.{statement}
 use Rattle.first_stages.proofs.chars.add_chars.Tie as tie
 
 abbrev Inv-loop : tie.InvT-loop
-Inv-loop w₀ line offs table all index entries done₀ place₀ at₀ w done place at = Adding line table (recordsIn table all) place w₀ (done₀ .lattice) w done × Reached line place at × (length w ≡ length w₀)
+Inv-loop w₀ line offs table all index entries marks done₀ place₀ at₀ w done place at = Adding marks line table (recordsIn table all) place w₀ (done₀ .lattice) w done × Reached line place at × (length w ≡ length w₀)
 
 abbrev μ-loop : tie.MeasureT-loop
-μ-loop w₀ line offs table all index entries done₀ place₀ at₀ w done place at = length (chars line) - place
+μ-loop w₀ line offs table all index entries marks done₀ place₀ at₀ w done place at = length (chars line) - place
 
 abbrev start : tie.At-loop Inv-loop μ-loop → tie.Start Inv-loop μ-loop
 start l = l .before .before .before .before
@@ -33,7 +33,7 @@ told : (c : tie.After-char-at Inv-loop μ-loop) → seq (drop (at-loop c .loop .
 told c = sym (c .char-at .ensures)
 
 loop-holds : tie.Need-loop-holds Inv-loop μ-loop
-loop-holds c = let a = c .before .before .before .args in (adding-none (a .line .now) (a .table .now) (recordsIn (a .table .now) (a .all)) (a .work .now) (a .lattice), reached-start _, refl)
+loop-holds c = let a = c .before .before .before .args in (adding-none (a .marks) (a .line .now) (a .table .now) (recordsIn (a .table .now) (a .all)) (a .work .now) (a .lattice), reached-start _, refl)
 
 char-at-requires : tie.Need-char-at-requires Inv-loop μ-loop
 char-at-requires c κs = let l = c .before in reached-stands _ (start l .pre .1) _ _ (l .loop .inv .1) (c .loop-test .taken)
@@ -79,7 +79,7 @@ returns c =
     let l = c .before in
     let a = l .loop .inv .0 in
     record {
-      so-far = so-far-all _ _ _ _ _ _ _ (l .loop .inv .1) (reached-end _ (start l .pre .1) _ _ (l .loop .inv .1) (c .loop-test .left)) (a .so-far);
+      so-far = so-far-all _ _ _ _ _ _ _ _ (l .loop .inv .1) (reached-end _ (start l .pre .1) _ _ (l .loop .inv .1) (c .loop-test .left)) (a .so-far);
       holds = a .holds;
     }
 

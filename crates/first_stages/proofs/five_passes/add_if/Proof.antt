@@ -30,7 +30,7 @@ abbrev at-kind : tie.After-read-edge → tie.After-kind-number
 at-kind c = c .before .before .before
 
 is : (c : tie.After-read-edge) → let s = start (at-kind c) in StoredIs (s .args .line .now) (s .args .table .now) (c .read-edge .result) (stored-edge (at-kind c))
-is c = let s = start (at-kind c) in let a = s .args in stored-edge-behind (a .line .now) (a .table .now) (a .work .now) (a .i * SIZE) (c .read-edge .result) (s .pre .3) (c .read-edge .ensures)
+is c = let s = start (at-kind c) in let a = s .args in stored-edge-behind (a .line .now) (a .table .now) (a .work .now) (a .i * SIZE) (c .read-edge .result) (s .pre .3 .0) (s .pre .3 .1) (c .read-edge .ensures)
 
 mul-at : tie.Need-mul-at
 mul-at c = omega (arith, c .before .before .before .pre .4)
@@ -56,7 +56,7 @@ returns c =
 read-edge-requires : tie.Need-read-edge-requires
 read-edge-requires c κs =
     let s = start (c .before .before) in
-    (s .pre .4, subst Small (sym (stored-edge-behind-is (s .args .work .now) (s .args .i * SIZE))) (s .pre .3 .small))
+    (s .pre .4, subst Small (sym (stored-edge-behind-is (s .args .work .now) (s .args .i * SIZE))) (s .pre .3 .1 .small))
 
 add-joined-requires : tie.Need-add-joined-requires
 add-joined-requires c κs =

@@ -1,12 +1,12 @@
 -- `lines::answer::stages_answer` meets its contract, by what the stages and the finished lattice answer. Assumes nothing.
 use borrow.Author.Needs.{needs}
 use mathlib.Core.Path.{_≡_, subst}
-use mathlib.Core.Bool.{false}
 use Rattle.text.specs.Text.{chars}
 use Rattle.table.specs.Table.{Table}
 use Rattle.table.specs.Answers.{tableOf}
 use Rattle.edge.specs.Layout.{listed}
 use Rattle.numbers.specs.Call.{noEdges}
+use Rattle.call.specs.declared.stages.CallKind.the-variants.{First}
 use Rattle.call.specs.declared.stages.StagesAnswer.{StagesAnswer}
 use Rattle.call.specs.Stages.{StagesAre}
 use Rattle.lines.proofs.AnswerLaws.{left-above, left-made, accepted}
@@ -20,8 +20,8 @@ abbrev T : tie.After-run-stages → Table
 T k = tableOf (start k .args .table .now) (start k .args .shape)
 
 -- what the stages answered
-answered : (k : tie.After-run-stages) (r : StagesAnswer) → k .run-stages .result ≡ r → StagesAre false (T k) (chars (start k .args .line .now)) (listed noEdges) (k .run-stages .last .0) r
-answered k r e = subst (StagesAre false (T k) (chars (start k .args .line .now)) (listed noEdges) (k .run-stages .last .0)) e (k .run-stages .ensures)
+answered : (k : tie.After-run-stages) (r : StagesAnswer) → k .run-stages .result ≡ r → StagesAre First (T k) (chars (start k .args .line .now)) (listed noEdges) (k .run-stages .last .0) r
+answered k r e = subst (StagesAre First (T k) (chars (start k .args .line .now)) (listed noEdges) (k .run-stages .last .0)) e (k .run-stages .ensures)
 
 slice-aggregate-run-stages : tie.Need-slice-aggregate-run-stages
 slice-aggregate-run-stages c = search needs

@@ -3,6 +3,7 @@ use borrow.Author.Needs.{needs}
 use mathlib.Core.Path.{_≡_, _∙_}
 use Rattle.edge.specs.Write.{fieldsOf}
 use Rattle.pass_edge.specs.Fields.{storedFields}
+use Rattle.pass_edge.proofs.listed.FieldLaws.{listed-not-nan}
 use Rattle.pass_edge.proofs.listed.fields_of.Statement.{statement}
 use Rattle.pass_edge.proofs.listed.fields_of.Tie as tie
 
@@ -33,12 +34,27 @@ part-or-requires-2 c κs = search needs
 map-of-requires : tie.Need-map-of-requires
 map-of-requires c κs = search needs
 
+listed-value-requires : tie.Need-listed-value-requires
+listed-value-requires c κs =
+    let l = c .before .before .before .before .before .before .pre in
+    ((l .digits, l .value), l .few)
+
+cast-t23 : tie.Need-cast-t23
+cast-t23 c = search needs
+
 num-fields-requires : tie.Need-num-fields-requires
-num-fields-requires c κs = search needs
+num-fields-requires c κs =
+    let at-value = c .before in
+    let l = at-value .before .before .before .before .before .before .before .pre in
+    (listed-not-nan l (at-value .listed-value .ensures), l .mult)
 
 returns : tie.Need-returns
 unfolding storedFields fieldsOf
-returns c = c .num-fields .ensures ∙ rw (c .before .map-of .ensures, c .before .before .before .before .part-or .ensures, c .before .before .part-or2 .ensures, c .before .before .before .is-row .ensures)
+returns c =
+    let at-value = c .before .before in
+    let at-map = at-value .before in
+    let at-digits = at-map .before in
+    c .num-fields .ensures ∙ rw (at-map .map-of .ensures, at-value .listed-value .ensures, at-digits .before .before .part-or .ensures, at-digits .part-or2 .ensures, at-digits .before .is-row .ensures)
 
 pub fields-of-spec : {M : Type 1} → statement M
 fields-of-spec =
@@ -53,5 +69,7 @@ fields-of-spec =
     is-row-requires
     part-or-requires-2
     map-of-requires
+    listed-value-requires
+    cast-t23
     num-fields-requires
     returns)

@@ -53,15 +53,22 @@ bit-if-requires-7 c κs = search needs
 add-result-7 : tie.Need-add-result-7
 add-result-7 c = search needs
 
+bit-if-requires-8 : tie.Need-bit-if-requires-8
+bit-if-requires-8 c κs = search needs
+
+add-result-8 : tie.Need-add-result-8
+add-result-8 c = search needs
+
 returns : tie.Need-returns
 returns c =
-    let w6 = c .before .before in
+    let w7 = c .before .before in
+    let w6 = w7 .before .before in
     let w5 = w6 .before in
     let w4 = w5 .before in
     let w3 = w4 .before in
     let w2 = w3 .before in
     let w1 = w2 .before in
-    map-summed (w1 .before .args .edge) (w1 .before .args .fraction) (w1 .bit-if .ensures .0) (w2 .bit-if2 .ensures .0) (w3 .bit-if3 .ensures .0) (w4 .bit-if4 .ensures .0) (w5 .bit-if5 .ensures .0) (w6 .bit-if6 .ensures .0) (c .bit-if7 .ensures .0 ∙ ap (λ (b : Bool). 256 * flag b) (c .before .is-row .ensures))
+    map-summed (w1 .before .args .edge) (w1 .before .args .fraction) (w1 .bit-if .ensures .0) (w2 .bit-if2 .ensures .0) (w3 .bit-if3 .ensures .0) (w4 .bit-if4 .ensures .0) (w5 .bit-if5 .ensures .0) (w6 .bit-if6 .ensures .0) (w7 .bit-if7 .ensures .0 ∙ ap (λ (b : Bool). 256 * flag b) (w7 .before .is-row .ensures)) (c .bit-if8 .ensures .0)
 
 pub map-of-spec : {M : Type 1} → statement M
 map-of-spec =
@@ -82,4 +89,6 @@ map-of-spec =
     is-row-requires
     bit-if-requires-7
     add-result-7
+    bit-if-requires-8
+    add-result-8
     returns)

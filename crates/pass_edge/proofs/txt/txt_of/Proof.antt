@@ -1,6 +1,6 @@
 -- `pass_edge::txt::txt_of` meets its contract, kind by kind. Assumes nothing.
 use borrow.Author.Needs.{needs}
-use mathlib.Core.Path.{_≡_, sym, ap, _∙_}
+use mathlib.Core.Path.{_≡_, sym, _∙_}
 use mathlib.Core.Bool.{Bool, true, false}
 use Prim.Native.Nat.{ℕ}
 use lib.Dec.{eqb}
@@ -8,11 +8,8 @@ use borrow.Author.Tests.{eqb-true, eqb-false}
 use native.Mathlib.Omega.{arith}
 use native.Mathlib.Nat.{zero-add}
 use Rattle.text.specs.Text.{chars}
-use Rattle.pass_list.specs.declared.record.PassEdge.{PassEdge}
-use Rattle.pass_list.specs.StoredEdge.{StoredEdge, EdgeIs}
-use Rattle.pass_list.proofs.in_turn.Theorems.{no-decimals}
-use Rattle.whole.proofs.DecimalLaws.{length-padded, length-decimal-top}
-use Rattle.pass_edge.proofs.TextLaws.{front-is, txt-char, txt-digits, txt-value, rooted-char, places-of, char-fits, value-is}
+use Rattle.whole.proofs.DecimalLaws.{length-decimal-top}
+use Rattle.pass_edge.proofs.TextLaws.{front-is, txt-char, txt-digits, txt-value, rooted-char, places-of, decimals-few, char-fits, value-is}
 use Rattle.pass_edge.proofs.txt.txt_of.Statement.{statement}
 use Rattle.pass_edge.proofs.txt.txt_of.Tie as tie
 
@@ -34,9 +31,6 @@ row e t = eqb-true _ 1 (sym e ∙ t)
 
 no-row : {b : Bool} {k : ℕ} → b ≡ eqb k 1 → b ≡ false → k ≡ 1 → ⊥
 no-row e t = eqb-false _ 1 (sym e ∙ t)
-
-decimals-are : {e : PassEdge} {x : StoredEdge} → EdgeIs e x → e .num .decimals ≡ x .decimals
-decimals-are h = ap (λ (e : PassEdge). e .num .decimals) (h .is)
 
 char-txt-requires : tie.Need-char-txt-requires
 char-txt-requires c κs =
@@ -70,14 +64,15 @@ sub-len c =
     let (i, is) = start .pre .1 in
     places-of (start .args .line .now) (start .args .table .now) (start .args .edge) i is .0
 
-put-padded-requires : tie.Need-put-padded-requires
-put-padded-requires c κs =
+row-txt-requires : tie.Need-row-txt-requires
+row-txt-requires c κs =
     let start = c .before .before .before .before .before .before .before .before .before .before in
     let (i, is) = start .pre .1 in
-    omega (arith, places-of (start .args .line .now) (start .args .table .now) (start .args .edge) i is .1, start .pre .2, start .pre .3)
+    let few = decimals-few (start .args .line .now) (start .args .table .now) (start .args .edge) i is in
+    (omega (arith, places-of (start .args .line .now) (start .args .table .now) (start .args .edge) i is .1, start .pre .2, start .pre .3), few .0, few .1)
 
 same-length-2 : tie.Need-same-length-2
-same-length-2 c = c .before .before .put-padded .kept .0
+same-length-2 c = c .before .before .row-txt .kept .0
 
 returns-2 : tie.Need-returns-2
 returns-2 c i is =
@@ -86,10 +81,7 @@ returns-2 c i is =
     let at-else = at-value .before in
     let a = at-else .before .before .before .before .before .args in
     let value = at-value .exact-u64 .ensures (i .value) (is .fits .small .value) (value-is (a .edge) i is) in
-    let (o, sound) = at-else .before .before .before .before .before .pre .1 in
-    let whole : i .decimals ≡ 0 = sym (decimals-are is) ∙ decimals-are (sound .is) ∙ no-decimals (sound .sound .made) in
-    front-is (txt-digits (chars (a .line .now)) (a .table .now) (a .edge) i is (joined (at-else .before .is-character .ensures) (at-else .if1 .left)) (row (at-row .before .is-row .ensures) (at-row .if2 .taken)) whole value)
-    (record { wrote = c .before .before .put-padded .ensures; long = sym (length-padded _ _) })
+    front-is (txt-digits (chars (a .line .now)) (a .table .now) (a .edge) i is (joined (at-else .before .is-character .ensures) (at-else .if1 .left)) (row (at-row .before .is-row .ensures) (at-row .if2 .taken)) value) (c .before .before .row-txt .ensures)
 
 put-decimal-requires : tie.Need-put-decimal-requires
 put-decimal-requires c κs =
@@ -124,7 +116,7 @@ txt-of-spec =
     exact-u64-requires
     is-row-requires
     sub-len
-    put-padded-requires
+    row-txt-requires
     same-length-2
     returns-2
     put-decimal-requires
