@@ -146,9 +146,9 @@ module _ (w t : List ℕ) (p : NumProp) (at i c : ℕ) (b : Bool) where
       unfolding char_edge char_stored record_of
       script_same = script_is (bit p.map 5) (part_of t p.script) cjk
 
-      digit_text_lem : digit_rule (record_of t p) ≡ true → stored_edge.digit ≡ true → (char_edge i c (record_of t p)).txt ≡ padded (i + 1 - i) stored_edge.value
+      digit_text : digit_rule (record_of t p) ≡ true → stored_edge.digit ≡ true → (char_edge i c (record_of t p)).txt ≡ padded (i + 1 - i) stored_edge.value
       unfolding char_edge char_stored record_of digit_rule
-      digit_text_lem legal d =
+      digit_text legal d =
           let one : i + 1 - i ≡ 1 = omega arith in
           rw one (digit_txt (part_of t p.num_type) (bit p.map 1) p.numbers.value (optionally (bit p.map 0) (part_of t p.rom)) (encode c) legal d)
 
@@ -162,7 +162,7 @@ module _ (w t : List ℕ) (p : NumProp) (at i c : ℕ) (b : Bool) where
         digit = ap digit_edge char_edge_is ∙ digit_is;
         gap = ap passes.gap char_edge_is ∙ gap_is;
         script = ap (λ (e : NumEdge). is_script e.script cjk) char_edge_is ∙ script_same;
-        digit_text_lem = λ d. ap (λ (e : NumEdge). e.txt) char_edge_is ∙ digit_text_lem legal d;
+        digit_text = λ d. ap (λ (e : NumEdge). e.txt) char_edge_is ∙ digit_text legal d;
         digit_whole = λ d. refl;
         few_decimals = omega arith;
         decimals_inside = λ h. absurd (omega arith);

@@ -51,21 +51,21 @@ fn char_num(
     let num_type = prop.num_type;
     let script = prop.script;
     let script_at = script.at;
-    let has_value_lem = prop.map / bits::VALUE % 2 == 1;
+    let has_value = prop.map / bits::VALUE % 2 == 1;
     let has_base = prop.map / bits::BASE % 2 == 1;
     let has_mult = prop.map / bits::MULT % 2 == 1;
     let has_script = prop.map / bits::SCRIPT % 2 == 1;
-    let value = number_if(has_value_lem, n.value);
+    let value = number_if(has_value, n.value);
     PassData {
         value: whole::exact_f64(value),
         base_multiplier: whole::exact_f64(number_if(has_mult, n.mult)),
         base: number_if(has_base, n.base),
-        has_value_lem: has_value_lem,
+        has_value: has_value,
         has_base: has_base,
         has_mult: has_mult,
         has_script: has_script,
         large_power: prop.map / bits::LARGE_POWER % 2 == 1,
-        digit: is_digit_type(table, num_type) & has_value_lem & (value <= 9),
+        digit: is_digit_type(table, num_type) & has_value & (value <= 9),
         gap: (code == 0x96F6) | (code == 0x3007),
         cjk: has_script & is_cjk(table, script),
         decimals: 0,

@@ -25,7 +25,7 @@ pub struct DigitTest {
 
 // The starts are compared with `c` in rising order, up to the first that is above it: only the run before that one can hold `c`. The first two are compared
 // before the loop: a table that is indexed by a variable is copied to the stack, and a character of ASCII needs no more than these two.
-pub fn is_digit_lem(c: u32) -> DigitTest
+pub fn is_digit(c: u32) -> DigitTest
     ensures { result ≡ digit_test c }
 {
     if c < STARTS[0] {

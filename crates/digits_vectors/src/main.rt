@@ -10,7 +10,7 @@ fn count_digits() -> u64 {
     let mut n: u64 = 0;
     let mut c: u32 = 0;
     while c < 0x110000 {
-        if digits::is_digit_lem(c).digit {
+        if digits::is_digit(c).digit {
             n += 1;
         }
         c += 1;
@@ -22,7 +22,7 @@ fn count_digits() -> u64 {
 fn compared(c: u32) -> u64
     ensures { result ≤ 68 }
 {
-    digits::is_digit_lem(c).compared as u64
+    digits::is_digit(c).compared as u64
 }
 
 fn count_compared() -> u64 {

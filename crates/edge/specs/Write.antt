@@ -63,7 +63,7 @@ pub record Writable (o c v : List ℕ) (d : NumFields) : Type 0 where
   pub script : stands 5 d.map ≡ true → d.script.at.0 + d.script.len ≤ length c
   pub value_s : stands 8 d.map ≡ true → d.value_s.at.0 + d.value_s.len ≤ length v
   pub orig_len : d.orig.len < u16_limit
-  pub script_len_lem : d.script.len < u16_limit
+  pub script_len : d.script.len < u16_limit
   pub value_s_len : d.value_s.len < u16_limit
 
 -- ---- floats

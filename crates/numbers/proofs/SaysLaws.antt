@@ -69,9 +69,9 @@ digits_more (x ∷ ds) d h k (suc i) l = digits_more ds d (λ j m. h (suc j) (om
 abbrev pub DigitText : NumEdge → Type 0
 DigitText e = digit_edge e ≡ true → e.txt ≡ (48 + or_zero e.value) ∷ []
 
-has_value_lem : (v : Option ℕ) → has v ≡ true → v ≡ some (or_zero v)
-has_value_lem none h = absurd (false≢true h)
-has_value_lem (some n) h = refl
+has_value : (v : Option ℕ) → has v ≡ true → v ≡ some (or_zero v)
+has_value none h = absurd (false≢true h)
+has_value (some n) h = refl
 
 digit_parts : (e : NumEdge) → digit_edge e ≡ true → (one_place e ≡ true) × (has e.value ≡ true) × (leb (or_zero e.value) 9 ≡ true)
 unfolding digit_edge
@@ -81,7 +81,7 @@ digit_parts e h =
     ((and-true (same e.type digit_type) (one_place e) there.0).1, there.1, low.1)
 
 digit_value_lem : (e : NumEdge) → digit_edge e ≡ true → e.value ≡ some (or_zero e.value)
-digit_value_lem e h = has_value_lem e.value (digit_parts e h).1
+digit_value_lem e h = has_value e.value (digit_parts e h).1
 
 digit_low : (e : NumEdge) → digit_edge e ≡ true → or_zero e.value ≤ 9
 digit_low e h = leb-true (or_zero e.value) 9 (digit_parts e h).2

@@ -89,13 +89,13 @@ digit_is (s ▷ run r) d = refl
 digit_is (s ▷ times r t) d = rw (ten_no_run t) (another_is (s ▷ times r t) (run (one d)))
 digit_is (s ▷ power t) d = rw (ten_no_run t) (another_is (s ▷ power t) (run (one d)))
 
-pub digit_text_lem : (s : Row Atom) (d : Digit) (w : List Char) → small_text (plus_digit s d) w ≡ small_text s (digit d ∷ w)
-digit_text_lem (one (run r)) d w = refl
-digit_text_lem (one (times r t)) d w = refl
-digit_text_lem (one (power t)) d w = refl
-digit_text_lem (s ▷ run r) d w = refl
-digit_text_lem (s ▷ times r t) d w = refl
-digit_text_lem (s ▷ power t) d w = refl
+pub digit_text : (s : Row Atom) (d : Digit) (w : List Char) → small_text (plus_digit s d) w ≡ small_text s (digit d ∷ w)
+digit_text (one (run r)) d w = refl
+digit_text (one (times r t)) d w = refl
+digit_text (one (power t)) d w = refl
+digit_text (s ▷ run r) d w = refl
+digit_text (s ▷ times r t) d w = refl
+digit_text (s ▷ power t) d w = refl
 
 abbrev pub plus_ten : Row Atom → Ten → Row Atom
 plus_ten (one (run r)) t = cond (leb 1 (run_value r)) (one (times r t)) (one (run r) ▷ power t)

@@ -12,7 +12,7 @@ use Rattle.grammar.specs.Grammar.{Atom, run, power, small, block, lone, Division
 use Rattle.numeral.specs.declared.Blocks.{Blocks}
 use Rattle.numeral.specs.declared.Atoms.{Atoms}
 use Rattle.numeral.specs.Numeral.{State, in_numeral, in_small, failed, stands, fits, to_small, to_block, reads, result, Valued}
-use Rattle.numeral.proofs.Parts.{atoms_of, blocks_of, Blocked, before_text, sum_is, plus_digit, digit_is, digit_text_lem, digit_rules, plus_ten, ten_is, ten_text_lem, ten_rules, block_based, plus, plus_text, plus_is, plus_rules, fits_below, counted_value_lem, counted_base_lem}
+use Rattle.numeral.proofs.Parts.{atoms_of, blocks_of, Blocked, before_text, sum_is, plus_digit, digit_is, digit_text, digit_rules, plus_ten, ten_is, ten_text_lem, ten_rules, block_based, plus, plus_text, plus_is, plus_rules, fits_below, counted_value_lem, counted_base_lem}
 
 abbrev exact : ℕ → ℕ
 exact n = n
@@ -85,7 +85,7 @@ mutual
   sound_small [] o s g i v h = end_small o s g i v h
   sound_small (digit d ∷ w) o s g i v h =
       let (t, k) = small_passed (blocks_of o) (atoms_of (plus_digit s d)) w v (rw (digit_is s d) at h) in
-      rw (← (digit_text_lem s d w)) (sound_small w o (plus_digit s d) g (digit_rules s d i t) v k)
+      rw (← (digit_text s d w)) (sound_small w o (plus_digit s d) g (digit_rules s d i t) v k)
   sound_small (ten t ∷ w) o s g i v h =
       let (e, k) = small_passed (blocks_of o) (atoms_of (plus_ten s t)) w v (rw (ten_is s t) at h) in
       rw (← (ten_text_lem s t w)) (sound_small w o (plus_ten s t) g (ten_rules s t i e) v k)

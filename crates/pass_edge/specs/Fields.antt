@@ -52,7 +52,7 @@ pub record Listable (offs : List ℕ) (e : PassEdge) : Type 0 where
 -- numeric and active, 1 and 128, and a bit for each field that is there
 abbrev pub stored_map : PassEdge → Bool → ℕ
 stored_map e f =
-    129 + 2 * flag e.num.has_value_lem + 4 * flag f + 8 * flag e.num.has_base + 16 * flag e.num.has_mult + 32 * flag e.num.has_script
+    129 + 2 * flag e.num.has_value + 4 * flag f + 8 * flag e.num.has_base + 16 * flag e.num.has_mult + 32 * flag e.num.has_script
     + 64 * flag e.num.large_power + 256 * flag (eqb (kind_number e.kind) 1) + 512 * flag (ltb 0 e.num.decimals)
 
 -- 02, S-13: "divided in f64 by the power of ten"

@@ -32,7 +32,7 @@ pub record ScriptAt (t : List ℕ) (at n : ℕ) : Type 0 where
 pub record Rooted (t : List ℕ) (x : StoredEdge) : Type 0 where
   pub legal : kind_number x.kind ≡ 0 → LegalAt t x.record_offset
   pub one : kind_number x.kind ≡ 0 → x.end ≡ suc x.start
-  pub script : x.has_script ≡ true → ScriptAt t x.script_offset x.script_len_lem
+  pub script : x.has_script ≡ true → ScriptAt t x.script_offset x.script_len
 
 pub record Grounded (point : ℕ → Bool) (w t : List ℕ) (x : StoredEdge) : Type 0 where
   pub made : WellMade point w t x

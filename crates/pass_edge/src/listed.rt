@@ -32,7 +32,7 @@ fn map_of(edge: PassEdge, fraction: bool) -> u16
 {
     let kind = edge.kind;
     LISTED
-        + bit_if(edge.num.has_value_lem, bits::VALUE)
+        + bit_if(edge.num.has_value, bits::VALUE)
         + bit_if(fraction, bits::FRACTION)
         + bit_if(edge.num.has_base, bits::BASE)
         + bit_if(edge.num.has_mult, bits::MULT)

@@ -45,7 +45,7 @@ kind_back (Joined G3) = refl
 kind_back (Joined G4) = refl
 
 record Marks (x : StoredEdge) : Type 0 where
-  has_value_lem : flag x.has_value_lem ≤ 1
+  has_value : flag x.has_value ≤ 1
   has_base : flag x.has_base ≤ 1
   has_mult : flag x.has_mult ≤ 1
   has_script : flag x.has_script ≤ 1
@@ -56,7 +56,7 @@ record Marks (x : StoredEdge) : Type 0 where
   point : flag x.point ≤ 1
 
 record MapBits (x : StoredEdge) : Type 0 where
-  has_value_lem : map_of (num_data x) / 2 % 2 ≡ flag x.has_value_lem
+  has_value : map_of (num_data x) / 2 % 2 ≡ flag x.has_value
   has_base : map_of (num_data x) / 8 % 2 ≡ flag x.has_base
   has_mult : map_of (num_data x) / 16 % 2 ≡ flag x.has_mult
   has_script : map_of (num_data x) / 32 % 2 ≡ flag x.has_script
@@ -71,7 +71,7 @@ record MapBits (x : StoredEdge) : Type 0 where
 module _ (x : StoredEdge) (few : x.decimals < 2 ^ 4) where
   marks_small : Marks x
   marks_small = record {
-    has_value_lem = flag_le x.has_value_lem;
+    has_value = flag_le x.has_value;
     has_base = flag_le x.has_base;
     has_mult = flag_le x.has_mult;
     has_script = flag_le x.has_script;
@@ -86,7 +86,7 @@ module _ (x : StoredEdge) (few : x.decimals < 2 ^ 4) where
   map_bits =
       let m = marks_small in
       record {
-        has_value_lem = omega arith;
+        has_value = omega arith;
         has_base = omega arith;
         has_mult = omega arith;
         has_script = omega arith;
@@ -112,7 +112,7 @@ record Back (x : StoredEdge) : Type 0 where
   mult : le_at (record_bytes x) mult_at 8 ≡ x.mult
   record_offset : le_at (record_bytes x) record_at 8 ≡ x.record_offset
   script_offset : le_at (record_bytes x) script_at 8 ≡ x.script_offset
-  script_len_lem : le_at (record_bytes x) script_len_at 8 ≡ x.script_len_lem
+  script_len : le_at (record_bytes x) script_len_at 8 ≡ x.script_len
 
 numbers_back : (x : StoredEdge) → Fits x → Back x
 unfolding le_at le part bytes_of record_bytes num_bytes
@@ -128,7 +128,7 @@ numbers_back x f =
       mult = le-bytes_of 8 x.mult (omega arith);
       record_offset = le-bytes_of 8 x.record_offset f.record_offset;
       script_offset = le-bytes_of 8 x.script_offset f.script_offset;
-      script_len_lem = le-bytes_of 8 x.script_len_lem f.script_len_lem;
+      script_len = le-bytes_of 8 x.script_len f.script_len;
     }
 
 record_back : (x : StoredEdge) → Fits x → stored_of (record_bytes x) ≡ x
@@ -147,8 +147,8 @@ record_back x f =
       b.mult,
       b.record_offset,
       b.script_offset,
-      b.script_len_lem,
-      m.has_value_lem,
+      b.script_len,
+      m.has_value,
       m.has_base,
       m.has_mult,
       m.has_script,
@@ -158,7 +158,7 @@ record_back x f =
       m.cjk,
       m.decimals,
       m.point,
-      flag_stands x.has_value_lem,
+      flag_stands x.has_value,
       flag_stands x.has_base,
       flag_stands x.has_mult,
       flag_stands x.has_script,

@@ -61,11 +61,11 @@ edge_of w t x = record {
   type = cond (eqb (kind_number x.kind) 0) (of_record t x.record_offset (λ r. r.type) []) (kind_name (kind_number x.kind));
   txt = txt_of w t x;
   orig_txt = between w x.start x.end;
-  value = optionally x.has_value_lem x.value;
+  value = optionally x.has_value x.value;
   fraction = cond (eqb (kind_number x.kind) 0) (of_record t x.record_offset (λ r. map lowest r.fraction) none) none;
   base = optionally x.has_base x.base;
   mult = optionally x.has_mult x.mult;
-  script = optionally x.has_script (part t x.script_offset x.script_len_lem);
+  script = optionally x.has_script (part t x.script_offset x.script_len);
   large_power = x.large_power;
   active = true;
   value_s = cond (eqb (kind_number x.kind) 1) (some (row_text x)) none;
@@ -83,13 +83,13 @@ decimal_chain_of w t c = record { chain = chain_of w t c; decimals = c.edge.deci
 pub record WellMade (point : ℕ → Bool) (w t : List ℕ) (x : StoredEdge) : Type 0 where
   pub ordered : x.start < x.end
   pub inside : x.end ≤ length w
-  pub value_absent : x.has_value_lem ≡ false → x.value ≡ 0
+  pub value_absent : x.has_value ≡ false → x.value ≡ 0
   pub base_absent : x.has_base ≡ false → x.base ≡ 0
   pub digit : digit_edge (edge_of w t x) ≡ x.digit
   pub gap : passes.gap (edge_of w t x) ≡ x.gap
   pub script : is_script (edge_of w t x).script cjk ≡ x.cjk
   -- a digit's txt is that digit, as the table's check has it
-  pub digit_text_lem : x.digit ≡ true → (edge_of w t x).txt ≡ padded (x.end - x.start) x.value
+  pub digit_text : x.digit ≡ true → (edge_of w t x).txt ≡ padded (x.end - x.start) x.value
   pub digit_whole : x.digit ≡ true → x.decimals ≡ 0
   -- "A sixteenth decimal stays outside" (02, S-13), and before the point stands a digit
   pub few_decimals : x.decimals ≤ 15

@@ -21,13 +21,13 @@ bit map of = eqb (map / of % 2) 1
 
 abbrev pub map_of : PassData → ℕ
 map_of n =
-    value_bit * flag n.has_value_lem + base_bit * flag n.has_base + mult_bit * flag n.has_mult + script_bit * flag n.has_script
+    value_bit * flag n.has_value + base_bit * flag n.has_base + mult_bit * flag n.has_mult + script_bit * flag n.has_script
     + large_power_bit * flag n.large_power + digit_bit * flag n.digit + gap_bit * flag n.gap + cjk_bit * flag n.cjk
     + decimals_bit * n.decimals + point_bit * flag n.point
 
 unfoldable pub num_bytes : StoredEdge → List ℕ
 num_bytes x =
-    bytes_of 8 x.value ++ (bytes_of 8 x.base ++ (bytes_of 8 x.mult ++ (bytes_of 8 x.record_offset ++ (bytes_of 8 x.script_offset ++ bytes_of 8 x.script_len_lem))))
+    bytes_of 8 x.value ++ (bytes_of 8 x.base ++ (bytes_of 8 x.mult ++ (bytes_of 8 x.record_offset ++ (bytes_of 8 x.script_offset ++ bytes_of 8 x.script_len))))
 
 unfoldable pub record_bytes : StoredEdge → List ℕ
 record_bytes x = bytes_of 2 x.start ++ (bytes_of 2 x.end ++ (bytes_of 2 (kind_number x.kind) ++ (bytes_of 2 (map_of (num_data x)) ++ num_bytes x)))
@@ -42,8 +42,8 @@ stored_of bs = record {
   base = le_at bs base_at 8;
   mult = le_at bs mult_at 8;
   script_offset = le_at bs script_at 8;
-  script_len_lem = le_at bs script_len_at 8;
-  has_value_lem = bit (le_at bs map_at 2) value_bit;
+  script_len = le_at bs script_len_at 8;
+  has_value = bit (le_at bs map_at 2) value_bit;
   has_base = bit (le_at bs map_at 2) base_bit;
   has_mult = bit (le_at bs map_at 2) mult_bit;
   has_script = bit (le_at bs map_at 2) script_bit;

@@ -26,7 +26,7 @@ pub record StoredEdge : Type 0 where
   pub mult : ℕ
   -- the script's bytes in the table: their offset and how many
   pub script_offset : ℕ
-  pub script_len_lem : ℕ
+  pub script_len : ℕ
   pub has_value : Bool
   pub has_base : Bool
   pub has_mult : Bool
@@ -46,7 +46,7 @@ num_data x = record {
   value = of_nat x.value;
   base_multiplier = of_nat x.mult;
   base = x.base;
-  has_value_lem = x.has_value;
+  has_value = x.has_value;
   has_base = x.has_base;
   has_mult = x.has_mult;
   has_script = x.has_script;
@@ -57,7 +57,7 @@ num_data x = record {
   decimals = x.decimals;
   point = x.point;
   script = record { 0 = x.script_offset };
-  script_len = x.script_len_lem;
+  script_len = x.script_len;
 }
 
 abbrev pub pass_edge : StoredEdge → PassEdge
@@ -87,7 +87,7 @@ pub record Fits (x : StoredEdge) : Type 0 where
   pub end : x.end < 2 ^ 16
   pub record_offset : x.record_offset < 2 ^ 64
   pub script_offset : x.script_offset < 2 ^ 64
-  pub script_len_lem : x.script_len_lem < 2 ^ 64
+  pub script_len : x.script_len < 2 ^ 64
   pub decimals : x.decimals < 2 ^ 4
 
 pub record NumIs (n : PassData) (x : StoredEdge) : Type 0 where

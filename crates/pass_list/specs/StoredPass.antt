@@ -53,18 +53,18 @@ g1_rule c e = not c.more && eqb c.edge.base 1 && leb 1 c.edge.value && ltb 1 e.b
 
 -- all that the comparison needs is there
 abbrev pub comparable : StoredChain → StoredEdge → Bool
-comparable c e = c.has_near && e.has_value_lem && e.has_base
+comparable c e = c.has_near && e.has_value && e.has_base
 
 unfoldable pub g2_rule : StoredChain → StoredEdge → Bool
 g2_rule c e =
-    c.edge.has_value_lem && not c.edge.large_power && not e.large_power
+    c.edge.has_value && not c.edge.large_power && not e.large_power
     && ((comparable c e && (ltb e.value c.near && ltb e.base c.near)) || (not (comparable c e) && e.gap))
 
 unfoldable pub g3_rule : StoredChain → StoredEdge → Bool
-g3_rule c e = not c.more && c.edge.has_value_lem && not c.edge.large_power && e.has_value_lem && e.large_power
+g3_rule c e = not c.more && c.edge.has_value && not c.edge.large_power && e.has_value && e.large_power
 
 unfoldable pub g4_rule : StoredChain → StoredEdge → Bool
-g4_rule c e = c.edge.has_value_lem && e.has_value_lem && e.has_base && ltb e.value c.edge.base && ltb e.base c.edge.base
+g4_rule c e = c.edge.has_value && e.has_value && e.has_base && ltb e.value c.edge.base && ltb e.base c.edge.base
 
 abbrev pub rule : Pass → StoredChain → StoredEdge → Bool
 rule D1 = d1_rule
@@ -114,8 +114,8 @@ with_numbers e v b = record {
   base = b;
   mult = e.mult;
   script_offset = e.script_offset;
-  script_len_lem = e.script_len_lem;
-  has_value_lem = true;
+  script_len = e.script_len;
+  has_value = true;
   has_base = true;
   has_mult = e.has_mult;
   has_script = e.has_script;
@@ -160,8 +160,8 @@ over p l e v k = record {
   base = e.base;
   mult = 0;
   script_offset = e.script_offset;
-  script_len_lem = e.script_len_lem;
-  has_value_lem = true;
+  script_len = e.script_len;
+  has_value = true;
   has_base = e.has_base;
   has_mult = false;
   has_script = e.has_script;

@@ -19,7 +19,7 @@ fn num_at(list: &[u8], at: usize) -> PassData
         value: whole::exact_f64(fields::u64_at(list, at + layout::VALUE_AT)),
         base_multiplier: whole::exact_f64(fields::u64_at(list, at + layout::MULT_AT)),
         base: fields::u64_at(list, at + layout::BASE_AT),
-        has_value_lem: map / layout::HAS_VALUE % 2 == 1,
+        has_value: map / layout::HAS_VALUE % 2 == 1,
         has_base: map / layout::HAS_BASE % 2 == 1,
         has_mult: map / layout::HAS_MULT % 2 == 1,
         has_script: map / layout::HAS_SCRIPT % 2 == 1,

@@ -8,7 +8,7 @@ pub struct PassData {
     pub value: f64,
     pub base_multiplier: f64,
     pub base: u64,
-    pub has_value_lem: bool,
+    pub has_value: bool,
     pub has_base: bool,
     pub has_mult: bool,
     pub has_script: bool,

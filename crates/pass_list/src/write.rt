@@ -14,7 +14,7 @@ fn map_of(n: PassData) -> u16
     requires { n.decimals < 2 ^ 4 }
     ensures { result ≡ map_of n }
 {
-    bit_if(n.has_value_lem, layout::HAS_VALUE)
+    bit_if(n.has_value, layout::HAS_VALUE)
         + bit_if(n.has_base, layout::HAS_BASE)
         + bit_if(n.has_mult, layout::HAS_MULT)
         + bit_if(n.has_script, layout::HAS_SCRIPT)

@@ -46,19 +46,19 @@ fn ruled(pass: Pass, c: Chain, e: PassEdge) -> bool
             g1_rule(c.more, c.edge.num.base, left, e.num.base, e.num.large_power)
         }
         Pass::G2 => {
-            let plain = c.edge.num.has_value_lem & !c.edge.num.large_power & !e.num.large_power;
-            let both = c.has_near & e.num.has_value_lem & e.num.has_base;
+            let plain = c.edge.num.has_value & !c.edge.num.large_power & !e.num.large_power;
+            let both = c.has_near & e.num.has_value & e.num.has_base;
             g2_rule(plain, both, c.near, value, e.num.base, e.num.gap)
         }
         Pass::G3 => g3_rule(
             c.more,
-            c.edge.num.has_value_lem,
+            c.edge.num.has_value,
             c.edge.num.large_power,
-            e.num.has_value_lem,
+            e.num.has_value,
             e.num.large_power,
         ),
         Pass::G4 => {
-            let there = c.edge.num.has_value_lem & e.num.has_value_lem & e.num.has_base;
+            let there = c.edge.num.has_value & e.num.has_value & e.num.has_base;
             g4_rule(there, c.edge.num.base, value, e.num.base)
         }
     }

@@ -29,8 +29,8 @@ fn retags(last: PassEdge, e: PassEdge, right: u64) -> bool
     requires { e.start.0 < u16_limit }
     ensures { (x y : StoredEdge) → last ≡ pass_edge x → e ≡ pass_edge y → right ≡ y.value → result ≡ retags x y }
 {
-    let one_place_lem = e.end.0 == e.start.0 + 1;
-    if last.num.cjk & (1000 <= last.num.base) & one_place_lem & (1 <= right) & (right <= 9) {
+    let one_place = e.end.0 == e.start.0 + 1;
+    if last.num.cjk & (1000 <= last.num.base) & one_place & (1 <= right) & (right <= 9) {
         return is_power_of_10(last.num.base);
     }
     false
@@ -45,7 +45,7 @@ fn retagged(last: PassEdge, mut e: PassEdge) -> PassEdge
     let v = e.num.value * whole::exact_f64(tenth);
     e.num.value = v;
     e.num.base = tenth;
-    e.num.has_value_lem = true;
+    e.num.has_value = true;
     e.num.has_base = true;
     e
 }
@@ -59,7 +59,7 @@ pub fn counted(pass: Pass, last: PassEdge, e: PassEdge) -> PassEdge
         Pass::D1 => {
             let mut e = e;
             e.num.base = 1;
-            e.num.has_value_lem = true;
+            e.num.has_value = true;
             e.num.has_base = true;
             e
         }

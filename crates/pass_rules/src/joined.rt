@@ -59,7 +59,7 @@ pub fn joined_edge(pass: Pass, l: PassEdge, r: PassEdge, v: f64, decimals: u16) 
     let end = r.end;
     let mut num = r.num;
     num.value = v;
-    num.has_value_lem = true;
+    num.has_value = true;
     num.base_multiplier = 0.0;
     num.has_mult = false;
     num.large_power = large_power;

@@ -30,7 +30,7 @@ pub fn g1_rule(more: bool, left: u64, value: u64, base: u64, large: bool) -> boo
 // and base; and whether the next is a gap.
 pub fn g2_rule(plain: bool, both: bool, near: u64, value: u64, base: u64, gap: bool) -> bool
     ensures { (x : StoredChain) (y : StoredEdge)
-        → plain ≡ x.edge.has_value_lem && not x.edge.large_power && not y.large_power → both ≡ comparable x y
+        → plain ≡ x.edge.has_value && not x.edge.large_power && not y.large_power → both ≡ comparable x y
         → near ≡ x.near → value ≡ y.value → base ≡ y.base → gap ≡ y.gap → result ≡ g2_rule x y }
 {
     let exceeds = (value < near) & (base < near);
@@ -39,15 +39,15 @@ pub fn g2_rule(plain: bool, both: bool, near: u64, value: u64, base: u64, gap: b
 
 // G3 (the Rust's apply_g3_large_power_multiplication): whether the chain's edge and the next have a value, and which is a large power.
 pub fn g3_rule(more: bool, left: bool, left_large: bool, next: bool, large: bool) -> bool
-    ensures { (x : StoredChain) (y : StoredEdge) → more ≡ x.more → left ≡ x.edge.has_value_lem
-        → left_large ≡ x.edge.large_power → next ≡ y.has_value_lem → large ≡ y.large_power → result ≡ g3_rule x y }
+    ensures { (x : StoredChain) (y : StoredEdge) → more ≡ x.more → left ≡ x.edge.has_value
+        → left_large ≡ x.edge.large_power → next ≡ y.has_value → large ≡ y.large_power → result ≡ g3_rule x y }
 {
     !more & left & !left_large & next & large
 }
 
 // G4 (the Rust's apply_g4_large_block_addition): whether the chain has a value and the next a value and a base; the base before, and the next one's value and base.
 pub fn g4_rule(there: bool, left: u64, value: u64, base: u64) -> bool
-    ensures { (x : StoredChain) (y : StoredEdge) → there ≡ x.edge.has_value_lem && y.has_value_lem && y.has_base
+    ensures { (x : StoredChain) (y : StoredEdge) → there ≡ x.edge.has_value && y.has_value && y.has_base
         → left ≡ x.edge.base → value ≡ y.value → base ≡ y.base → result ≡ g4_rule x y }
 {
     there & (value < left) & (base < left)

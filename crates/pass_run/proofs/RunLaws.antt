@@ -79,7 +79,7 @@ pub longer_fits : (p : Pass) (x : StoredChain) (y : StoredEdge) → joins p x y 
 unfolding longer over
 longer_fits p x y j f g h =
     let r = counted_fits p x.edge y f g in
-    record { small = record { value = h; base = r.small.base; mult = omega arith }; start = f.start; end = r.end; record_offset = omega arith; script_offset = r.script_offset; script_len_lem = r.script_len_lem; decimals = few_decimals p x y j }
+    record { small = record { value = h; base = r.small.base; mult = omega arith }; start = f.start; end = r.end; record_offset = omega arith; script_offset = r.script_offset; script_len = r.script_len; decimals = few_decimals p x y j }
 
 ruled : (p : Pass) (x : StoredChain) (y : StoredEdge) → joins p x y ≡ true → rule p x (counted p x.edge y) ≡ true
 unfolding joins

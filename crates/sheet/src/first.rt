@@ -23,7 +23,7 @@ fn pass_blocks(position: u64) -> Passed
     let mut rows = SHORT_ROWS;
     let mut block = 0;
     while block < BLOCKS {
-        let n = sheet_counts::rows_in_lem(block);
+        let n = sheet_counts::rows_in(block);
         if position - rows < n {
             return Passed { index, rows };
         }

@@ -21,7 +21,7 @@ const COUNTS: [u64; 40] = [
 ];
 
 // The rows of a block.
-pub fn rows_in_lem(block: usize) -> u64
+pub fn rows_in(block: usize) -> u64
     requires { block < 68 }
     ensures { result ≡ rows_in 1024 (272 + 1024 * block) }
 {

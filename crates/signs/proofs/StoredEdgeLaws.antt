@@ -29,23 +29,23 @@ use Rattle.signs.proofs.edges.SignLaws.{signs_first}
 
 -- ---- both lists, where the stored edge has a value
 module _ (w table : List ℕ) (h : Shape) {x : PassEdge} {i : StoredEdge} (e : EdgeIs x i) where
-  flag_is : x.num.has_value_lem ≡ i.has_value_lem
-  flag_is = ap (λ (y : PassEdge). y.num.has_value_lem) e.is
+  flag_is : x.num.has_value ≡ i.has_value
+  flag_is = ap (λ (y : PassEdge). y.num.has_value) e.is
 
-  both_signs : i.has_value_lem ≡ true → signs_of (table_of table h) w (edge_of w table i) ≡ signed w 45 (edge_of w table i) (list_at table h.minus) ++ signed w 43 (edge_of w table i) (list_at table h.plus)
+  both_signs : i.has_value ≡ true → signs_of (table_of table h) w (edge_of w table i) ≡ signed w 45 (edge_of w table i) (list_at table h.minus) ++ signed w 43 (edge_of w table i) (list_at table h.plus)
   unfolding signs_of table_of edge_of
   both_signs t = rw t
 
-  no_signs : i.has_value_lem ≡ false → signs_of (table_of table h) w (edge_of w table i) ≡ []
+  no_signs : i.has_value ≡ false → signs_of (table_of table h) w (edge_of w table i) ≡ []
   unfolding signs_of edge_of
   no_signs t = rw t
 
-  pub both_holds : x.num.has_value_lem ≡ true → {v : List ℕ} {l : Lattice} (es : List Edge)
+  pub both_holds : x.num.has_value ≡ true → {v : List ℕ} {l : Lattice} (es : List Edge)
       → Holds v l (add_all (add_all es (signed w 45 (edge_of w table i) (list_at table h.minus))) (signed w 43 (edge_of w table i) (list_at table h.plus)))
       → Holds v l (add_all es (signs_of (table_of table h) w (edge_of w table i)))
   both_holds t es k = rw (both_signs (sym flag_is ∙ t), add_all_append es (signed w 45 (edge_of w table i) (list_at table h.minus)) (signed w 43 (edge_of w table i) (list_at table h.plus))) k
 
-  pub none_holds : x.num.has_value_lem ≡ false → {v : List ℕ} {l : Lattice} (es : List Edge) → Holds v l es → Holds v l (add_all es (signs_of (table_of table h) w (edge_of w table i)))
+  pub none_holds : x.num.has_value ≡ false → {v : List ℕ} {l : Lattice} (es : List Edge) → Holds v l es → Holds v l (add_all es (signs_of (table_of table h) w (edge_of w table i)))
   unfolding add_all
   none_holds t es k = rw (no_signs (sym flag_is ∙ t)) k
 

@@ -44,7 +44,7 @@ fn add_edge_signs(
     if edge.start.0 == 0 {
         return lattice;
     }
-    if edge.num.has_value_lem {
+    if edge.num.has_value {
         let minus = crate::edges::add_signs_of(
             work,
             lattice,

@@ -53,7 +53,7 @@ value_or_zero false v h = sym (h refl)
 barred_is : {point : ℕ → Bool} (w t : List ℕ) (x : StoredEdge) → WellMade point w t x
     → barred (edge_of w t x) ≡ (eqb x.end (suc x.start) && (one_of barred_characters (between w x.start x.end) || ltb 1000 x.value))
 unfolding barred edge_of
-barred_is w t x m = rw (value_or_zero x.has_value_lem x.value m.value_absent)
+barred_is w t x m = rw (value_or_zero x.has_value x.value m.value_absent)
 
 module _ {line table : List ℕ} {edge : PassEdge} {stored : StoredEdge} (q : StoredIs line table edge stored) where
   start_is : edge.start.0 ≡ stored.start

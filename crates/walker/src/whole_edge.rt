@@ -17,7 +17,7 @@ pub enum WholeEdge {
 }
 
 // The fields of a regular edge: it has none.
-fn no_fields_lem(map: u16) -> NumFields
+fn no_fields(map: u16) -> NumFields
     ensures { result ≡ no_fields map }
 {
     let none = Part {
@@ -46,7 +46,7 @@ fn fields_behind(map: u16, s: &[u8], at: usize) -> NumFields
     if edge::bit(map, bits::NUMERIC) {
         edge::numeric::fields_at(map, s, at)
     } else {
-        no_fields_lem(map)
+        no_fields(map)
     }
 }
 

@@ -24,7 +24,7 @@ returns c =
         end = omega arith;
         record_offset = omega arith;
         script_offset = omega arith;
-        script_len_lem = omega arith;
+        script_len = omega arith;
         decimals = omega arith;
       };
     }

@@ -15,7 +15,7 @@ use Rattle.pass_edge.specs.Grounded.{ScriptAt, Rooted, Grounded}
 
 module _ (t : List ℕ) where
   abbrev Script : StoredEdge → Type 0
-  Script x = x.has_script ≡ true → ScriptAt t x.script_offset x.script_len_lem
+  Script x = x.has_script ≡ true → ScriptAt t x.script_offset x.script_len
 
   -- ---- one joined stored edge
   counted_script : (p : Pass) (l x : StoredEdge) → Script x → Script (counted p l x)

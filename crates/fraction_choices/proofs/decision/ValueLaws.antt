@@ -60,8 +60,8 @@ module _ (s : List ℕ) (at : ℕ) {e : EdgeView} (head : e ≡ view_at s at) {n
     value_decimal bit-9 there = let z : stands 9 (map_at s at) ≡ true = sym (map_is 9) ∙ sym bit-9 ∙ there in rw (is_numeric_lem, z)
 
     module _ (there : not valued ≡ false) {counted : Bool} (bit-9 : counted ≡ stands 9 e.map) (uncounted : counted ≡ false) (whole : WholeValued (edge_at s at)) where
-      has_value_lem : stands 1 (map_at s at) ≡ true
-      has_value_lem = sym (map_is 1) ∙ sym bit-1 ∙ not-false valued there
+      has_value : stands 1 (map_at s at) ≡ true
+      has_value = sym (map_is 1) ∙ sym bit-1 ∙ not-false valued there
 
       no_count : stands 9 (map_at s at) ≡ false
       no_count = sym (map_is 9) ∙ sym bit-9 ∙ uncounted
@@ -72,17 +72,17 @@ module _ (s : List ℕ) (at : ℕ) {e : EdgeView} (head : e ≡ view_at s at) {n
 
       number_of : (v : ℕ) × (v ≤ TOP) × (bits_at ≡ f64_bits v)
       unfolding edge_at numeric_at bits_at
-      number_of = whole (numeric_at (map_at s at) s (head_end s at)) bits_at (rw is_numeric_lem) (rw no_count) (rw has_value_lem)
+      number_of = whole (numeric_at (map_at s at) s (head_end s at)) bits_at (rw is_numeric_lem) (rw no_count) (rw has_value)
 
       value_is : whole_value (edge_at s at) ≡ some number_of.0
       unfolding whole_value edge_at numeric_at bits_at
       value_is =
           let v = number_of in
-          rw (is_numeric_lem, has_value_lem, no_count) (ap some (ap (λ (b : ℕ). to_unsigned 64 (of_bits binary64 b)) v.2 ∙ ap (to_unsigned 64) (f64_bits_back v.0) ∙ of_nat-to_unsigned v.1))
+          rw (is_numeric_lem, has_value, no_count) (ap some (ap (λ (b : ℕ). to_unsigned 64 (of_bits binary64 b)) v.2 ∙ ap (to_unsigned 64) (f64_bits_back v.0) ∙ of_nat-to_unsigned v.1))
 
       value_stands : (fields_at (map_at s at) s (head_end s at)).value ≡ bits_at
       unfolding fields_at bits_at
-      value_stands = rw has_value_lem
+      value_stands = rw has_value
 
       pub value_read : {d : NumFields} → d ≡ fields_at e.map s e.fields.0 → Read s at d.value
       unfolding view_at

@@ -27,8 +27,8 @@ module _ (t c : List ℕ) (a b : ℕ) where
 
   pub fields_writable : (s : Script) → length t ≤ 300 → script_len s ≤ 60 → 60 ≤ length c → Writable t c [] (fraction_fields (length t) a b s)
   unfolding fraction_fields
-  fields_writable Absent h k r = record { numeric = refl; map = omega arith; orig = omega arith; script = λ p. omega arith; value_s = λ p. omega arith; orig_len = omega arith; script_len_lem = omega arith; value_s_len = omega arith }
-  fields_writable (Bytes k) h q r = record { numeric = refl; map = omega arith; orig = omega arith; script = λ p. omega arith; value_s = λ p. omega arith; orig_len = omega arith; script_len_lem = omega arith; value_s_len = omega arith }
+  fields_writable Absent h k r = record { numeric = refl; map = omega arith; orig = omega arith; script = λ p. omega arith; value_s = λ p. omega arith; orig_len = omega arith; script_len = omega arith; value_s_len = omega arith }
+  fields_writable (Bytes k) h q r = record { numeric = refl; map = omega arith; orig = omega arith; script = λ p. omega arith; value_s = λ p. omega arith; orig_len = omega arith; script_len = omega arith; value_s_len = omega arith }
 
   pub fields_short : (s : Script) → script_len s ≤ 60 → (fraction_fields (length t) a b s).orig.len + (fraction_fields (length t) a b s).script.len + (fraction_fields (length t) a b s).value_s.len ≤ length t + 60
   unfolding fraction_fields

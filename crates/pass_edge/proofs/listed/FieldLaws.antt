@@ -108,11 +108,11 @@ count_of (suc k) = some (suc k)
 unfoldable pub numeric_in : List ℕ → List ℕ → StoredEdge → Numeric
 numeric_in w t x = record {
   orig = between w x.start x.end;
-  value = Option.map (value_bits x.decimals) (optionally x.has_value_lem x.value);
+  value = Option.map (value_bits x.decimals) (optionally x.has_value x.value);
   fraction = stored_fraction t (kind_number x.kind) x.record_offset;
   base = optionally x.has_base x.base;
   mult = Option.map f64_bits (optionally x.has_mult x.mult);
-  script = optionally x.has_script (part t x.script_offset x.script_len_lem);
+  script = optionally x.has_script (part t x.script_offset x.script_len);
   large = x.large_power;
   active = true;
   value_s = cond (eqb (kind_number x.kind) 1) (some (row_text x)) none;
@@ -130,7 +130,7 @@ listed_is w t x = listed_by_lem x.decimals (edge_of w t x)
 
 -- ---- the stored edge's map
 -- it is the sum of what the fields that are there are worth
-pub map_summed : (e : PassEdge) (f : Bool) {v r b m s l d c : ℕ} → v ≡ 2 * flag e.num.has_value_lem → r ≡ 4 * flag f → b ≡ 8 * flag e.num.has_base → m ≡ 16 * flag e.num.has_mult
+pub map_summed : (e : PassEdge) (f : Bool) {v r b m s l d c : ℕ} → v ≡ 2 * flag e.num.has_value → r ≡ 4 * flag f → b ≡ 8 * flag e.num.has_base → m ≡ 16 * flag e.num.has_mult
     → s ≡ 32 * flag e.num.has_script → l ≡ 64 * flag e.num.large_power → d ≡ 256 * flag (eqb (kind_number e.kind) 1)
     → c ≡ 512 * flag (ltb 0 e.num.decimals) → 129 + v + r + b + m + s + l + d + c ≡ stored_map e f
 map_summed e f hv hr hb hm hs hl hd hc = rw (hv, hr, hb, hm, hs, hl, hd, hc)
@@ -157,13 +157,13 @@ module _ (w t : List ℕ) (x : StoredEdge) (f : Fraction) (h : FractionIs f (sto
   map_listed =
       let fraction : there (stored_fraction t (kind_number x.kind) x.record_offset) ≡ flag f.there = ap there (sym h) ∙ there_only f.there (f.numerator, f.denominator) in
       rw (
-        there_map (value_bits x.decimals) (optionally x.has_value_lem x.value),
-        there_only x.has_value_lem x.value,
+        there_map (value_bits x.decimals) (optionally x.has_value x.value),
+        there_only x.has_value x.value,
         fraction,
         there_only x.has_base x.base,
         there_map f64_bits (optionally x.has_mult x.mult),
         there_only x.has_mult x.mult,
-        there_only x.has_script (part t x.script_offset x.script_len_lem),
+        there_only x.has_script (part t x.script_offset x.script_len),
         there_digits (eqb (kind_number x.kind) 1) (row_text x),
         there_count x.decimals,
       )
@@ -173,7 +173,7 @@ pub map_small : (e : PassEdge) (f : Bool) → stored_map e f < 1024
 map_small e f =
     omega (
       arith,
-      flag_le e.num.has_value_lem,
+      flag_le e.num.has_value,
       flag_le f,
       flag_le e.num.has_base,
       flag_le e.num.has_mult,
@@ -219,11 +219,11 @@ module _ (line offs t : List ℕ) (x : StoredEdge) (f : Fraction) {point : ℕ �
   fields_are = record {
     map = map_listed (chars line) t x f h;
     orig = part_places line offs x.start x.end o (omega (arith, sound.made.ordered)) sound.made.inside;
-    value = λ a e. value_bits_lem x.decimals x.value ∙ map_told (value_bits x.decimals) x.has_value_lem x.value a e;
+    value = λ a e. value_bits_lem x.decimals x.value ∙ map_told (value_bits x.decimals) x.has_value x.value a e;
     fraction = λ a e. only_told f.there (f.numerator, f.denominator) a (h ∙ e);
     base = only_told x.has_base x.base;
     mult = map_told f64_bits x.has_mult x.mult;
-    script = script_told t x.has_script x.script_offset x.script_len_lem;
+    script = script_told t x.has_script x.script_offset x.script_len;
     value_s = λ a e. digits_told (eqb (kind_number x.kind) 1) txt (row_text x) a (λ k. is ∙ txt_of_digits (chars line) t x k) e;
     decimals = count_told x.decimals;
   }
@@ -250,8 +250,8 @@ module _ (line offs t : List ℕ) (x : StoredEdge) (f : Fraction) {point : ℕ �
   txt_len : length txt ≤ 256
   txt_len = rw is (txt_short (chars line) t x sound few)
 
-  script_len_lem : (part_or x.has_script x.script_offset x.script_len_lem).len ≤ 60
-  script_len_lem = part_or_len x.has_script x.script_offset x.script_len_lem 60 (λ k. (sound.rooted.script k).short)
+  script_len : (part_or x.has_script x.script_offset x.script_len).len ≤ 60
+  script_len = part_or_len x.has_script x.script_offset x.script_len 60 (λ k. (sound.rooted.script k).short)
 
   value_s_len : (part_or (eqb (kind_number x.kind) 1) 0 (length txt)).len ≤ 256
   value_s_len = part_or_len (eqb (kind_number x.kind) 1) 0 (length txt) 256 (λ k. txt_len)
@@ -264,16 +264,16 @@ module _ (line offs t : List ℕ) (x : StoredEdge) (f : Fraction) {point : ℕ �
         numeric = eq-eqb (bit 0 d.map) 1 (bits_of d (numeric_in (chars line) t x) (map_listed (chars line) t x f h)).numeric;
         map = map_small (pass_edge x) f.there;
         orig = omega (arith, orig_spans.rises, orig_spans.within);
-        script = λ k. part_or_in x.has_script x.script_offset x.script_len_lem (length t) (λ b. (sound.rooted.script b).within);
+        script = λ k. part_or_in x.has_script x.script_offset x.script_len (length t) (λ b. (sound.rooted.script b).within);
         value_s = λ k. part_or_in (eqb (kind_number x.kind) 1) 0 (length txt) (length txt) (λ b. omega arith);
         orig_len = omega (arith, orig_len);
-        script_len_lem = omega (arith, script_len_lem);
+        script_len = omega (arith, script_len);
         value_s_len = omega (arith, value_s_len);
       }
 
   room_stored_edge : (ty : Text) → length ty ≤ 60 → Room ty txt (stored_fields offs (pass_edge x) f (length txt))
   unfolding stored_fields fields_of
-  room_stored_edge ty l = record { all = omega (arith, l, txt_len, orig_len, script_len_lem, value_s_len) }
+  room_stored_edge ty l = record { all = omega (arith, l, txt_len, orig_len, script_len, value_s_len) }
 
 -- ---- the same of the code's edge e
 module _ (line offs t : List ℕ) (e : PassEdge) (x : StoredEdge) (h : StoredIs line t e x) (o : Offsets line offs) (few : length (chars line) ≤ 256) where

@@ -67,11 +67,11 @@ module _ {point : ℕ → Bool} (w t : List ℕ) (x : StoredEdge) (s : Grounded 
   orig_short : length (between w x.start x.end) ≤ 1024
   orig_short = omega (arith, between_short w x.start x.end, s.made.inside)
 
-  script_short : (a : Text) → optionally x.has_script (part t x.script_offset x.script_len_lem) ≡ some a → length a ≤ 60
+  script_short : (a : Text) → optionally x.has_script (part t x.script_offset x.script_len) ≡ some a → length a ≤ 60
   script_short a e =
-      let c : ScriptAt t x.script_offset x.script_len_lem = s.rooted.script (only_on x.has_script (part t x.script_offset x.script_len_lem) a e) in
-      let l : length (part t x.script_offset x.script_len_lem) ≡ x.script_len_lem = length_part t x.script_offset x.script_len_lem c.within in
-      let u : part t x.script_offset x.script_len_lem ≡ a = only_told x.has_script (part t x.script_offset x.script_len_lem) a e in
+      let c : ScriptAt t x.script_offset x.script_len = s.rooted.script (only_on x.has_script (part t x.script_offset x.script_len) a e) in
+      let l : length (part t x.script_offset x.script_len) ≡ x.script_len = length_part t x.script_offset x.script_len c.within in
+      let u : part t x.script_offset x.script_len ≡ a = only_told x.has_script (part t x.script_offset x.script_len) a e in
       omega (arith, ap length u, c.short)
 
   digits_short : (a : Text) → optionally (eqb (kind_number x.kind) 1) (row_text x) ≡ some a → length a ≤ 256
@@ -81,7 +81,7 @@ module _ {point : ℕ → Bool} (w t : List ℕ) (x : StoredEdge) (s : Grounded 
   unfolding numeric_in
   numeric_fits = record {
     orig = omega (arith, orig_short);
-    value = λ v e. rw (sym (map_told (value_bits x.decimals) x.has_value_lem x.value v e)) (bits_fit x.decimals x.value);
+    value = λ v e. rw (sym (map_told (value_bits x.decimals) x.has_value x.value v e)) (bits_fit x.decimals x.value);
     fraction = λ p e. let f = fraction_at_lem (fraction_fits w t x s) e in (omega (arith, f.upper), omega (arith, f.lower));
     base = λ v e. omega (arith, only_told x.has_base x.base v e, s.small.base);
     mult = λ v e. rw (sym (map_told f64_bits x.has_mult x.mult v e)) (f64_bits_fit x.mult);
@@ -98,7 +98,7 @@ module _ {point : ℕ → Bool} (w t : List ℕ) (x : StoredEdge) (s : Grounded 
         each_number x.has_base x.base s.small.base,
         each_count x.decimals s.made.few_decimals,
         between_formed w x.start x.end scalars,
-        each_text x.has_script (part t x.script_offset x.script_len_lem) (λ b. (s.rooted.script b).formed),
+        each_text x.has_script (part t x.script_offset x.script_len) (λ b. (s.rooted.script b).formed),
         each_text (eqb (kind_number x.kind) 1) (row_text x) (λ b. row_formed w t x s),
       )
 
@@ -135,7 +135,7 @@ module _ {point : ℕ → Bool} (w t : List ℕ) (x : StoredEdge) (s : Grounded 
   unfolding numeric_in
   listed_value b d e =
       let z : x.decimals ≡ 0 = no_count x.decimals d in
-      (x.value, s.small.value, sym (map_told (value_bits x.decimals) x.has_value_lem x.value b e) ∙ ap (λ (k : ℕ). value_bits k x.value) z)
+      (x.value, s.small.value, sym (map_told (value_bits x.decimals) x.has_value x.value b e) ∙ ap (λ (k : ℕ). value_bits k x.value) z)
 
   pub stored_edge_call : CallEdge (length w) (listed_of w t x)
   stored_edge_call = subst (CallEdge (length w)) (sym (listed_is w t x)) (record {

@@ -222,14 +222,14 @@ module _ (point : ℕ → Bool) (w t : List ℕ) (scalars : Scalars w) (points :
       let value = and-true (same (edge_of w t x).type digit_type && one_place (edge_of w t x) && has (edge_of w t x).value) (leb (or_zero (edge_of w t x).value) 9) all in
       let there = and-true (same (edge_of w t x).type digit_type && one_place (edge_of w t x)) (has (edge_of w t x).value) value.0 in
       let place = and-true (same (edge_of w t x).type digit_type) (one_place (edge_of w t x)) there.0 in
-      (eqb-true x.end (suc x.start) place.1, rw (← (zero_or x.has_value_lem x.value m.value_absent)) (leb-true _ 9 value.1))
+      (eqb-true x.end (suc x.start) place.1, rw (← (zero_or x.has_value x.value m.value_absent)) (leb-true _ 9 value.1))
 
   -- ---- the rules
   module _ (l e : StoredEdge) (x : Made l) (y : Made e) where
     retags_agree : passes.retags (edge_of w t l) (edge_of w t e) ≡ retags l e
     unfolding passes.retags retags edge_of
     retags_agree =
-        rw (x.script, zero_or l.has_base l.base x.base_absent, zero_or e.has_value_lem e.value y.value_absent, add-one e.start)
+        rw (x.script, zero_or l.has_base l.base x.base_absent, zero_or e.has_value e.value y.value_absent, add-one e.start)
         (power_last l.cjk (leb 1000 l.base) (power_of_ten l.base) (eqb e.end (suc e.start)) (leb 1 e.value) (leb e.value 9))
 
   module _ (c : StoredChain) (e : StoredEdge) (x : Made c.edge) (y : Made e) where
@@ -239,27 +239,27 @@ module _ (point : ℕ → Bool) (w t : List ℕ) (scalars : Scalars w) (points :
 
     g1_agrees : passes.g1_rule (chain_of w t c) (edge_of w t e) ≡ g1_rule c (counted G1 c.edge e)
     unfolding passes.g1_rule g1_rule counted chain_of edge_of
-    g1_agrees = rw (zero_or c.edge.has_base c.edge.base x.base_absent, zero_or c.edge.has_value_lem c.edge.value x.value_absent, zero_or e.has_base e.base y.base_absent)
+    g1_agrees = rw (zero_or c.edge.has_base c.edge.base x.base_absent, zero_or c.edge.has_value c.edge.value x.value_absent, zero_or e.has_base e.base y.base_absent)
 
     g2_agrees : passes.g2_rule (chain_of w t c) (edge_of w t e) ≡ g2_rule c (counted G2 c.edge e)
     unfolding passes.g2_rule g2_rule counted chain_of edge_of
     g2_agrees =
-        rw (y.gap, has_there c.edge.has_value_lem c.edge.value, exceeds_there c.has_near e.has_value_lem e.has_base c.near e.value e.base e.gap)
+        rw (y.gap, has_there c.edge.has_value c.edge.value, exceeds_there c.has_near e.has_value e.has_base c.near e.value e.base e.gap)
 
     g3_agrees : passes.g3_rule (chain_of w t c) (edge_of w t e) ≡ g3_rule c (counted G3 c.edge e)
     unfolding passes.g3_rule g3_rule counted chain_of edge_of
-    g3_agrees = rw (has_there c.edge.has_value_lem c.edge.value, has_there e.has_value_lem e.value)
+    g3_agrees = rw (has_there c.edge.has_value c.edge.value, has_there e.has_value e.value)
 
     g4_agrees : passes.g4_rule (chain_of w t c) (edge_of w t e) ≡ g4_rule c (counted G4 c.edge e)
     unfolding passes.g4_rule passes.counted_value passes.counted_base g4_rule counted with_numbers chain_of edge_of
     g4_agrees =
-        rw (retags_agree c.edge e x y, has_there c.edge.has_value_lem c.edge.value, zero_or c.edge.has_base c.edge.base x.base_absent, zero_or e.has_value_lem e.value y.value_absent)
+        rw (retags_agree c.edge e x y, has_there c.edge.has_value c.edge.value, zero_or c.edge.has_base c.edge.base x.base_absent, zero_or e.has_value e.value y.value_absent)
         (go (retags c.edge e))
       where
-        go : (b : Bool) → (c.edge.has_value_lem && under c.edge.base (cond b (some (e.value * (c.edge.base / 10))) (optionally e.has_value_lem e.value)) (cond b (some (c.edge.base / 10)) (optionally e.has_base e.base)))
+        go : (b : Bool) → (c.edge.has_value && under c.edge.base (cond b (some (e.value * (c.edge.base / 10))) (optionally e.has_value e.value)) (cond b (some (c.edge.base / 10)) (optionally e.has_base e.base)))
             ≡ g4_rule c (cond b (with_numbers e (e.value * (c.edge.base / 10)) (c.edge.base / 10)) e)
-        go true = under_there c.edge.has_value_lem true true c.edge.base (e.value * (c.edge.base / 10)) (c.edge.base / 10)
-        go false = under_there c.edge.has_value_lem e.has_value_lem e.has_base c.edge.base e.value e.base
+        go true = under_there c.edge.has_value true true c.edge.base (e.value * (c.edge.base / 10)) (c.edge.base / 10)
+        go false = under_there c.edge.has_value e.has_value e.has_base c.edge.base e.value e.base
 
     rule_agrees : (p : Pass) → passes.rule p (chain_of w t c) (edge_of w t e) ≡ rule p c (counted p c.edge e)
     rule_agrees D1 = d1_agrees
@@ -299,20 +299,20 @@ module _ (point : ℕ → Bool) (w t : List ℕ) (scalars : Scalars w) (points :
       → between w l.start l.end ++ between w e.start e.end ≡ between w l.start e.end
       → passes.joined D1 (edge_of w t l) (edge_of w t e) ≡ edge_of w t (over D1 l (counted D1 l e) (10 * l.value + e.value) k)
   unfolding passes.joined passes.over_digits over counted with_numbers edge_of
-  over_digits_lem l e k x y txt o = rw (txt, o, zero_or l.has_value_lem l.value x.value_absent, zero_or e.has_value_lem e.value y.value_absent)
+  over_digits_lem l e k x y txt o = rw (txt, o, zero_or l.has_value l.value x.value_absent, zero_or e.has_value e.value y.value_absent)
 
   over_point_lem : (l e : StoredEdge) (k : ℕ) → Made l → Made e → ((edge_of w t l).txt ++ (point_character ∷ [])) ++ (edge_of w t e).txt ≡ digits_text k (e.end - l.start) (10 * l.value + e.value)
       → (between w l.start l.end ++ (point_character ∷ [])) ++ between w e.start e.end ≡ between w l.start e.end
       → passes.joined D1 (with_point (edge_of w t l)) (edge_of w t e) ≡ edge_of w t (over D1 l (counted D1 l e) (10 * l.value + e.value) k)
   unfolding passes.joined passes.over_digits with_point over counted with_numbers edge_of
-  over_point_lem l e k x y txt o = rw (txt, o, zero_or l.has_value_lem l.value x.value_absent, zero_or e.has_value_lem e.value y.value_absent)
+  over_point_lem l e k x y txt o = rw (txt, o, zero_or l.has_value l.value x.value_absent, zero_or e.has_value e.value y.value_absent)
 
   module _ (l e : StoredEdge) (x : Made l) (y : Made e) (digit : e.digit ≡ true) (row : (edge_of w t l).txt ≡ row_text l) where
     one_place_lem : e.end ≡ suc e.start
     one_place_lem = (digit_is e y digit).0
 
     digit_txt : (edge_of w t e).txt ≡ padded 1 e.value
-    digit_txt = let a : e.end - e.start ≡ 1 = omega (arith, one_place_lem) in y.digit_text_lem digit ∙ rw a
+    digit_txt = let a : e.end - e.start ≡ 1 = omega (arith, one_place_lem) in y.digit_text digit ∙ rw a
 
     touching_digits : l.end ≡ e.start → passes.joined D1 (edge_of w t l) (edge_of w t e) ≡ edge_of w t (over D1 l (counted D1 l e) (10 * l.value + e.value) (one_more l.decimals))
     touching_digits touch =
@@ -338,26 +338,26 @@ module _ (point : ℕ → Bool) (w t : List ℕ) (scalars : Scalars w) (points :
 
     g1_joined : passes.joined G1 (edge_of w t l) (edge_of w t e) ≡ edge_of w t (over G1 l (counted G1 l e) (l.value * e.value) 0)
     unfolding passes.joined counted edge_of
-    g1_joined = rw (zero_or l.has_value_lem l.value x.value_absent, zero_or e.has_value_lem e.value y.value_absent) (over_agrees G1 l e (l.value * e.value) refl orig)
+    g1_joined = rw (zero_or l.has_value l.value x.value_absent, zero_or e.has_value e.value y.value_absent) (over_agrees G1 l e (l.value * e.value) refl orig)
 
     g2_joined : passes.joined G2 (edge_of w t l) (edge_of w t e) ≡ edge_of w t (over G2 l (counted G2 l e) (l.value + e.value) 0)
     unfolding passes.joined counted edge_of
-    g2_joined = rw (zero_or l.has_value_lem l.value x.value_absent, zero_or e.has_value_lem e.value y.value_absent) (over_agrees G2 l e (l.value + e.value) refl orig)
+    g2_joined = rw (zero_or l.has_value l.value x.value_absent, zero_or e.has_value e.value y.value_absent) (over_agrees G2 l e (l.value + e.value) refl orig)
 
     g3_joined : passes.joined G3 (edge_of w t l) (edge_of w t e) ≡ edge_of w t (over G3 l (counted G3 l e) (l.value * e.value) 0)
     unfolding passes.joined counted edge_of
-    g3_joined = rw (zero_or l.has_value_lem l.value x.value_absent, zero_or e.has_value_lem e.value y.value_absent) (over_agrees G3 l e (l.value * e.value) refl orig)
+    g3_joined = rw (zero_or l.has_value l.value x.value_absent, zero_or e.has_value e.value y.value_absent) (over_agrees G3 l e (l.value * e.value) refl orig)
 
     g4_joined : passes.joined G4 (edge_of w t l) (edge_of w t e) ≡ edge_of w t (over G4 l (counted G4 l e) (l.value + (counted G4 l e).value) 0)
     unfolding passes.joined passes.over passes.counted_value passes.counted_base counted with_numbers edge_of
     g4_joined =
-        rw (retags_agree l e x y, zero_or l.has_value_lem l.value x.value_absent, zero_or l.has_base l.base x.base_absent, zero_or e.has_value_lem e.value y.value_absent)
+        rw (retags_agree l e x y, zero_or l.has_value l.value x.value_absent, zero_or l.has_base l.base x.base_absent, zero_or e.has_value e.value y.value_absent)
         (go (retags l e))
       where
-        go : (b : Bool) → passes.over G4 (edge_of w t l) (edge_of w t e) (l.value + or_zero (cond b (some (e.value * (l.base / 10))) (optionally e.has_value_lem e.value))) (cond b (some (l.base / 10)) (optionally e.has_base e.base)) false
+        go : (b : Bool) → passes.over G4 (edge_of w t l) (edge_of w t e) (l.value + or_zero (cond b (some (e.value * (l.base / 10))) (optionally e.has_value e.value))) (cond b (some (l.base / 10)) (optionally e.has_base e.base)) false
             ≡ edge_of w t (over G4 l (cond b (with_numbers e (e.value * (l.base / 10)) (l.base / 10)) e) (l.value + (cond b (with_numbers e (e.value * (l.base / 10)) (l.base / 10)) e).value) 0)
         go true = over_agrees G4 l (with_numbers e (e.value * (l.base / 10)) (l.base / 10)) (l.value + e.value * (l.base / 10)) refl orig
-        go false = rw (zero_or e.has_value_lem e.value y.value_absent) (over_agrees G4 l e (l.value + e.value) refl orig)
+        go false = rw (zero_or e.has_value e.value y.value_absent) (over_agrees G4 l e (l.value + e.value) refl orig)
 
   -- ---- a joined edge is well made
   -- an edge as it counts keeps what a joined edge takes from it
@@ -419,7 +419,7 @@ module _ (point : ℕ → Bool) (w t : List ℕ) (scalars : Scalars w) (points :
         digit = no_digit p l n v k;
         gap = no_gap (over p l n v k) (omega arith) (omega arith);
         script = over_script p l n v k ∙ rw (keeps.script, y.script, keeps.cjk);
-        digit_text_lem = λ h. absurd (true≢false (sym h));
+        digit_text = λ h. absurd (true≢false (sym h));
         digit_whole = λ h. absurd (true≢false (sym h));
         few_decimals = behind.0;
         decimals_inside = λ h. rw c (behind.1 h);
@@ -535,11 +535,11 @@ module _ (point : ℕ → Bool) (w t : List ℕ) (scalars : Scalars w) (points :
     unfolding longer counted decimal_product edge_of
     product_joined D1 d m touch = absurd (true≢false (sym d))
     product_joined G1 d m touch =
-        rw (zero_or c.edge.has_value_lem c.edge.value m.value_absent, zero_or e.has_value_lem e.value y.value_absent)
+        rw (zero_or c.edge.has_value c.edge.value m.value_absent, zero_or e.has_value e.value y.value_absent)
         (over_agrees G1 c.edge e (c.edge.value * e.value / 10 ^ c.edge.decimals) refl (orig c.edge e m y touch))
     product_joined G2 d m touch = absurd (true≢false (sym d))
     product_joined G3 d m touch =
-        rw (zero_or c.edge.has_value_lem c.edge.value m.value_absent, zero_or e.has_value_lem e.value y.value_absent)
+        rw (zero_or c.edge.has_value c.edge.value m.value_absent, zero_or e.has_value e.value y.value_absent)
         (over_agrees G3 c.edge e (c.edge.value * e.value / 10 ^ c.edge.decimals) refl (orig c.edge e m y touch))
     product_joined G4 d m touch = absurd (true≢false (sym d))
 
@@ -550,11 +550,11 @@ module _ (point : ℕ → Bool) (w t : List ℕ) (scalars : Scalars w) (points :
     unfolding decimal_rule edge_of chain_of
     decimal_tests D1 n m = absurd (true≢false n)
     decimal_tests G1 n m =
-        rw (zero_or c.edge.has_value_lem c.edge.value m.value_absent, zero_or e.has_value_lem e.value y.value_absent, g1_agrees c e m y)
+        rw (zero_or c.edge.has_value c.edge.value m.value_absent, zero_or e.has_value e.value y.value_absent, g1_agrees c e m y)
         (and_three (g1_rule c (counted G1 c.edge e)) (leb (10 ^ c.edge.decimals) c.edge.value) (whole_product c.edge e))
     decimal_tests G2 n m = sym (and_right (g2_rule c (counted G2 c.edge e))).1
     decimal_tests G3 n m =
-        rw (zero_or c.edge.has_value_lem c.edge.value m.value_absent, zero_or e.has_value_lem e.value y.value_absent, g3_agrees c e m y)
+        rw (zero_or c.edge.has_value c.edge.value m.value_absent, zero_or e.has_value e.value y.value_absent, g3_agrees c e m y)
     decimal_tests G4 n m = sym (and_right (g4_rule c (counted G4 c.edge e))).1
 
     -- by the decimals of the edge itself
@@ -723,7 +723,7 @@ module _ (point : ℕ → Bool) (w t : List ℕ) (scalars : Scalars w) (points :
 
     begins_sound : (p : Pass) → Sound p (begin e)
     unfolding begin
-    begins_sound D1 = record { made = y; row = λ d. y.digit_text_lem d ∙ ap (λ (k : ℕ). digits_text k (e.end - e.start) e.value) (sym (y.digit_whole d)) }
+    begins_sound D1 = record { made = y; row = λ d. y.digit_text d ∙ ap (λ (k : ℕ). digits_text k (e.end - e.start) e.value) (sym (y.digit_whole d)) }
     begins_sound G1 = record { made = y; row = tt }
     begins_sound G2 = record { made = y; row = tt }
     begins_sound G3 = record { made = y; row = tt }
@@ -773,7 +773,7 @@ module _ (point : ℕ → Bool) (w t : List ℕ) (scalars : Scalars w) (points :
   pub above_map : (l : List StoredEdge) → Every Made l → edges.first_above (map (edge_of w t) l) ≡ first_above l
   unfolding edges.first_above first_above edge_of
   above_map [] nil = refl
-  above_map (x ∷ l) (cons m r) = rw (zero_or x.has_value_lem x.value m.value_absent, above_map l r)
+  above_map (x ∷ l) (cons m r) = rw (zero_or x.has_value x.value m.value_absent, above_map l r)
 
   module _ (p : Pass) (l : List StoredEdge) (made : Every Made l) where
     chains_of_agree : map (decimal_chain_of w t) (chains_of p l) ≡ decimal.chains_of point p (map (decimal_edge_of w t) l)

@@ -30,7 +30,7 @@ fields_at s at = record {
   base = le_at s (at + base_at) 8;
   mult = le_at s (at + mult_at) 8;
   script_offset = le_at s (at + script_at) 8;
-  script_len_lem = le_at s (at + script_len_at) 8;
+  script_len = le_at s (at + script_len_at) 8;
   has_value = bit (le_at s (at + map_at) 2) value_bit;
   has_base = bit (le_at s (at + map_at) 2) base_bit;
   has_mult = bit (le_at s (at + map_at) 2) mult_bit;
@@ -62,7 +62,7 @@ pub num_read : (s : List ℕ) (at : ℕ) {v k : Float} {m n b r a l : ℕ} → m
       value = v;
       base_multiplier = k;
       base = b;
-      has_value_lem = bit m value_bit;
+      has_value = bit m value_bit;
       has_base = bit m base_bit;
       has_mult = bit m mult_bit;
       has_script = bit m script_bit;
@@ -91,6 +91,6 @@ stored_at-fits s at bytes small =
       end = le_at-lt s (at + end_at) 2 bytes;
       record_offset = le_at-lt s (at + record_at) 8 bytes;
       script_offset = le_at-lt s (at + script_at) 8 bytes;
-      script_len_lem = le_at-lt s (at + script_len_at) 8 bytes;
+      script_len = le_at-lt s (at + script_len_at) 8 bytes;
       decimals = omega arith;
     })

@@ -28,7 +28,7 @@ module _ (s : List ℕ) {t u v w : List ℕ} (at : ℕ) where
 
   pub put_numbers : {y : List ℕ} (z : List ℕ) (x : StoredEdge) → t ≡ sets s (at + value_at) (bytes_of 8 x.value) → u ≡ sets t (at + base_at) (bytes_of 8 x.base)
       → v ≡ sets u (at + mult_at) (bytes_of 8 x.mult) → w ≡ sets v (at + record_at) (bytes_of 8 x.record_offset) → y ≡ sets w (at + script_at) (bytes_of 8 x.script_offset)
-      → z ≡ sets y (at + script_len_at) (bytes_of 8 x.script_len_lem) → z ≡ sets s (at + value_at) (num_bytes x)
+      → z ≡ sets y (at + script_len_at) (bytes_of 8 x.script_len) → z ≡ sets s (at + value_at) (num_bytes x)
   unfolding num_bytes
   put_numbers z x a b c d e f =
       put_field s (at + value_at) (at + base_at) 8 x.value _ (omega arith) a

@@ -23,7 +23,7 @@ use Rattle.pass_rules.specs.Chain.{pass_chain, ChainIs, answer}
 numbers_fit : (e : StoredEdge) (v b : ℕ) → Fits e → v ≤ TOP → b ≤ TOP → Fits (with_numbers e v b)
 unfolding with_numbers
 numbers_fit e v b f h k =
-    record { small = record { value = h; base = k; mult = f.small.mult }; start = f.start; end = f.end; record_offset = f.record_offset; script_offset = f.script_offset; script_len_lem = f.script_len_lem; decimals = f.decimals }
+    record { small = record { value = h; base = k; mult = f.small.mult }; start = f.start; end = f.end; record_offset = f.record_offset; script_offset = f.script_offset; script_len = f.script_len; decimals = f.decimals }
 
 -- only a digit is retagged
 retags_digit : (l e : StoredEdge) → retags l e ≡ true → e.value ≤ 9

@@ -45,7 +45,7 @@ module _ (c : StoredChain) (y : StoredEdge) where
   g2_needs : g2_rule c y ≡ true → (not c.edge.large_power && (ltb y.base c.near || y.gap)) ≡ true
   unfolding g2_rule
   g2_needs h =
-      let t = all_four c.edge.has_value_lem (not c.edge.large_power) (not y.large_power) _ h in
+      let t = all_four c.edge.has_value (not c.edge.large_power) (not y.large_power) _ h in
       rw t.1 (go (comparable c y) (ltb y.value c.near) t.3)
     where
       go : (a b : Bool) → ((a && (b && ltb y.base c.near)) || (not a && y.gap)) ≡ true → (ltb y.base c.near || y.gap) ≡ true
@@ -59,7 +59,7 @@ module _ (c : StoredChain) (y : StoredEdge) where
 
   g3_needs : g3_rule c y ≡ true → (not c.more && (not c.edge.large_power && y.large_power)) ≡ true
   unfolding g3_rule
-  g3_needs h = let t = all_five (not c.more) c.edge.has_value_lem (not c.edge.large_power) y.has_value_lem y.large_power h in rw (t.0, t.2, t.4)
+  g3_needs h = let t = all_five (not c.more) c.edge.has_value (not c.edge.large_power) y.has_value y.large_power h in rw (t.0, t.2, t.4)
 
   retags_thousand : retags c.edge y ≡ true → leb 1000 c.edge.base ≡ true
   unfolding retags
@@ -72,10 +72,10 @@ module _ (c : StoredChain) (y : StoredEdge) where
   unfolding g4_rule counted
   g4_needs h = go (retags c.edge y) refl h
     where
-      low : (e : StoredEdge) → (c.edge.has_value_lem && e.has_value_lem && e.has_base && ltb e.value c.edge.base && ltb e.base c.edge.base) ≡ true → ltb e.base c.edge.base ≡ true
-      low e k = (and-true (c.edge.has_value_lem && e.has_value_lem && e.has_base && ltb e.value c.edge.base) (ltb e.base c.edge.base) k).1
+      low : (e : StoredEdge) → (c.edge.has_value && e.has_value && e.has_base && ltb e.value c.edge.base && ltb e.base c.edge.base) ≡ true → ltb e.base c.edge.base ≡ true
+      low e k = (and-true (c.edge.has_value && e.has_value && e.has_base && ltb e.value c.edge.base) (ltb e.base c.edge.base) k).1
 
-      go : (b : Bool) → retags c.edge y ≡ b → (c.edge.has_value_lem && (cond b (retagged c.edge y) y).has_value_lem && (cond b (retagged c.edge y) y).has_base && ltb (cond b (retagged c.edge y) y).value c.edge.base && ltb (cond b (retagged c.edge y) y).base c.edge.base) ≡ true
+      go : (b : Bool) → retags c.edge y ≡ b → (c.edge.has_value && (cond b (retagged c.edge y) y).has_value && (cond b (retagged c.edge y) y).has_base && ltb (cond b (retagged c.edge y) y).value c.edge.base && ltb (cond b (retagged c.edge y) y).base c.edge.base) ≡ true
           → (leb 1000 c.edge.base || ltb y.base c.edge.base) ≡ true
       go true t k = or_left _ _ (retags_thousand t)
       go false t k = or_right (leb 1000 c.edge.base) (ltb y.base c.edge.base) (low y k)

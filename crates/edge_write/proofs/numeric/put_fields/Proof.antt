@@ -29,7 +29,7 @@ put-part-if-requires c κs =
     let q = c.before.before.before.before.before.before.before.before.before.before.before.before.before.requires in
     let part = c.before.before.before.before.before.before.before.put-part in
     let numbers = c.before.before.before.put-numbers in
-    (script_bit_lem, kept_room (script_room _ _ _ q.0 part.ensures.0 numbers.ensures.0) (numbers.auto.0 ∙ part.auto.0), q.1.script_len_lem, q.1.script)
+    (script_bit_lem, kept_room (script_room _ _ _ q.0 part.ensures.0 numbers.ensures.0) (numbers.auto.0 ∙ part.auto.0), q.1.script_len, q.1.script)
 
 put-part-if-requires-2 : tie.Need-put-part-if-requires-2
 put-part-if-requires-2 c κs =

@@ -19,13 +19,13 @@ right_is e y q = ap (λ (k : PassEdge). k.num.value) q.is
 
 -- what is asked of fields together
 module _ {c : Chain} {e : PassEdge} {x : StoredChain} {y : StoredEdge} (p : ChainIs c x) (q : EdgeIs e y) where
-  plain_is : c.edge.num.has_value_lem && not c.edge.num.large_power && not e.num.large_power ≡ x.edge.has_value_lem && not x.edge.large_power && not y.large_power
+  plain_is : c.edge.num.has_value && not c.edge.num.large_power && not e.num.large_power ≡ x.edge.has_value && not x.edge.large_power && not y.large_power
   plain_is = rw (p.is, q.is)
 
-  both_is : c.has_near && e.num.has_value_lem && e.num.has_base ≡ comparable x y
+  both_is : c.has_near && e.num.has_value && e.num.has_base ≡ comparable x y
   both_is = rw (p.is, q.is)
 
-  there_is : c.edge.num.has_value_lem && e.num.has_value_lem && e.num.has_base ≡ x.edge.has_value_lem && y.has_value_lem && y.has_base
+  there_is : c.edge.num.has_value && e.num.has_value && e.num.has_base ≡ x.edge.has_value && y.has_value && y.has_base
   there_is = rw (p.is, q.is)
 
 exact-u64-requires : tie.Need-exact-u64-requires
@@ -78,7 +78,7 @@ returns-3 c x y p q =
     rw told.enum-told3.given.1 (c.g2-rule.ensures x y (plain_is p q) (both_is p q) (ap (λ (k : Chain). k.near) p.is) value (ap (λ (k : PassEdge). k.num.base) q.is) (ap (λ (k : PassEdge). k.num.gap) q.is))
 
 returns-4 : tie.Need-returns-4
-returns-4 c x y p q = rw c.before.enum-told4.given.1 (c.g3-rule.ensures x y (ap (λ (k : Chain). k.more) p.is) (ap (λ (k : Chain). k.edge.num.has_value_lem) p.is) (ap (λ (k : Chain). k.edge.num.large_power) p.is) (ap (λ (k : PassEdge). k.num.has_value_lem) q.is) (ap (λ (k : PassEdge). k.num.large_power) q.is))
+returns-4 c x y p q = rw c.before.enum-told4.given.1 (c.g3-rule.ensures x y (ap (λ (k : Chain). k.more) p.is) (ap (λ (k : Chain). k.edge.num.has_value) p.is) (ap (λ (k : Chain). k.edge.num.large_power) p.is) (ap (λ (k : PassEdge). k.num.has_value) q.is) (ap (λ (k : PassEdge). k.num.large_power) q.is))
 
 returns-5 : tie.Need-returns-5
 returns-5 c x y p q =
