@@ -1,4 +1,6 @@
 // What the call answers, 01's numbers of its refusals (01, the table of refusals), and what C is told of an answer.
+#![tactic(auto)]
+
 pub mod reading; // reading.rt: the same of the calls that read a listing
 
 ghost use Rattle.std.specs.Prelude.{◌≡◌};
@@ -7,7 +9,7 @@ ghost use Rattle.answers.specs.Answers.{refusal_told, answer_of, told};
 use text::{Offset, Place};
 
 // A refusal of the call: 1 to 8 of 01.
-#[derive(Drop)]
+#[derive(Clone, Copy)]
 pub enum Refusal {
     ShortWork,
     NotUtf8(Offset),
@@ -20,14 +22,14 @@ pub enum Refusal {
 }
 
 // What the call answers: the length of the listing in the output, or a refusal.
-#[derive(Drop)]
+#[derive(Clone, Copy)]
 pub enum Answer {
     Listing(usize),
     Refused(Refusal),
 }
 
 // What C is told of an answer: a status, 0 or the refusal's number, and the number that goes with it.
-#[derive(Drop)]
+#[derive(Clone, Copy)]
 pub struct CStatus {
     pub status: u32,
     pub at: u64,

@@ -6,7 +6,7 @@ use crate::CStatus;
 use paths::{EdgeAnswer, Found, PathAnswer, ReadRefusal, Shown};
 
 // What C is told of a text shown: its status, offset and length, and 1 where it is a part of the listing.
-#[derive(Drop)]
+#[derive(Clone, Copy)]
 pub struct CText {
     pub status: u32,
     pub at: u64,

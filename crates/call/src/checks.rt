@@ -9,7 +9,7 @@ use table::shape::{BAD_LAYOUT, Shape, TableCheck};
 use text::{LineCheck, Offset};
 
 // What the checks find: so many characters, the table's shape and so many given edges, or a refusal.
-#[derive(Drop)]
+#[derive(Clone, Copy)]
 pub enum CallCheck {
     Accepted(usize, Shape, usize),
     Refused(Refusal),

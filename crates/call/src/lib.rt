@@ -1,5 +1,7 @@
 // The whole call, `add_numbers` (01, "What a call is lent", "The rest of the call"): the checks in their order, then the stages. `add_numbers_without_singles` (02, S-12) is the
 // same with one stage more, `add_numbers_with_decimals` (02, S-13) the same after passes that join decimals.
+#![tactic(auto)]
+
 pub mod checks; // checks.rt: the checks 2 to 6
 pub mod last_stages; // last_stages.rt: the stages after the passes, in turn
 pub mod stages; // stages.rt: all stages, up to the finished lattice

@@ -18,7 +18,7 @@ use text::Place;
 use text::check::PLACES;
 
 // The calls: 01's, the one in which some singles may not stand (02, S-12), and the one with decimals (02, S-13).
-#[derive(Drop)]
+#[derive(Clone, Copy)]
 pub enum CallKind {
     First,
     WithoutSingles,
@@ -26,7 +26,7 @@ pub enum CallKind {
 }
 
 // What the stages answer: refusal 7's place, or the finished lattice.
-#[derive(Drop)]
+#[derive(Clone, Copy)]
 pub enum StagesAnswer {
     Above(Place),
     Made(Lattice),

@@ -1,4 +1,6 @@
 // The edge of one character in the pass list, from its record in the table. The definition is char_stored of specs/CharStored.antt.
+#![tactic(auto)]
+
 pub mod fraction; // fraction.rt: the fraction of its record
 pub mod add; // add.rt: a character added to the lattice
 

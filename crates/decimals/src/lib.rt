@@ -1,5 +1,7 @@
 // A written decimal (02, S-13), as 1.5: its digits without the point, and how many of them stand after it, at most 15. Its f64, and its exact product with a
 // whole number. The definitions are in specs/Quotient.antt, and in `wide`, specs/Numbers.antt.
+#![tactic(auto)]
+
 ghost use Rattle.std.specs.Prelude.{◌≡◌, ℕ, ◌*◌, ◌^◌, ◌≤◌};
 ghost use Rattle.whole.specs.Whole.{TOP, of_nat};
 ghost use Rattle.wide.specs.Numbers.{exact_quotient};

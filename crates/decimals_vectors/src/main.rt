@@ -2,6 +2,8 @@
 // hexadecimal, the bytes of the output and those of the work space less one as 16-bit numbers, and what is to be seen, with a space before each. The edges of both answers go to
 // standard output with the same words, one row each: start, end, `+` for an active numeric edge, `.` for an inactive one, `=` for a regular one, the txt, and behind `/` the count
 // of decimals and the bits of the value. tools/model/decimals.py makes both files.
+#![tactic(auto)]
+
 ghost use Rattle.std.specs.Prelude.{◌≤◌};
 
 use answers::Answer;

@@ -1,5 +1,7 @@
 // Decimal digits: the 680 characters of general category Nd in Unicode 15.0 (UAX #44), 68 runs of ten. The word of the contract is in specs/Digits.antt;
 // specs/TextEnds.antt has those of `digits::ends`.
+#![tactic(auto)]
+
 pub mod ends; // ends.rt: whether a text begins or ends with one
 
 ghost use Rattle.std.specs.Prelude.{◌≡◌, ◌≤◌};
@@ -17,7 +19,7 @@ const STARTS: [u32; 68] = [
 ];
 
 // What the digit test answers: whether the character is a decimal digit, and how many starts it was compared with.
-#[derive(Drop)]
+#[derive(Clone, Copy)]
 pub struct DigitTest {
     pub digit: bool,
     pub compared: usize,

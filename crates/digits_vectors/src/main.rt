@@ -1,6 +1,8 @@
 // Counts the decimal digits among all code points, and the starts that the digit test compares with all of them (02, S-2); then says of each line of standard input whether
 // it begins and whether it ends with a digit, and how many starts are compared with its first character, or - where it has none.
 // The answers in `stdout` are those of UnicodeData.txt 15.0 (`tools/check_nd`); `stdin` has the characters on both sides of each run's limits, and lines that are ill-formed.
+#![tactic(auto)]
+
 ghost use Rattle.std.specs.Prelude.{◌≤◌};
 
 use libc::{STDIN_FILENO, STDOUT_FILENO};

@@ -1,5 +1,7 @@
 // Edges in their listing (01, "Listing"; the Rust's edge.rs): what is read of them and written, and the bits of a map. The modules read whatever stands there;
 // `edge_check` refuses, `edge_write` writes.
+#![tactic(auto)]
+
 pub mod bits; // bits.rt: the bits of an edge's map
 pub mod head; // head.rt: the head of an edge
 pub mod next; // next.rt: where the next edge begins
@@ -14,7 +16,7 @@ use fields::Part;
 use text::{Offset, Place};
 
 // The head of an edge: its map, its span, its type and txt, and where its numeric fields begin.
-#[derive(Drop)]
+#[derive(Clone, Copy)]
 pub struct EdgeView {
     pub map: u16,
     pub start: Place,
@@ -25,7 +27,7 @@ pub struct EdgeView {
 }
 
 // The fields of a numeric edge as they are listed, floats as their bits. Those whose bit of the map stands count.
-#[derive(Drop)]
+#[derive(Clone, Copy)]
 pub struct NumFields {
     pub map: u16,
     pub value: u64,
@@ -40,7 +42,7 @@ pub struct NumFields {
 }
 
 // The numeric data of an edge. Its floats are no NaN.
-#[derive(Drop)]
+#[derive(Clone, Copy)]
 pub struct NumData {
     pub map: u16,
     pub value: f64,
@@ -55,14 +57,14 @@ pub struct NumData {
 }
 
 // The answer of `edge_check`: so many edges, or refusal 6 and its offset.
-#[derive(Drop)]
+#[derive(Clone, Copy)]
 pub enum ListingCheck {
     Edges(usize),
     Refused(Offset),
 }
 
 // The answer of the writers of `edge_write::numeric`: the offset behind what was written, or that there is no room, the buffer then as it was.
-#[derive(Drop)]
+#[derive(Clone, Copy)]
 pub enum Written {
     To(usize),
     NoRoom,

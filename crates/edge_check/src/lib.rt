@@ -1,4 +1,6 @@
 // Refusal 6 (01, "Listing"): whether bytes are a listing over a line, and where they are not.
+#![tactic(auto)]
+
 pub mod sound; // sound.rt: whether one edge may stand
 
 ghost use Rattle.edge.specs.Check.{ListingAnswer};

@@ -1,5 +1,7 @@
 // Runs damaged listings through `edge_check::check_listing`: each field cut, each count too large, each fault of content, bytes left over, at the first and at a later edge.
 // `stdout` has the expected answers, worked out by hand from the scope: the offset of the faulty edge, of the edge that is missing, or of what is left over.
+#![tactic(auto)]
+
 ghost use Rattle.std.specs.Prelude.{◌<◌};
 
 fn say(word: &[u8], n: usize) {

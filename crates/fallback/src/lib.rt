@@ -1,4 +1,6 @@
 // The fallback (01, "The rest of the call"): an ASCII digit without a numeric edge on its place adds a regular edge there. The last stage of the call.
+#![tactic(auto)]
+
 ghost use Rattle.std.specs.Prelude.{◌≡◌, List, ◌≤◌, ◌<◌, length};
 ghost use Rattle.text.specs.Text.{chars};
 ghost use Rattle.text.specs.Line.{max_chars};

@@ -1,5 +1,7 @@
 // Replays fields (02, S-4). Each line of standard input is one; of each it writes "yes" and the value, "no", or "refused", the number and the offset or place.
 // `tools/model/numerals.py vectors S-4` writes the fields, and with the word `answers` the expected answers.
+#![tactic(auto)]
+
 use numeral::Field;
 use vectors::ROWS;
 

@@ -1,5 +1,7 @@
 // Little-endian numbers and copies of bytes in slices (01: "Multi-byte numbers are little-endian"): what stands at an offset is `le_at` of specs/Fields.antt;
 // and a part of a slice, whose bytes are `part_of` of specs/Part.antt.
+#![tactic(auto)]
+
 pub mod write; // write.rt: numbers written
 pub mod copy; // copy.rt: bytes copied in
 
@@ -9,7 +11,7 @@ ghost use Rattle.fields.specs.Fields.{le_at};
 use text::Offset;
 
 // A part of a slice (01: "a part of the listing .. a part of the line"): where it begins, and how many bytes it has.
-#[derive(Drop)]
+#[derive(Clone, Copy)]
 pub struct Part {
     pub at: Offset,
     pub len: usize,

@@ -30,7 +30,7 @@ use text::check::PLACES;
 use text::{Offset, Place};
 
 // The lattice, and how many stored edges the pass list has.
-#[derive(Drop)]
+#[derive(Clone, Copy)]
 pub struct CharsAnswer {
     pub lattice: Lattice,
     pub count: usize,

@@ -27,7 +27,7 @@ use text::Place;
 use text::check::{MAX_CHARS, PLACES};
 
 // What the passes give: the lattice with the joined edges and how many edges the list has then; or the start of the first joined edge above TOP.
-#[derive(Drop)]
+#[derive(Clone, Copy)]
 pub enum PassesAnswer {
     Added(Lattice, usize),
     Above(Place),

@@ -1,4 +1,6 @@
 // The stages of the call up to the five passes: the given edges, those of the characters, and those that the passes join.
+#![tactic(auto)]
+
 pub mod given; // given.rt: the given edges
 pub mod five_passes; // five_passes.rt: the five passes, and their joined edges
 pub mod chars; // chars.rt: the characters of the line

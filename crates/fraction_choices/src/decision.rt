@@ -18,7 +18,7 @@ use text::Place;
 use text::check::PLACES;
 
 // What the marker at a place leads to: nothing; "right%" from the values; "right/left"; the right neighbour's txt and "%", from the marker on.
-#[derive(Drop)]
+#[derive(Clone, Copy)]
 pub enum Form {
     Nothing,
     Percent,
@@ -27,7 +27,7 @@ pub enum Form {
 }
 
 // The decision at one place. left and right are indices of edges in the lattice, 0 where they are not used.
-#[derive(Drop)]
+#[derive(Clone, Copy)]
 pub struct Choice {
     pub form: Form,
     pub left: usize,
@@ -67,7 +67,7 @@ pub fn choice_of(code: usize, left: usize, right: usize) -> Choice
 }
 
 // The value of an edge as a whole number, where it has one.
-#[derive(Drop)]
+#[derive(Clone, Copy)]
 pub enum WholeValue {
     Whole(u64),
     Nothing,

@@ -1,4 +1,6 @@
 // What the markers of a line lead to (01, "The rest of the call", fractions and percentages): the choice of each place, decided over the lattice as it stands.
+#![tactic(auto)]
+
 pub mod decision; // decision.rt: what the marker at one place leads to
 pub mod neighbors; // neighbors.rt: the neighbours of all places
 

@@ -1,5 +1,7 @@
 // The stage of fractions and percentages (01, "The rest of the call"): every place is decided before an edge changes; then the used edges turn
 // inactive, and the new ones are added.
+#![tactic(auto)]
+
 pub mod deactivate; // deactivate.rt: the used edges turn inactive
 pub mod texts; // texts.rt: the texts of the new edges
 pub mod parts; // parts.rt: their fields, and what they take from the used edges

@@ -21,7 +21,7 @@ use passes::ratio::Ratio;
 use text::{Offset, Place};
 
 // The script of an edge: none, or so many bytes at the front of a buffer.
-#[derive(Drop)]
+#[derive(Clone, Copy)]
 pub enum Script {
     Absent,
     Bytes(usize),

@@ -1,5 +1,7 @@
 // The lattice, kept in lent work space (the Rust's lattice/mod.rs): edges are added once (01: "edges equal in start, end, txt and type are one, the first"),
 // turned inactive, and written to the output in the order of their first addition. The layout of the work space is in specs/Kept.antt; `lattice_add` adds an edge.
+#![tactic(auto)]
+
 pub mod ends; // ends.rt: the lattice without edges, and its listing in the output
 pub mod find; // find.rt: whether it has an edge already, or room for it
 pub mod link; // link.rt: its cells with one edge more
@@ -29,21 +31,21 @@ const MOST_EDGES: usize = 1024;
 pub const MOST_BYTES: usize = 32768;
 
 // A lattice: how many edges, and the length of their listing; 0, which no listing has, where they became too many or too long.
-#[derive(Drop)]
+#[derive(Clone, Copy)]
 pub struct Lattice {
     pub count: usize,
     pub len: usize,
 }
 
 // What the end finds: the length of the listing written, or refusal 8.
-#[derive(Drop)]
+#[derive(Clone, Copy)]
 pub enum Finished {
     Listing(usize),
     TooLong,
 }
 
 // What is to be done with an edge: nothing, as it is there or the lattice is full; the lattice becomes full; it goes into a bucket.
-#[derive(Drop)]
+#[derive(Clone, Copy)]
 pub enum Adding {
     Nothing,
     TooMuch,

@@ -1,4 +1,6 @@
 // The ways in which an edge comes into the lattice: one that is composed behind the listing is added where it is new and has room.
+#![tactic(auto)]
+
 pub mod given; // given.rt: an edge of the caller's listing
 pub mod regular; // regular.rt: a new regular edge
 pub mod numeric; // numeric.rt: a new numeric edge

@@ -1,6 +1,8 @@
 // The program of 01 on a list of lines. First it does what the program does, twice: the input begins with two lines that are cut at 4,096 bytes, ASCII digits and then 三, which ends
 // inside a character. The lines behind them are read at once and answered one by one, each headed by its number. tools/line_vectors.py writes the input, and the output as the
 // old program answers.
+#![tactic(auto)]
+
 fn head(k: u64) {
     io::write_all(1, b"line ");
     io::print_decimal(1, k);

@@ -14,7 +14,7 @@ use table::shape::Shape;
 const HEAD: usize = 12;
 
 // What putting an entry answers: the offset behind it, or that it does not fit.
-#[derive(Drop)]
+#[derive(Clone, Copy)]
 pub enum EntryPut {
     To(usize),
     NoRoom,

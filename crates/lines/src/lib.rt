@@ -1,4 +1,6 @@
 // The numbers of many lines with one table, by pages: an entry for each line, which is what `add_numbers` answers for it (specs/Lines.antt, specs/Pages.antt). The table is checked once.
+#![tactic(auto)]
+
 pub mod next_line; // next_line.rt: where a line ends
 pub mod answer; // answer.rt: what the call answers for one line, its listing left in the work space
 pub mod entry; // entry.rt: the entry of a line, put into the output
@@ -18,14 +20,14 @@ use table::index::INDEX_SIZE;
 use table::shape::{Shape, TableCheck};
 
 // A page: how many bytes were written, and the offset behind the last line answered.
-#[derive(Drop)]
+#[derive(Clone, Copy)]
 pub struct Page {
     pub bytes: usize,
     pub next: usize,
 }
 
 // What the call answers: a page at the front of the output, or a refusal.
-#[derive(Drop)]
+#[derive(Clone, Copy)]
 pub enum LinesAnswer {
     Page(Page),
     Refused(Refusal),

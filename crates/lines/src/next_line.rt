@@ -5,7 +5,7 @@ ghost use Rattle.lines.specs.Lines.{NoNewline, LineAt};
 const NEWLINE: u8 = 10;
 
 // The end of a line, and where the next one begins.
-#[derive(Drop)]
+#[derive(Clone, Copy)]
 pub struct LineEnd {
     pub end: usize,
     pub next: usize,

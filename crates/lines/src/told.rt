@@ -4,7 +4,7 @@ ghost use Rattle.lines.specs.Told.{answer_told};
 
 use crate::LinesAnswer;
 
-#[derive(Drop)]
+#[derive(Clone, Copy)]
 pub struct CPage {
     pub status: u32,
     pub at: u64,

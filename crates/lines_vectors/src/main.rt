@@ -1,6 +1,8 @@
 // Replays `lines::add_numbers_to_lines`: a row of standard input is the bytes of the lines and a table in hexadecimal, the output's length in four hexadecimal digits, a
 // work space's likewise less one (ffff is 65,536 bytes), and what is to be seen. Standard output has status, `at` and `next`, the page's bytes in hexadecimal, whether
 // the bytes behind it are as they were, and the same words. tools/model/lines.py makes both files.
+#![tactic(auto)]
+
 ghost use Rattle.std.specs.Prelude.{◌≤◌};
 
 use vectors::ROWS;

@@ -1,4 +1,6 @@
 // Markers and signs of the table in the line (01, "The rest of the call"): whether one stands at an offset, and the sign before a place.
+#![tactic(auto)]
+
 pub mod find; // find.rt: the marker that counts at a place
 pub mod any; // any.rt: whether a line has a marker at all
 
@@ -12,7 +14,7 @@ use text::Place;
 use text::check::PLACES;
 
 // The marker that counts at a place, with its length in characters.
-#[derive(Drop)]
+#[derive(Clone, Copy)]
 pub enum Marker {
     Percentage(usize),
     Connector(usize),
@@ -20,7 +22,7 @@ pub enum Marker {
 }
 
 // Whether a sign stands directly before a place, with its length in characters.
-#[derive(Drop)]
+#[derive(Clone, Copy)]
 pub enum Sign {
     Before(usize),
     NoSign,
@@ -30,7 +32,7 @@ pub enum Sign {
 const LEAD: u8 = 0xEF;
 
 // A byte of a text as it counts (02, S-3), and how many bytes of the text it is made of: a wide character, U+FF01 to U+FF5E, counts as its ASCII byte.
-#[derive(Drop)]
+#[derive(Clone, Copy)]
 struct Counted {
     byte: u8,
     size: usize,

@@ -1,5 +1,7 @@
 // Marks of places, set in one walk over the lattice (01, "The rest of the call"): for F1 the places where an edge ends whose txt ends with a digit, for the fallback those that a numeric edge
 // of one place covers.
+#![tactic(auto)]
+
 ghost use Rattle.std.specs.Prelude.{◌≡◌, false, true, cond, List, ℕ, ◌≤◌, ◌<◌, get_or, set, replicate};
 ghost use Rattle.digits.specs.TextEnds.{ends_with_digit};
 ghost use Rattle.edge.specs.Edge.{Edge};
@@ -15,7 +17,7 @@ use lattice::Lattice;
 use text::check::PLACES;
 
 // Which edges set a mark: those whose txt ends with a digit, at their end; numeric ones of one place, at their start.
-#[derive(Drop)]
+#[derive(Clone, Copy)]
 pub enum Asked {
     DigitEnds,
     OnePlace,

@@ -1,4 +1,6 @@
 // The number nearest to a place of the line (02, S-14), of a finished listing.
+#![tactic(auto)]
+
 ghost use Rattle.std.specs.Prelude.{◌≡◌, ◌≤◌, ◌<◌, length};
 ghost use Rattle.text.specs.Line.{max_chars};
 ghost use Rattle.edge.specs.Layout.{head_end, edge_at};

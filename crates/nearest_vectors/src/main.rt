@@ -1,5 +1,7 @@
 // Replays a list of listings against `nearest_number::nearest_number`: a row of standard input is a line, a listing and a place, a little-endian u64, in hexadecimal, and
 // what is to be seen, with a space before each. What C is told goes to standard output with the same words, one row each.
+#![tactic(auto)]
+
 use text::Place;
 use vectors::ROWS;
 

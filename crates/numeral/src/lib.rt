@@ -1,5 +1,7 @@
 // The value of a line as a numeral of the plain table, and S-4 of 02: is this field one number? A line is read from the left straight by the grammar, without a
 // listing; nothing is copied.
+#![tactic(auto)]
+
 pub mod sums; // sums.rt: sums and products that stop counting above TOP
 pub mod plain; // plain.rt: the plain table's character at an offset
 pub mod state; // state.rt: how the blocks and the small that are read take the next character
@@ -8,7 +10,7 @@ pub mod read; // read.rt: numeral, block and small, which call each other; the a
 use text::Offset;
 
 // What stands at an offset: a digit, 十百千 or 万億兆 by its value; anything else; the end.
-#[derive(Drop)]
+#[derive(Clone, Copy)]
 pub enum Glyph {
     Digit(u64),
     Ten(u64),
@@ -18,7 +20,7 @@ pub enum Glyph {
 }
 
 // The blocks before a member: the sum of their values, and the last one's base; base 0 where there is none.
-#[derive(Drop)]
+#[derive(Clone, Copy)]
 pub struct Blocks {
     pub sum: u64,
     pub base: u64,
@@ -26,7 +28,7 @@ pub struct Blocks {
 
 // A small as far as it is read. Of its last atom: value and base (a run has base 1), whether it is a run of one character, whether it is the small's first.
 // Of the atoms before the last: the sum, and the base of the nearest one that isn't a lone 零, 0 where there is none.
-#[derive(Drop)]
+#[derive(Clone, Copy)]
 pub struct Atoms {
     pub sum: u64,
     pub near: u64,
@@ -37,14 +39,14 @@ pub struct Atoms {
 }
 
 // The value of a numeral, or TOP + 1 where it is more; nothing where the line is none.
-#[derive(Drop)]
+#[derive(Clone, Copy)]
 pub enum Value {
     Of(u64),
     Nothing,
 }
 
 // What a field is: a numeral of this value, at most TOP; a numeral above TOP; no numeral; not UTF-8, or over 256 characters, with the offset.
-#[derive(Drop)]
+#[derive(Clone, Copy)]
 pub enum Field {
     Number(u64),
     AboveTop,

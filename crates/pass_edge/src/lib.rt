@@ -1,5 +1,7 @@
 // An edge of the pass list as an edge of the lattice (01, "From characters to edges", "Five passes"): what a stored edge needs for it is `Grounded` of specs/Grounded.antt;
 // and a character's texts, as parts of the table or of the line.
+#![tactic(auto)]
+
 pub mod places; // places.rt: the offsets of all places of a line
 pub mod txt; // txt.rt: its txt
 pub mod edge_type; // edge_type.rt: its type
@@ -61,7 +63,7 @@ pub fn put_text(buf: &mut [u8], txt: &[u8]) -> usize
 }
 
 // The fraction of a stored edge, where it has one.
-#[derive(Drop)]
+#[derive(Clone, Copy)]
 pub struct Fraction {
     pub there: bool,
     pub numerator: u64,

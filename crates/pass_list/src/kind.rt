@@ -5,7 +5,7 @@ ghost use Rattle.pass_list.specs.Kind.{kind_number, kind_from};
 
 use crate::run::Pass;
 
-#[derive(Drop)]
+#[derive(Clone, Copy)]
 pub enum Kind {
     Character,
     Joined(Pass),

@@ -1,4 +1,6 @@
 // The pass list in lent bytes, for the five passes (01, "Five passes, D1 to G4"; the Rust's numbers.rs): an edge of it, what a pass answers.
+#![tactic(auto)]
+
 pub mod kind; // kind.rt: what an edge of the list is
 pub mod record; // record.rt: an edge of the list
 pub mod layout; // layout.rt: the layout of its bytes

@@ -3,7 +3,7 @@ use crate::kind::Kind;
 use text::{Offset, Place};
 
 // The numeric data of an edge. Where a `has_` flag is false, its field is absent and holds 0.
-#[derive(Drop)]
+#[derive(Clone, Copy)]
 pub struct PassData {
     pub value: f64,
     pub base_multiplier: f64,
@@ -28,7 +28,7 @@ pub struct PassData {
     pub script_len: usize,
 }
 
-#[derive(Drop)]
+#[derive(Clone, Copy)]
 pub struct PassEdge {
     pub start: Place,
     pub end: Place,

@@ -14,7 +14,7 @@ use crate::{d1_rule, g1_rule, g2_rule, g3_rule, g4_rule};
 use pass_list::record::PassEdge;
 use pass_list::run::Pass;
 
-#[derive(Drop)]
+#[derive(Clone, Copy)]
 pub struct Chain {
     // the edge over the chain: its value is the sum so far, its base the last one's
     pub edge: PassEdge,
@@ -26,7 +26,7 @@ pub struct Chain {
 }
 
 // What the next edge does to a chain: the chain with it; the chain ends before it; a value above TOP.
-#[derive(Drop)]
+#[derive(Clone, Copy)]
 pub enum Next {
     Longer(Chain),
     Ends,

@@ -1,5 +1,7 @@
 // Which edges a pass joins: each pass's rule, by the few fields that it asks for. The definitions are those of `pass_list`, specs/StoredPass.antt, which mirror
 // those of the passes on numbers and marks: x is the chain there, y the next edge as it counts. `pass_rules::chain` reads the fields.
+#![tactic(auto)]
+
 pub mod counted; // counted.rt: the next edge as it counts in a pass
 pub mod joined; // joined.rt: the edge over two that a pass joins
 pub mod meets; // meets.rt: where a chain and the next edge meet

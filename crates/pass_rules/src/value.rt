@@ -15,7 +15,7 @@ use whole::Bounded;
 use wide::Quotient;
 
 // The value over two edges; or that it is above TOP; or that their decimals keep them apart.
-#[derive(Drop)]
+#[derive(Clone, Copy)]
 pub enum Over {
     Value(f64),
     Above,

@@ -1,5 +1,7 @@
 // The loop of a pass (01, "Five passes, D1 to G4"), in place: the edges over the chains that ended stand at the list's front, what is to come behind the edge
 // that is read. Most edges join no neighbour: a look at a few fields says so, and they are moved as bytes.
+#![tactic(auto)]
+
 pub mod look; // look.rt: whether a pass may join two edges, by a few fields in their bytes
 pub mod take; // take.rt: whether it may join an edge to a chain, likewise
 pub mod nth; // nth.rt: a pass by its number
@@ -26,7 +28,7 @@ use pass_rules::chain::{Chain, Next};
 use text::Place;
 
 // What the chain that an edge begins comes to: the index behind its last edge; or the start of the joined edge above TOP.
-#[derive(Drop)]
+#[derive(Clone, Copy)]
 pub enum ChainRun {
     To(usize),
     Above(Place),

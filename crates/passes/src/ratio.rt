@@ -2,7 +2,7 @@
 ghost use Rattle.std.specs.Prelude.{◌≡◌, ◌<◌};
 ghost use Rattle.passes.specs.Characters as Characters;
 
-#[derive(Drop)]
+#[derive(Clone, Copy)]
 pub struct Ratio {
     pub numerator: u64,
     pub denominator: u64,

@@ -1,4 +1,6 @@
 // Reads three listings written by hand, and four of one edge for its count of decimals, over the line ab五. `stdout` has the answers, worked out by hand from 01 and 02 (S-5).
+#![tactic(auto)]
+
 use answers::CStatus;
 use paths::{Query, Shown};
 use text::Place;

@@ -1,6 +1,8 @@
 // The program of 01: reads one line from standard input and prints its rows with the plain table. What fails is said on standard error, and
 // then no line is taken for read and no row for printed: a program of the kit has no exit status of its own. The words of the
 // contracts are in specs/LineRows.antt.
+#![tactic(auto)]
+
 pub mod read; // read.rt: a line from standard input
 
 ghost use Rattle.std.specs.Prelude.{◌≤◌, length};

@@ -4,7 +4,7 @@ ghost use Rattle.std.specs.Prelude.{◌≡◌, ◌+◌, ◌≤◌, ◌<◌, leng
 ghost use Rattle.print_line.specs.Line.{until_newline, OnALine, StepIs, LineIs};
 
 // What was read, a line of so many bytes at the buffer's front: behind it stands a newline, or the buffer ends; or the input ended behind it.
-#[derive(Drop)]
+#[derive(Clone, Copy)]
 pub enum Got {
     Line(usize),
     LastLine(usize),
@@ -12,7 +12,7 @@ pub enum Got {
 }
 
 // What one read leaves: the line ends at the newline there, or goes on behind so many bytes; or the input has ended.
-#[derive(Drop)]
+#[derive(Clone, Copy)]
 enum Step {
     Ends(usize),
     Goes(usize),

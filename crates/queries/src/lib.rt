@@ -1,4 +1,6 @@
 // The calls that read a finished listing (01, "The rest of the call"): here the best edge of a span and the neighbours of a place.
+#![tactic(auto)]
+
 pub mod path; // path.rt: the path, as a listing
 pub mod shown; // shown.rt: which text is shown at a place
 pub mod shown_part; // shown_part.rt: its bytes

@@ -1,4 +1,6 @@
 // Refusals 4 and 5 of a string or a record of the table (01, the table of refusals). The definitions are those of `table`, specs/Layout.antt and specs/Check.antt.
+#![tactic(auto)]
+
 pub mod ascii; // ascii.rt: whether bytes are ASCII, 4 or 8 at once
 pub mod texts; // texts.rt: what strings may hold
 pub mod code_point; // code_point.rt: what a code point may be

@@ -7,7 +7,7 @@ ghost use Rattle.record_check.specs.Look.{look_field, from_least};
 use whole::TOP;
 
 // What a look at a field gives: whether what it holds is legal, and the offset behind it; or that its layout is at fault.
-#[derive(Drop)]
+#[derive(Clone, Copy)]
 pub enum Look {
     Field(bool, usize),
     Fault,

@@ -7,14 +7,14 @@ use crate::ascii::{ascii, short_ascii};
 use crate::plain_numbers::{legal_head, legal_numbers};
 
 // A legal record: its code point, and the offset behind it; any other, or none.
-#[derive(Drop)]
+#[derive(Clone, Copy)]
 pub enum Plain {
     Legal(u32, usize),
     Other,
 }
 
 // The offset behind fields that are told by few tests.
-#[derive(Drop)]
+#[derive(Clone, Copy)]
 pub enum Behind {
     At(usize),
     Other,

@@ -22,7 +22,7 @@ use table::shape::{BAD_CONTENT, BAD_LAYOUT};
 use text::Offset;
 
 // What checking a record gives: its code point and the offset behind it, or the refusal's number.
-#[derive(Drop)]
+#[derive(Clone, Copy)]
 pub enum RecordCheck {
     Next(u32, usize),
     Refused(u8),

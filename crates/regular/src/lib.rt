@@ -1,5 +1,7 @@
 // Whether the bytes of a table are those of a regular one (`table_grammar`, specs/Kinds.antt), for which demand 3 is shown (its proofs/RegularDemand3.antt): the check,
 // and what fails without each part of the condition (proofs/Without.antt). The cost is that of the table's check and one walk over the records.
+#![tactic(auto)]
+
 ghost use Rattle.std.specs.Prelude.{◌≡◌, length};
 ghost use Rattle.table.specs.Layout.{records_at};
 ghost use Rattle.table.specs.Answers.{optionally, record_of, Inside};
@@ -16,7 +18,7 @@ use table::shape::TableCheck;
 use text::Offset;
 
 // A regular table; one that is not, with the offset of its first record of none of the four kinds; or no table: the number of its refusal, 4 or 5, and the offset.
-#[derive(Drop)]
+#[derive(Clone, Copy)]
 pub enum RegularCheck {
     Regular,
     Irregular(Offset),

@@ -1,5 +1,7 @@
 // Replays tables against `regular::check_regular`: a line of standard input is a table in hexadecimal, a space, and what it is. The answer goes to standard output with
 // the same words, one line each. `tools/model/regular.py vectors` writes the tables, and with the word `answers` the expected answers.
+#![tactic(auto)]
+
 use regular::RegularCheck;
 use vectors::ROWS;
 

@@ -1,6 +1,8 @@
 // Runs `call::add_numbers` on the cases of tools/replay_cases.py, and writes its answers: `stdout` has the old program's. A case is three u16 lengths (the head), and then so
 // many bytes of line, table (none: the one before) and edge list. An answer is a u32 length and so many bytes: the listing, or 5 bytes for a refusal: u8 number, u32 place or
 // offset. Which case is the first that differs: `tools/replay_cases.py differ`.
+#![tactic(auto)]
+
 ghost use Rattle.std.specs.Prelude.{◌≤◌, length};
 
 use answers::CStatus;

@@ -1,5 +1,7 @@
 // The C interface, declared in include/rilvostam.h. Each function is thin: it calls the proved function underneath and tells its answer.
 // A skip other than 0 is set; places are 64-bit numbers.
+#![tactic(auto)]
+
 pub mod numerals; // numerals.rt: the calls on single numerals
 pub mod sheets; // sheets.rt: the proof sheet of short numerals (02, S-8)
 pub mod pooling; // pooling.rt: what a listing's shares come to

@@ -39,7 +39,7 @@ pub extern "C" fn rilvostam_write_number(number: u64, out: &mut [u8], at: &mut u
 }
 
 // What C is told of a field: 0 or the refusal's number; whether it is a number; its value, or the refusal's offset or place.
-#[derive(Drop)]
+#[derive(Clone, Copy)]
 pub struct CField {
     pub status: u32,
     pub number: u8,

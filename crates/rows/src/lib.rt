@@ -1,4 +1,6 @@
 // The rows that the program prints for the edges of a listing, as text in a lent buffer. The words of the contracts are in specs/Rows.antt.
+#![tactic(auto)]
+
 pub mod columns; // columns.rt: a column of a row
 pub mod listing; // listing.rt: the rows of a listing
 pub mod refusal; // refusal.rt: the row of a refusal

@@ -1,4 +1,6 @@
 // Shares in a family grave (02, S-6): the fractions of a listing's active edges, pooled in listing order into an exact sum in lowest terms.
+#![tactic(auto)]
+
 pub mod step; // step.rt: one step, a sum and a fraction more
 pub mod told; // told.rt: what C is told of the answer
 
@@ -13,21 +15,21 @@ use passes::ratio::Ratio;
 use paths::{ReadCheck, ReadRefusal};
 
 // A sum in lowest terms; or that its numerator or denominator is above TOP.
-#[derive(Drop)]
+#[derive(Clone, Copy)]
 pub enum Pooled {
     Sum(Ratio),
     Above,
 }
 
 // What an edge of a listing has to add: nothing, or numerator and denominator as they are listed.
-#[derive(Drop)]
+#[derive(Clone, Copy)]
 pub enum Share {
     Nothing,
     Of(u64, u64),
 }
 
 // What a listing's shares come to; or the index of the edge whose step is above TOP (11); or a refusal of what was lent (2, 3, 6).
-#[derive(Drop)]
+#[derive(Clone, Copy)]
 pub enum Shares {
     Sum(Ratio),
     Above(usize),

@@ -5,7 +5,7 @@ ghost use Rattle.shares.specs.Told.{shares_told};
 use crate::Shares;
 
 // The sum's numerator and denominator, 0 where there is none; and the offset or index that a refusal returns, 0 where there is none.
-#[derive(Drop)]
+#[derive(Clone, Copy)]
 pub struct CShares {
     pub status: u32,
     pub numerator: u64,

@@ -1,5 +1,7 @@
 // Replays a list of listings against `shares::pool_shares`: a row of standard input is a line and a listing in hexadecimal, and what is to be seen,
 // with a space before each. What C is told goes to standard output with the same words, one row each.
+#![tactic(auto)]
+
 use vectors::ROWS;
 
 fn main() {

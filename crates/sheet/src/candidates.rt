@@ -11,7 +11,7 @@ use sheet_rows::Found;
 pub const COUNT: usize = 69904;
 
 // What a candidate gives: a row, with the length of its text and its value; or none.
-#[derive(Drop)]
+#[derive(Clone, Copy)]
 pub enum Candidate {
     Row(usize, u64),
     Nothing,

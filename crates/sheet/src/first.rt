@@ -6,7 +6,7 @@ use crate::candidates::{COUNT, Candidate, try_candidate};
 use sheet_counts::{BLOCK, BLOCKS, SHORT, SHORT_ROWS};
 
 // So many candidates are passed, with so many rows.
-#[derive(Drop)]
+#[derive(Clone, Copy)]
 pub struct Passed {
     pub index: usize,
     pub rows: u64,

@@ -1,5 +1,7 @@
 // A proof sheet of short numerals (02, S-8), by pages from any position on: `page` of specs/Sheet.antt. Nothing of the sheet is stored: its words are tried one by
 // one, from the page's first on, and a table of counts says where that is.
+#![tactic(auto)]
+
 pub mod candidates; // candidates.rt: the words of one to four characters by number, and whether one has a row
 pub mod first; // first.rt: the candidate where the rows from a position on begin
 
@@ -11,14 +13,14 @@ use crate::candidates::{COUNT, Candidate, try_candidate};
 use crate::first::first_candidate;
 
 // How many bytes and rows were written.
-#[derive(Drop)]
+#[derive(Clone, Copy)]
 pub struct Filled {
     pub bytes: usize,
     pub rows: u64,
 }
 
 // What asking for a page answers: how many bytes were written, and the position after the page. Nothing is refused.
-#[derive(Drop)]
+#[derive(Clone, Copy)]
 pub struct Page {
     pub bytes: usize,
     pub next: u64,

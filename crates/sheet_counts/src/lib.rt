@@ -1,5 +1,7 @@
 // How many rows of the proof sheet (02, S-8) stand in each 1,024 candidates, so that a page need not begin at the first. The rule of the table is one test that computes
 // all rows (proofs/CountLaws.antt); it takes a while, and so has a crate of its own. The word of the contract is in specs/Numbered.antt.
+#![tactic(auto)]
+
 ghost use Rattle.std.specs.Prelude.{◌≡◌, ◌+◌, ◌*◌, ◌<◌};
 ghost use Rattle.sheet_counts.specs.Numbered.{rows_in};
 

@@ -1,5 +1,7 @@
 // Rows of the proof sheet (02, S-8), whose form those of a worn line have (S-10): a character by its place in the sheet's order, the value of a text, and a row as it is
 // written. The words of the contracts are in specs/Rows.antt.
+#![tactic(auto)]
+
 ghost use Rattle.std.specs.Prelude.{◌≡◌, [], ◌∷◌, ◌+◌, ◌≤◌, ◌<◌, length};
 ghost use Rattle.whole.specs.Decimal.{decimal};
 ghost use Rattle.edge.specs.Write.{Put};
@@ -10,7 +12,7 @@ ghost use Rattle.sheet_rows.specs.Rows.{char_at, number_of, found, row_of};
 use numeral::Field;
 
 // What a text gives: the value of a numeral, at most TOP; or nothing.
-#[derive(Drop)]
+#[derive(Clone, Copy)]
 pub enum Found {
     Value(u64),
     Nothing,

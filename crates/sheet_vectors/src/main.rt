@@ -1,6 +1,8 @@
 // Prints pages of the proof sheet (02, S-8): at its start, across each change of length, at its end and past it, and with outputs that hold no row, one row and one byte less.
 // A page is a row of position, room, bytes and the position after it, and then the whole output, whose bytes were dots. `tools/model/numerals.py vectors S-8` writes the
 // expected answers.
+#![tactic(auto)]
+
 ghost use Rattle.std.specs.Prelude.{◌≤◌};
 
 fn show_in(position: u64, room: usize, out: &mut [u8]) {

@@ -1,4 +1,6 @@
 // G6: signs directly before a number (01, "The rest of the call"): a regular edge from each sign on, minus before plus, in the table's order.
+#![tactic(auto)]
+
 pub mod edges; // edges.rt: the edges for the signs before one edge
 
 ghost use Rattle.std.specs.Prelude.{List, map, ℕ, ◌+◌, ◌*◌, ◌≤◌, length, drop};

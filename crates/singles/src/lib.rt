@@ -1,5 +1,7 @@
 // Singles that may not stand (02, S-12): after F1, edges one place long turn inactive at the places of such edges of the list after G4. One walk over that list marks the
 // places, one walk over the lattice turns the edges off. That this is the definition's stage, by keys and copies, is shown in proofs/ByPlace.antt.
+#![tactic(auto)]
+
 ghost use Rattle.std.specs.Prelude.{◌≡◌, false, true, cond, List, map, ℕ, ◌+◌, ◌*◌, ◌≤◌, ◌<◌, length, drop, get_or, set, replicate};
 ghost use Rattle.text.specs.Text.{chars};
 ghost use Rattle.text.specs.Line.{max_chars};

@@ -2,6 +2,8 @@
 // hexadecimal, and what is to be seen, with a space before each. The edges of both answers go to standard output with the same words, one row each: start, end, and
 // `+` for an active numeric edge, `.` for an inactive one, `=` for a regular one; the last row, of no input, is that of a work space a byte short.
 // tools/model/singles.py makes both files.
+#![tactic(auto)]
+
 use answers::Answer;
 use call::WORK_SIZE;
 use edge::bits;

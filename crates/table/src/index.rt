@@ -19,21 +19,21 @@ pub const MOST_ENTRIES: usize = 256;
 pub const INDEX_SIZE: usize = 512;
 
 // The records from an offset on, so many.
-#[derive(Drop)]
+#[derive(Clone, Copy)]
 pub struct RecordRun {
     pub at: usize,
     pub left: usize,
 }
 
 // An index that is being made: its length, and how many records are left at its next entry.
-#[derive(Drop)]
+#[derive(Clone, Copy)]
 pub struct Index {
     pub n: usize,
     pub due: usize,
 }
 
 // The record of a character and its offset, where it has one.
-#[derive(Drop)]
+#[derive(Clone, Copy)]
 pub enum CharRecord {
     At(NumProp, usize),
     Nothing,

@@ -10,14 +10,14 @@ use text::Offset;
 pub const MAX_STRING: usize = 60;
 
 // A string, with the offset behind it.
-#[derive(Drop)]
+#[derive(Clone, Copy)]
 pub enum TextAt {
     Text(Part, usize),
     Fault,
 }
 
 // The numbers of a record, 0 where the map says that one is absent, and the offset behind them.
-#[derive(Drop)]
+#[derive(Clone, Copy)]
 pub struct Numbers {
     pub value: u64,
     pub numerator: u64,
@@ -28,7 +28,7 @@ pub struct Numbers {
 }
 
 // The numeric properties of a character: its record. What the map says is absent is 0 or empty.
-#[derive(Drop)]
+#[derive(Clone, Copy)]
 pub struct NumProp {
     pub code_point: u32,
     pub map: u8,

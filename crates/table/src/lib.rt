@@ -1,5 +1,7 @@
 // The table of characters that a call is lent (01, "Table" and "Record"; the Rust's dicts): reading its bytes. `record_check` and `table_check` check them; the definitions
 // that they cite stand here. Every `at` and `next` is an offset in the table's bytes.
+#![tactic(auto)]
+
 pub mod bits; // bits.rt: the bits of a record's map
 pub mod layout; // layout.rt: a string at an offset, and what reading a record gives
 pub mod shape; // shape.rt: the answers of the check

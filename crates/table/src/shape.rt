@@ -7,14 +7,14 @@ pub const BAD_LAYOUT: u8 = 4;
 pub const BAD_CONTENT: u8 = 5;
 
 // What checking items gives: the offset behind them, or the refusal's number and offset.
-#[derive(Drop)]
+#[derive(Clone, Copy)]
 pub enum ItemsCheck {
     End(usize),
     Refused(u8, usize),
 }
 
 // Where each list begins, at its count; how many records there are and where they begin.
-#[derive(Drop)]
+#[derive(Clone, Copy)]
 pub struct Shape {
     pub percentages: usize,
     pub connectors: usize,
@@ -25,7 +25,7 @@ pub struct Shape {
 }
 
 // A table's shape, or the refusal's number and offset.
-#[derive(Drop)]
+#[derive(Clone, Copy)]
 pub enum TableCheck {
     Table(Shape),
     Refused(u8, Offset),

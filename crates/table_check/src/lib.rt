@@ -1,4 +1,6 @@
 // Refusals 4 and 5 of the whole table: the first faulty item decides, its layout (4) before its content (5).
+#![tactic(auto)]
+
 pub mod items; // items.rt: the strings of a list, and the records, whose index is made on the way
 
 ghost use Rattle.table_check.specs.Indexed.{TableIndexed};

@@ -1,5 +1,7 @@
 // Replays a list of tables, most of them damaged, against `table_check::check_table`: a line of standard input is a table in
 // hexadecimal, a space, and what is wrong with it. The answer goes to standard output with the same words, one line each.
+#![tactic(auto)]
+
 use table::index::INDEX_SIZE;
 use table::shape::TableCheck;
 use vectors::ROWS;

@@ -1,6 +1,8 @@
 // Asks for the two tables that the library has, with outputs of a byte less than a table, of just a table, and longer. Each row of standard output is the table's name, the
 // output's length, status and `at`, then three bytes of the output, which held 170s: the first, one in which the tables differ (of the first record's character, 一 or 仟),
 // the last.
+#![tactic(auto)]
+
 ghost use Rattle.std.specs.Prelude.{◌≤◌, length};
 
 use rilvostam::tables;

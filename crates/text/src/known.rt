@@ -7,7 +7,7 @@ use crate::Offset;
 use crate::code_point::{of_four, of_three, of_two, widen};
 
 // A character, by its code point and its length in bytes.
-#[derive(Drop)]
+#[derive(Clone, Copy)]
 pub struct Known {
     pub code: u32,
     pub len: usize,

@@ -1,4 +1,6 @@
 // Text as bytes and as characters: UTF-8 by Unicode table 3-7, places and offsets, a line. Here are the types of the modules' answers, and equality of bytes.
+#![tactic(auto)]
+
 pub mod lead_byte; // lead_byte.rt: the row of table 3-7 for a lead byte
 pub mod code_point; // code_point.rt: the code point of a sequence by its bytes
 pub mod sequence; // sequence.rt: one sequence in any bytes
@@ -10,19 +12,19 @@ ghost use Rattle.std.specs.Prelude.{◌≡◌};
 ghost use Rattle.text.specs.Bytes.{same};
 
 // A count of characters of the line.
-#[derive(Drop)]
+#[derive(Clone, Copy)]
 pub struct Place(pub usize);
 
 // A count of bytes.
-#[derive(Drop)]
+#[derive(Clone, Copy)]
 pub struct Offset(pub usize);
 
 // A row of table 3-7: the sequence's length, and the limits of its second byte.
-#[derive(Drop)]
+#[derive(Clone, Copy)]
 pub struct Row(pub usize, pub u8, pub u8);
 
 // What stands at an offset: a character, by its code point and its length in bytes; an ill-formed sequence; the end.
-#[derive(Drop)]
+#[derive(Clone, Copy)]
 pub enum Seq {
     Char(u32, usize),
     Ill,
@@ -30,14 +32,14 @@ pub enum Seq {
 }
 
 // How far a walk over characters came: how many, and the offset behind them.
-#[derive(Drop)]
+#[derive(Clone, Copy)]
 pub struct Walked {
     pub count: usize,
     pub at: Offset,
 }
 
 // What a line is: so many characters; not UTF-8, with the offset of its first ill-formed sequence; over MAX_CHARS, with the offset of the next one.
-#[derive(Drop)]
+#[derive(Clone, Copy)]
 pub enum LineCheck {
     Chars(usize),
     IllFormed(Offset),

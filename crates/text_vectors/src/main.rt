@@ -1,5 +1,7 @@
 // Replays texts against the crate `text`. A line of standard input is a text in hexadecimal, or a remark that begins with #, which is written as it is.
 // Of each text it writes the refusal and its offset, or how many characters it has and then each one's offset and code point.
+#![tactic(auto)]
+
 use text::{LineCheck, Offset, Place, Seq};
 use vectors::ROWS;
 

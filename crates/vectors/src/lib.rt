@@ -1,4 +1,6 @@
 // What the programs share: the rows of standard input, where a word ends, bytes written in hexadecimal, a word and a number printed, a refusal, the end of a row.
+#![tactic(auto)]
+
 ghost use Rattle.std.specs.Prelude.{◌≡◌, ◌+◌, ◌≤◌, ◌<◌, length, drop};
 ghost use Rattle.vectors.specs.Until.{until_byte};
 

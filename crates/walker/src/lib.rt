@@ -1,5 +1,7 @@
 // A walk over a listing, edge by edge from its front (01, "A form for each place"): a walker holds the listing and an offset.
 // Its functions are thin: the work is in the functions of `walker::steps`.
+#![tactic(auto)]
+
 pub mod steps; // steps.rt: its steps, by a slice and an offset
 pub mod whole_edge; // whole_edge.rt: a whole edge by its numbers
 
@@ -10,7 +12,7 @@ use crate::steps::Here;
 use text::Offset;
 
 // A walker: a listing, and the offset where the walk stands.
-#[derive(Drop)]
+#[derive(Clone, Copy)]
 pub struct Walker<'a> {
     pub listing: &'a [u8],
     pub at: Offset,

@@ -10,7 +10,7 @@ use text::Offset;
 pub const FIRST: usize = 2;
 
 // What stands where a walker is: the head of an edge, or the end.
-#[derive(Drop)]
+#[derive(Clone, Copy)]
 pub enum Here {
     Edge(EdgeView),
     End,

@@ -10,7 +10,7 @@ use fields::Part;
 use text::Offset;
 
 // What stands at an offset: the head of a whole edge, its fields, and the offset behind it; or no whole edge.
-#[derive(Drop)]
+#[derive(Clone, Copy)]
 pub enum WholeEdge {
     Edge(EdgeView, NumFields, Offset),
     Nothing,

@@ -1,5 +1,7 @@
 // Walks listings past their end, by the number of the edge with `walker::nth`, and from edge to edge with `walker::steps`, and prints what it meets: places, map and the length of the txt of
 // each edge, or the end. Then reads edges by their offsets as C does, and prints all their numbers. `stdout` has the expected answers, worked out by hand from the scope.
+#![tactic(auto)]
+
 use rilvostam::edges::{EDGE_NUMBERS, rilvostam_edge_at};
 use text::Offset;
 use walker::steps::Here;

@@ -1,5 +1,7 @@
 // What each digit of a numeral weighs: how far one wrong digit goes (02, S-9). The line is read from the right: a digit weighs ten times the next one of its run,
 // and what stands behind the run says what its last digit weighs.
+#![tactic(auto)]
+
 pub mod units; // units.rt: what a digit weighs by what stands behind it
 
 ghost use Rattle.std.specs.Prelude.{◌≡◌, cond, List, ℕ, ◌+◌, ◌*◌, ◌≤◌, length};
@@ -22,7 +24,7 @@ use text::Offset;
 
 // What weighing the digits of a line answers: so many weights are written; refusal 7, a numeral above TOP; refusal 8, an output too short; refusals 2 and 3 of the
 // line, with the offset.
-#[derive(Drop)]
+#[derive(Clone, Copy)]
 pub enum Weighed {
     Count(usize),
     AboveTop,

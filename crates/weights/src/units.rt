@@ -11,7 +11,7 @@ use numeral::plain::{SIZE, glyph_at};
 use numeral::sums::times;
 
 // What a digit weighs that stands directly before a place, and what the last place of that place's member weighs.
-#[derive(Drop)]
+#[derive(Clone, Copy)]
 pub struct Units {
     pub digit: u64,
     pub member: u64,

@@ -1,6 +1,8 @@
 // Weighs the digits of lines (02, S-9). Each line of standard input is one; of each it writes the weights, or "refused", the number and the offset or place; then the
 // answer with an output of just as many bytes; and, where there are any, with one byte less.
 // `tools/model/numerals.py vectors S-9` writes the lines, and with the word `answers` the expected answers.
+#![tactic(auto)]
+
 ghost use Rattle.std.specs.Prelude.{◌≤◌};
 
 use vectors::ROWS;

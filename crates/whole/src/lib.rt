@@ -1,4 +1,6 @@
 // f64 values that are whole numbers up to TOP: what the Rust has `f64` for. Whole numbers are `of_nat` of specs/Whole.antt.
+#![tactic(auto)]
+
 pub mod decimal; // decimal.rt: a whole number in decimal
 
 ghost use Rattle.std.specs.Prelude.{◌≡◌, ℕ, ◌+◌, ◌*◌, ◌≤◌};
@@ -9,7 +11,7 @@ ghost use Rattle.whole.specs.Answers.{value};
 pub const TOP: u64 = 9007199254740991;
 
 // A product or a sum: the f64 itself, or the answer that it is above TOP (refusal 7).
-#[derive(Drop)]
+#[derive(Clone, Copy)]
 pub enum Bounded {
     Fits(f64),
     Above,

@@ -1,5 +1,7 @@
 // Runs vectors of `whole` and `whole::decimal` on both sides of their limits. `stdout` has the expected answers, worked out by hand and by IEEE 754.
 // The decimal text of n, and the newline that the line is filled with.
+#![tactic(auto)]
+
 fn show(n: u64) {
     let mut line = [10u8; 21];
     let end = whole::decimal::put_decimal(&mut line, 0, n);

@@ -1,5 +1,7 @@
 // Exact whole numbers beyond 64 bits, in two parts: a product of two numbers up to TOP, a sum of two of these, its quotient and rest by a third, and
 // whether it is above TOP.
+#![tactic(auto)]
+
 ghost use Rattle.std.specs.Prelude.{◌≡◌, ◌+◌, ◌*◌, ◌≤◌, ◌<◌, leb};
 ghost use Rattle.whole.specs.Whole.{TOP};
 ghost use Rattle.wide.specs.Numbers.{Parts, wide_of, wide, divided, exact_quotient};
@@ -18,21 +20,21 @@ const RIGHT_HALF: u64 = 134217728;
 const DIGIT: u64 = 2048;
 
 // The number hi * RADIX + lo.
-#[derive(Drop)]
+#[derive(Clone, Copy)]
 pub struct Wide {
     pub hi: u64,
     pub lo: u64,
 }
 
 // A quotient, and what is left.
-#[derive(Drop)]
+#[derive(Clone, Copy)]
 pub struct Division {
     pub quotient: Wide,
     pub rest: u64,
 }
 
 // A quotient that is whole, and at most TOP or above it; or one that is not whole.
-#[derive(Drop)]
+#[derive(Clone, Copy)]
 pub enum Quotient {
     Whole(u64),
     Above,

@@ -1,5 +1,7 @@
 // One character worn off the stone (02, S-10): which of the sixteen may have stood where a line has □, and the value that the line then has. The words of the contracts
 // are in specs/Worn.antt.
+#![tactic(auto)]
+
 pub mod mark; // mark.rt: where the one □ stands
 pub mod rows; // rows.rt: the rows of the characters that serve
 
@@ -13,7 +15,7 @@ use text::{LineCheck, Offset};
 
 // What a worn line answers: so many bytes of rows; or a refusal, in their order: 2 and 3, with the offset; 12, a line without just one □ or with another character
 // outside the table; 8, an output too short; 13, none of the sixteen serves.
-#[derive(Drop)]
+#[derive(Clone, Copy)]
 pub enum Worn {
     Rows(usize),
     IllFormed(Offset),

@@ -6,7 +6,7 @@ use numeral::Glyph;
 use numeral::plain::{SIZE, glyph_at};
 
 // The offset of the one □; or that a line is no such line: without □, with two, or with another character outside the table.
-#[derive(Drop)]
+#[derive(Clone, Copy)]
 pub enum Mark {
     At(usize),
     NotOne,

@@ -1,6 +1,8 @@
 // Replays worn lines (02, S-10). Each line of standard input is one; of each it writes "rows", their bytes and the rows, with an output of just so many bytes, and then
 // the answer with one byte less; or "refused", the number and the offset or place, with an output of no bytes. `tools/model/numerals.py vectors S-10` writes the lines, and
 // with the word `answers` the expected answers.
+#![tactic(auto)]
+
 ghost use Rattle.std.specs.Prelude.{◌≤◌, length};
 
 use vectors::ROWS;

@@ -1,5 +1,7 @@
 // A plot number written out (02, S-1): its numeral in UTF-8, `writing` of specs/Writing.antt. The digits are taken from the right, so the characters are put one
 // before the other, from the end of a buffer on: 16 digits of up to three characters and four groups of up to two more make at most 168 bytes.
+#![tactic(auto)]
+
 ghost use Rattle.std.specs.Prelude.{◌≡◌, List, [], ◌∷◌, ◌+◌, ◌≤◌, ◌<◌, length};
 ghost use Rattle.grammar.specs.Plain.{Char, digit, utf8};
 ghost use Rattle.writing.specs.Writing.{zero_if, digit_of, digit_part, group, group_part, writing};
@@ -9,7 +11,7 @@ ghost use Rattle.writing.specs.Written.{written, output};
 use whole::TOP;
 
 // What writing a number answers: so many bytes; refusal 10, a number above TOP; refusal 8, an output too short.
-#[derive(Drop)]
+#[derive(Clone, Copy)]
 pub enum Written {
     Bytes(usize),
     AboveTop,

@@ -1,5 +1,7 @@
 // Writes numbers out (02, S-1): every one up to 10,000, each power of ten and its neighbours, numbers of four groups with zeros within, and both sides of each limit. A row
 // is the number, a tab and its numeral, or "refused", the number and the place. `tools/model/numerals.py vectors S-1` writes the expected answers.
+#![tactic(auto)]
+
 ghost use Rattle.std.specs.Prelude.{◌≤◌, ◌<◌};
 
 use writing::Written;
