@@ -237,7 +237,7 @@ texts_read {s} {at} {next} (t ∷ ts) h k =
     let l = and-true (short t && legal_mark t) (legal_strings ts) h in
     let m = and-true (short t) (legal_mark t) l.0 in
     let p = split (string t) (in_row string ts) k in
-    rw (← item_legal at legal_mark (text_read t (leb-true (length t) 60 m.0) p.first) m.1, texts_read ts l.1 p.second)
+    rw (← item_legal at legal_mark (text_read t (leb-true (length t) 60 m.0) p.first) m.1, texts_read {at = p.seam} ts l.1 p.second)
 
 list_read : {s : List ℕ} {at next : ℕ} (ts : List Text) → legal_list ts ≡ true → Stands s at (list ts) next → read_list s at ≡ Fine ts next
 unfolding read_list list legal_list item
@@ -253,7 +253,7 @@ records_read {s} {at} {next} least (r ∷ rs) h k =
     let l = and-true (short_texts r && legal_record least r) (legal_records (r.code_point + 1) rs) h in
     let m = and-true (short_texts r) (legal_record least r) l.0 in
     let p = split (record_bytes r) (in_row record_bytes rs) k in
-    rw (← item_legal at (legal_record least) (record_read r (fits least r m.0 m.1) p.first) m.1, records_read (r.code_point + 1) rs l.1 p.second)
+    rw (← item_legal at (legal_record least) (record_read r (fits least r m.0 m.1) p.first) m.1, records_read {at = p.seam} (r.code_point + 1) rs l.1 p.second)
 
 -- ---- the table
 -- its bytes up to a list
