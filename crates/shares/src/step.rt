@@ -11,7 +11,7 @@ use wide::Wide;
 
 // A fraction of two numbers in parts, unless one is above TOP.
 fn narrow(above: Wide, below: Wide) -> Pooled
-    ensures { (n d : ℕ) → above ≡ wide n → below ≡ wide d → result ≡ pooled (Pool.unlessAbove (n, d)) }
+    ensures { (n d : ℕ) → above ≡ wide n → below ≡ wide d → result ≡ pooled (Pool.unless_above (n, d)) }
 {
     if wide::fits(above) & wide::fits(below) {
         Pooled::Sum(Ratio {

@@ -169,18 +169,18 @@ module _ {D T L D' T' L' : Type 0} (f : D → D') (g : T → T') (h : L → L') 
   module _ (A : Alphabet D T L) (B : Alphabet D' T' L') (same : Same A B) where
     -- ---- values and bases
     run_value_lem : (r : Row D) → run_value B (row_map f r) ≡ run_value A r
-    run_value_lem (one d) = same.digit_value d
-    run_value_lem (r ▷ d) = rw (run_value_lem r, same.digit_value d)
+    run_value_lem (one d) = same.digit_value_lem d
+    run_value_lem (r ▷ d) = rw (run_value_lem r, same.digit_value_lem d)
 
     atom_value_lem : (a : AtomOf D T) → atom_value B (atom_by a) ≡ atom_value A a
     atom_value_lem (run r) = run_value_lem r
-    atom_value_lem (times r t) = rw (run_value_lem r, same.ten-value t)
-    atom_value_lem (power t) = same.ten-value t
+    atom_value_lem (times r t) = rw (run_value_lem r, same.ten_value_lem t)
+    atom_value_lem (power t) = same.ten_value_lem t
 
     atom_base_lem : (a : AtomOf D T) → atom_base B (atom_by a) ≡ atom_base A a
     atom_base_lem (run r) = refl
-    atom_base_lem (times r t) = same.ten-base t
-    atom_base_lem (power t) = same.ten-base t
+    atom_base_lem (times r t) = same.ten_base_lem t
+    atom_base_lem (power t) = same.ten_base_lem t
 
     small_value_lem : (s : Row (AtomOf D T)) → small_value B (row_map atom_by s) ≡ small_value A s
     small_value_lem (one a) = atom_value_lem a
@@ -191,13 +191,13 @@ module _ {D T L D' T' L' : Type 0} (f : D → D') (g : T → T') (h : L → L') 
 
     member_value_lem : (m : MemberOf D T L) → member_value B (member_by m) ≡ member_value A m
     member_value_lem (small s) = small_value_lem s
-    member_value_lem (block s l) = rw (small_value_lem s, same.large-value l)
-    member_value_lem (lone l) = same.large-value l
+    member_value_lem (block s l) = rw (small_value_lem s, same.large_value_lem l)
+    member_value_lem (lone l) = same.large_value_lem l
 
     member_base_lem : (m : MemberOf D T L) → member_base B (member_by m) ≡ member_base A m
     member_base_lem (small s) = small_base_lem s
-    member_base_lem (block s l) = same.large-base l
-    member_base_lem (lone l) = same.large-base l
+    member_base_lem (block s l) = same.large_base_lem l
+    member_base_lem (lone l) = same.large_base_lem l
 
     -- ---- the rules say the same of both
     is_atom : (a : AtomOf D T) → IsAtom B (atom_by a) ≡ IsAtom A a
@@ -237,7 +237,7 @@ module _ {D T L D' T' L' : Type 0} (f : D → D') (g : T → T') (h : L → L') 
     is_block_lem (lone l) = refl
 
     single_digit_lem : (m : MemberOf D T L) → single_digit B (member_by m) ≡ single_digit A m
-    single_digit_lem (small (one (run (one d)))) = same.digit_value d
+    single_digit_lem (small (one (run (one d)))) = same.digit_value_lem d
     single_digit_lem (small (one (run (r ▷ d)))) = refl
     single_digit_lem (small (one (times r t))) = refl
     single_digit_lem (small (one (power t))) = refl
