@@ -225,10 +225,10 @@ unfolding d1_rule longer joined char_edge
 next_token_char i j (digits r) c (digit d) q =
     both_cond (λ t d. TokenChain i t d (suc j)) D1 c (edge_at j (digit d)) true (digits (r ▷ d)) j q.0.end refl (rw (q.1, is_digit_lem j (digit d)))
     (λ _. (over_digits_shows q.0 (char_shows j (digit d)), refl))
-next_token_char i j (digits r) c (ten t) q = both_none _ D1 c _ (rw (q.1, is_digit_lem j (ten t)))
-next_token_char i j (digits r) c (large l) q = both_none _ D1 c _ (rw (q.1, is_digit_lem j (large l)))
-next_token_char i j (ten₁ t) c a q = both_none _ D1 c _ (rw q.1)
-next_token_char i j (large₁ l) c a q = both_none _ D1 c _ (rw q.1)
+next_token_char i j (digits r) c (ten t) q = both_none (λ t d. TokenChain i t d (suc j)) D1 c _ (rw (q.1, is_digit_lem j (ten t)))
+next_token_char i j (digits r) c (large l) q = both_none (λ t d. TokenChain i t d (suc j)) D1 c _ (rw (q.1, is_digit_lem j (large l)))
+next_token_char i j (ten₁ t) c a q = both_none (λ t d. TokenChain i t d (suc j)) D1 c _ (rw q.1)
+next_token_char i j (large₁ l) c a q = both_none (λ t d. TokenChain i t d (suc j)) D1 c _ (rw q.1)
 
 next_token : (i j k : ℕ) (s : Token) (c : Chain) (a : Char) (e : NumEdge) → TokenChain i s c j → CharEdge j a e k → Both (λ t d. TokenChain i t d k) (next₁ kinds s a) (next D1 c e)
 next_token i j k s c a e q h = rw (h.0, h.1) (next_token_char i j s c a q)
@@ -274,16 +274,16 @@ large_not_1 l = eqb-false (large_base l) 1 (λ e. omega (arith, (large_law l).tw
 
 next_piece : (i j k : ℕ) (s : Piece) (c : Chain) (a : Token) (e : NumEdge) → PieceChain i s c j → TokenEdge j a e k → Both (λ t d. PieceChain i t d k) (next₂ kinds s a) (next G1 c e)
 unfolding g1_rule longer joined
-next_piece i j k (atom (run r)) c (digits q) e h g = both_none _ G1 c e (rw (h.1, h.0.base, h.0.value, g.base, g.large, and-false (leb 1 (run_value kinds r))))
+next_piece i j k (atom (run r)) c (digits q) e h g = both_none (λ t d. PieceChain i t d k) G1 c e (rw (h.1, h.0.base, h.0.value, g.base, g.large, and-false (leb 1 (run_value kinds r))))
 next_piece i j k (atom (run r)) c (ten₁ t) e h g =
     both_cond (λ t d. PieceChain i t d k) G1 c e (leb 1 (run_value kinds r)) (atom (times r t)) j h.0.end g.start
     (rw (h.1, h.0.base, h.0.value, g.base, g.large, (ten_base_lem t).1, and-true (leb 1 (run_value kinds r)), and-true (leb 1 (run_value kinds r))))
     (λ _. (over_shows h.0 g G1 _ _ _ _ _ (rw (h.0.value, g.value)) g.base, refl))
 next_piece i j k (atom (run r)) c (large₁ l) e h g =
-    both_none _ G1 c e (rw (h.1, h.0.base, h.0.value, g.base, g.large, and-false (leb 1 (run_value kinds r) && ltb 1 (large_base l))))
-next_piece i j k (atom (times r t)) c a e h g = both_none _ G1 c e (rw h.1)
-next_piece i j k (atom (power t)) c a e h g = both_none _ G1 c e (rw (h.1, h.0.base, (ten_base_lem t).0))
-next_piece i j k (large₂ l) c a e h g = both_none _ G1 c e (rw (h.1, h.0.base, large_not_1 l))
+    both_none (λ t d. PieceChain i t d k) G1 c e (rw (h.1, h.0.base, h.0.value, g.base, g.large, and-false (leb 1 (run_value kinds r) && ltb 1 (large_base l))))
+next_piece i j k (atom (times r t)) c a e h g = both_none (λ t d. PieceChain i t d k) G1 c e (rw h.1)
+next_piece i j k (atom (power t)) c a e h g = both_none (λ t d. PieceChain i t d k) G1 c e (rw (h.1, h.0.base, (ten_base_lem t).0))
+next_piece i j k (large₂ l) c a e h g = both_none (λ t d. PieceChain i t d k) G1 c e (rw (h.1, h.0.base, large_not_1 l))
 
 pub pass_g1 : (w : List Char) (l : List NumEdge) (n : ℕ) → Tiles TokenEdge 0 (tokens kinds w) l n → Tiles PieceEdge 0 (pieces kinds w) (after G1 l) n
 unfolding after chains_of
@@ -329,8 +329,8 @@ next_part i j k (atoms s) c (atom a) e h g =
     both_cond (λ t d. PartChain i t d k) G2 c e (joins kinds (near_base kinds s) a) (atoms (s ▷ a)) j h.0.end g.start
     (rw (g.lone, h.0.value, h.0.large, h.1, g.large, g.value, g.base) (test (near_base kinds s) a))
     (λ _. (over_shows h.0 g G2 _ _ _ _ _ (rw (h.0.value, g.value)) g.base, rw (g.lone, g.base, h.1)))
-next_part i j k (atoms s) c (large₂ l) e h g = both_none _ G2 c e (rw (h.0.value, h.0.large, g.large))
-next_part i j k (large₃ l) c a e h g = both_none _ G2 c e (rw (h.0.value, h.0.large))
+next_part i j k (atoms s) c (large₂ l) e h g = both_none (λ t d. PartChain i t d k) G2 c e (rw (h.0.value, h.0.large, g.large))
+next_part i j k (large₃ l) c a e h g = both_none (λ t d. PartChain i t d k) G2 c e (rw (h.0.value, h.0.large))
 
 pub pass_g2 : (w : List Char) (l : List NumEdge) (n : ℕ) → Tiles PieceEdge 0 (pieces kinds w) l n → Tiles PartEdge 0 (smalls kinds w) (after G2 l) n
 unfolding after chains_of
@@ -361,12 +361,12 @@ begin_member i j (large₃ l) e h = (h, refl)
 
 next_member : (i j k : ℕ) (s : Member) (c : Chain) (a : Part) (e : NumEdge) → MemberChain i s c j → PartEdge j a e k → Both (λ t d. MemberChain i t d k) (next₄ kinds s a) (next G3 c e)
 unfolding g3_rule longer joined
-next_member i j k (small s) c (atoms t) e h g = both_none _ G3 c e (rw (h.1, h.0.value, h.0.large, g.value, g.large))
+next_member i j k (small s) c (atoms t) e h g = both_none (λ t d. MemberChain i t d k) G3 c e (rw (h.1, h.0.value, h.0.large, g.value, g.large))
 next_member i j k (small s) c (large₃ l) e h g =
     both_cond (λ t d. MemberChain i t d k) G3 c e true (block s l) j h.0.end g.start (rw (h.1, h.0.value, h.0.large, g.value, g.large))
     (λ _. (over_shows h.0 g G3 _ _ _ _ _ (rw (h.0.value, g.value)) g.base, refl))
-next_member i j k (block s l) c a e h g = both_none _ G3 c e (rw h.1)
-next_member i j k (lone l) c a e h g = both_none _ G3 c e (rw (h.1, h.0.value, h.0.large))
+next_member i j k (block s l) c a e h g = both_none (λ t d. MemberChain i t d k) G3 c e (rw h.1)
+next_member i j k (lone l) c a e h g = both_none (λ t d. MemberChain i t d k) G3 c e (rw (h.1, h.0.value, h.0.large))
 
 pub pass_g3 : (w : List Char) (l : List NumEdge) (n : ℕ) → Tiles PartEdge 0 (smalls kinds w) l n → Tiles MemberEdge 0 (members kinds w) (after G3 l) n
 unfolding after chains_of
