@@ -21,6 +21,7 @@ use Rattle.pass_list.proofs.in_turn.EveryLaws.{every_append}
 -- ---- lists
 module _ {A : Type 0} {P : A → Type 0} where
   pub every_at : {x : A} {l : List A} → Every P l → Memᴰ x l → P x
+  every_at nil m = elim m [ ]
   every_at (cons p h) (Memᴰ.head e) = subst P (sym e) p
   every_at (cons p h) (Memᴰ.tail m) = every_at h m
 
