@@ -5,8 +5,11 @@
 
 ghost use Rattle.std.specs.Prelude.{◌≤◌};
 
-use libc::{STDIN_FILENO, STDOUT_FILENO};
 use text::{Offset, Seq};
+
+const STDIN: i32 = 0;
+
+const STDOUT: i32 = 1;
 
 fn count_digits() -> u64 {
     let mut n: u64 = 0;
@@ -39,19 +42,19 @@ fn count_compared() -> u64 {
 
 fn write_answer(yes: bool) {
     if yes {
-        io::write_all(STDOUT_FILENO, b"\tyes");
+        io::write_all(STDOUT, b"\tyes");
     } else {
-        io::write_all(STDOUT_FILENO, b"\tno");
+        io::write_all(STDOUT, b"\tno");
     }
 }
 
 // The starts compared with the first character.
 fn write_compared(line: &[u8]) {
-    io::write_all(STDOUT_FILENO, b"\t");
+    io::write_all(STDOUT, b"\t");
     if let Seq::Char(c, _) = text::sequence::seq_at(line, Offset(0)) {
-        io::print_decimal(STDOUT_FILENO, compared(c));
+        io::print_decimal(STDOUT, compared(c));
     } else {
-        io::write_all(STDOUT_FILENO, b"-");
+        io::write_all(STDOUT, b"-");
     }
 }
 
@@ -60,21 +63,21 @@ fn write_rows(s: &[u8]) {
     while at < s.len() {
         let end = vectors::until(s, at, b'\n');
         let line = &s[at..end];
-        io::write_all(STDOUT_FILENO, line);
+        io::write_all(STDOUT, line);
         write_answer(digits::ends::begins_with_digit(line));
         write_answer(digits::ends::ends_with_digit(line));
         write_compared(line);
-        io::write_all(STDOUT_FILENO, b"\n");
+        io::write_all(STDOUT, b"\n");
         at = end + 1;
     }
 }
 
 fn main() {
-    io::print_decimal(STDOUT_FILENO, count_digits());
-    io::write_all(STDOUT_FILENO, b"\n");
-    io::print_decimal(STDOUT_FILENO, count_compared());
-    io::write_all(STDOUT_FILENO, b"\n");
+    io::print_decimal(STDOUT, count_digits());
+    io::write_all(STDOUT, b"\n");
+    io::print_decimal(STDOUT, count_compared());
+    io::write_all(STDOUT, b"\n");
     let mut buffer = [0u8; 4096];
-    let n = io::read_full(STDIN_FILENO, &mut buffer);
+    let n = io::read_full(STDIN, &mut buffer);
     write_rows(&buffer[..n]);
 }

@@ -3,6 +3,8 @@
 // old program answers.
 #![tactic(auto)]
 
+use std::io::Print;
+
 fn head(k: u64) {
     io::write_all(1, b"line ");
     io::print_decimal(1, k);
@@ -10,22 +12,23 @@ fn head(k: u64) {
 }
 
 // Every line of the text.
-fn print_all(s: &[u8]) {
+fn print_all<R: Print>(rt: &R, s: &[u8]) -> std::io::Result<()> {
     let mut from = 0;
     let mut k = 1;
     while from < s.len() {
         let end = print_line::read::line_end(s, from);
         head(k);
-        print_line::print_rows(&s[from..end]);
+        print_line::print_rows(rt, &s[from..end])?;
         from = end + 1;
         k += 1;
     }
+    Ok(())
 }
 
-fn main() {
-    print_line::print_line();
-    print_line::print_line();
+fn main(rt: HostRuntime) -> std::io::Result<()> {
+    print_line::print_line(&rt)?;
+    print_line::print_line(&rt)?;
     let mut text = io::large_buffer();
-    let n = io::read_full(libc::STDIN_FILENO, &mut text);
-    print_all(&text[..n]);
+    let n = io::read_full(0, &mut text);
+    print_all(&rt, &text[..n])
 }

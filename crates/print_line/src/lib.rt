@@ -1,6 +1,5 @@
-// The program of 01: reads one line from standard input and prints its rows with the plain table. What fails is said on standard error, and
-// then no line is taken for read and no row for printed: a program of the kit has no exit status of its own. The words of the
-// contracts are in specs/LineRows.antt.
+// The program of 01: reads one line from standard input and prints its rows with the plain table. A read or a write that fails is answered as the error, and
+// then no line is taken for read and no row for printed. The words of the contracts are in specs/LineRows.antt.
 #![tactic(auto)]
 
 pub mod read; // read.rt: a line from standard input
@@ -13,6 +12,7 @@ ghost use Rattle.print_line.specs.LineRows.{plain_answer};
 use crate::read::Got;
 use call::{Answer, WORK_SIZE};
 use lattice::MOST_BYTES;
+use std::io::{Input, Print, Write};
 
 // The text of a line with a table and no given edges. The rows of a listing that the call answers fit 65,536 bytes.
 fn answer_line(line: &[u8], table: &[u8], work: &mut [u8], out: &mut [u8], text: &mut [u8]) -> usize
@@ -37,29 +37,24 @@ fn plain_rows(line: &[u8], text: &mut [u8; 65536]) -> usize
     answer_line(line, &table, &mut work, &mut out, text)
 }
 
-fn print(text: &[u8]) {
-    if !io::write_all(libc::STDOUT_FILENO, text) {
-        os::fail(b"standard output");
-    }
-}
-
 // Prints the rows of a line, or of its refusal.
-pub fn print_rows(line: &[u8]) {
+pub fn print_rows<R: Print>(rt: &R, line: &[u8]) -> std::io::Result<()> {
     let mut text = io::large_buffer();
     let n = plain_rows(line, &mut text);
-    print(&text[..n]);
+    std::io::writer(rt).write_all(&text[..n])
 }
 
-fn answer_into(buf: &mut [u8]) {
-    match crate::read::read_line(buf) {
-        Got::Line(n) => print_rows(&buf[..n]),
-        Got::LastLine(n) => print_rows(&buf[..n]),
-        Got::Failed => os::fail(b"standard input"),
+fn answer_into<R: Input + Print>(rt: &R, buf: &mut [u8]) -> std::io::Result<()> {
+    let mut input = rt.reader();
+    match crate::read::read_line(&mut input, buf) {
+        Got::Line(n) => print_rows(rt, &buf[..n]),
+        Got::LastLine(n) => print_rows(rt, &buf[..n]),
+        Got::Failed(e) => Err(e),
     }
 }
 
 // Reads a line of at most 4,096 bytes and prints its rows.
-pub fn print_line() {
+pub fn print_line<R: Input + Print>(rt: &R) -> std::io::Result<()> {
     let mut buf = io::buffer();
-    answer_into(&mut buf);
+    answer_into(rt, &mut buf)
 }

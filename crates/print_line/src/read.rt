@@ -1,23 +1,25 @@
 // One line from standard input (01: "reads one line from standard input, up to a newline, the end or 4,096 bytes"). A failed read is told apart
 // from the end, so that no line is taken for whole that is not.
-ghost use Rattle.std.specs.Prelude.{◌≡◌, ◌+◌, ◌≤◌, ◌<◌, length, take, drop};
+ghost use Rattle.std.specs.Prelude.{◌≡◌, ◌+◌, ◌≤◌, ◌<◌, length, take, drop, IfOk};
 ghost use Rattle.print_line.specs.Line.{until_newline, OnALine, StepIs, LineIs};
 
+use std::io::Read;
+
 // What was read, a line of so many bytes at the buffer's front: behind it stands a newline, or the buffer ends; or the input ended behind it.
-#[derive(Clone, Copy)]
+#[derive(Drop)]
 pub enum Got {
     Line(usize),
     LastLine(usize),
-    Failed,
+    Failed(std::io::Error),
 }
 
 // What one read leaves: the line ends at the newline there, or goes on behind so many bytes; or the input has ended.
-#[derive(Clone, Copy)]
+#[derive(Drop)]
 enum Step {
     Ends(usize),
     Goes(usize),
     Nothing,
-    Failed,
+    Failed(std::io::Error),
 }
 
 // Where the line that goes on at an offset ends.
@@ -37,23 +39,23 @@ fn end_within(buf: &[u8], from: usize, to: usize) -> usize
 }
 
 // Reads once, behind the n bytes that are there.
-fn read_behind(buf: &mut [u8], n: usize) -> isize
+fn read_behind<I: Read>(input: &mut I, buf: &mut [u8], n: usize) -> std::io::Result<usize>
     requires { n ≤ length buf.old }
-    ensures { take n buf.new ≡ take n buf.old }
+    ensures kept { take n buf.new ≡ take n buf.old }
+    ensures within { IfOk result (λ more. n + more ≤ length buf.new) }
 {
-    libc::read(libc::STDIN_FILENO, &mut buf[n..])
+    input.read(&mut buf[n..])
 }
 
 // Reads once, behind the n bytes that are there, and looks where the line ends.
-fn read_more(buf: &mut [u8], n: usize) -> Step
+fn read_more<I: Read>(input: &mut I, buf: &mut [u8], n: usize) -> Step
     requires { (n ≤ length buf.old) × OnALine (take n buf.old) }
     ensures { StepIs n buf.new result }
 {
-    let got = read_behind(buf, n);
-    if got < 0 {
-        return Step::Failed;
-    }
-    let more = io::count(got, &buf[n..]);
+    let more = match read_behind(input, buf, n) {
+        Ok(more) => more,
+        Err(e) => return Step::Failed(e),
+    };
     if more == 0 {
         return Step::Nothing;
     }
@@ -66,13 +68,13 @@ fn read_more(buf: &mut [u8], n: usize) -> Step
 }
 
 // Reads a line into the buffer, as many bytes of it as fit.
-pub fn read_line(buf: &mut [u8]) -> Got
+pub fn read_line<I: Read>(input: &mut I, buf: &mut [u8]) -> Got
     ensures { LineIs buf.new result }
 {
     let mut n = 0;
     while n < buf.len() {
-        match read_more(buf, n) {
-            Step::Failed => return Got::Failed,
+        match read_more(input, buf, n) {
+            Step::Failed(e) => return Got::Failed(e),
             Step::Nothing => return Got::LastLine(n),
             Step::Ends(end) => return Got::Line(end),
             Step::Goes(to) => n = to,
