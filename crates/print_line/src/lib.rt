@@ -37,11 +37,15 @@ fn plain_rows(line: &[u8], text: &mut [u8; 65536]) -> usize
     answer_line(line, &table, &mut work, &mut out, text)
 }
 
+fn print<R: Print>(rt: &R, text: &[u8]) -> std::io::Result<()> {
+    std::io::writer(rt).write_all(text)
+}
+
 // Prints the rows of a line, or of its refusal.
 pub fn print_rows<R: Print>(rt: &R, line: &[u8]) -> std::io::Result<()> {
     let mut text = io::large_buffer();
     let n = plain_rows(line, &mut text);
-    std::io::writer(rt).write_all(&text[..n])
+    print(rt, &text[..n])
 }
 
 fn answer_into<R: Input + Print>(rt: &R, buf: &mut [u8]) -> std::io::Result<()> {
