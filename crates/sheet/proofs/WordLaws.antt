@@ -32,6 +32,7 @@ prefixed_in (c ∷ cs) ws u m = go (Memᴰ.append_cases (map (λ w. c ∷ w) ws)
     go (inr k) below = let b = below k in record { first = b.first; rest = b.rest; is = b.is; first_in = Memᴰ.tail b.first_in; rest_in = b.rest_in }
 
 prefixed_has : (cs : List Char) (ws : List (List Char)) (c : Char) (w : List Char) → Memᴰ c cs → Memᴰ w ws → Memᴰ (c ∷ w) (prefixed cs ws)
+prefixed_has [] ws c w m n = elim m [ ]
 prefixed_has (d ∷ cs) ws c w (Memᴰ.head e) n = Memᴰ.append_left {s = map (λ w. d ∷ w) ws} (prefixed cs ws) (rw e (Memᴰ.map (λ w. d ∷ w) n))
 prefixed_has (d ∷ cs) ws c w (Memᴰ.tail m) n = Memᴰ.append_right (map (λ w. d ∷ w) ws) (prefixed_has cs ws c w m n)
 

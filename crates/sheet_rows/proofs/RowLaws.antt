@@ -91,6 +91,7 @@ module _ {A : Type 0} (f : A → Option ℕ) where
   -- and the other way round
   pub rows_has : (l : List A) (a : A) (v : ℕ) → Memᴰ a l → f a ≡ some v → Memᴰ (a, v) (rows_of f l)
   unfolding rows_of
+  rows_has [] a v m h = elim m [ ]
   rows_has (b ∷ l) a v (Memᴰ.head e) h = rw (← e, h) (Memᴰ.head refl)
   rows_has (b ∷ l) a v (Memᴰ.tail m) h = row_after b (f b) (rows_has l a v m h)
 
