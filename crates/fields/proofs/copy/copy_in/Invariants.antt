@@ -1,0 +1,13 @@
+-- `fields::copy::copy_in` meets its contract. The loop's invariant: i bytes of s are stored, and the length is as it was.
+-- The measure is what is left of s. The mathematics of a turn is in `proofs/PartLaws.antt`. Assumes nothing.
+use Prim.Native.Nat.{◌≤◌, ◌-◌}
+use mathlib.Core.Path.{◌≡◌}
+use lib.ListN.{length, take}
+use lib.Seq.{sets}
+use Rattle.fields.proofs.copy.copy_in.Given as goal
+
+abbrev pub invariant-loop-i : goal.invariant-loop-i
+invariant-loop-i l = (l.i ≤ length l.s) × (length l.out ≡ length l.initial.out) × (l.out ≡ sets l.initial.out l.at (take l.i l.s))
+
+abbrev pub decreases-loop-i : goal.decreases-loop-i
+decreases-loop-i l = length l.s - l.i
