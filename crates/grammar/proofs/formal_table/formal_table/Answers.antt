@@ -7,12 +7,12 @@ use Rattle.table.specs.TableBytes.{string, in_row, list, map_of, record_bytes, t
 use Rattle.grammar.specs.Plain.{plain, plain_record}
 use Rattle.grammar.specs.OtherCharacters.{record_of, table_of}
 use Rattle.grammar.specs.Formal.{formal, formal_bytes}
-use Rattle.grammar.proofs.formal_table.formal_table.Statement.{statement}
-use Rattle.grammar.proofs.formal_table.formal_table.Tie as tie
+use Rattle.grammar.proofs.formal_table.formal_table.Goals as goal
 
-returns : tie.Need-returns
+pub returns : goal.returns
 unfolding formal_bytes table_bytes record_bytes map_of list in_row string formal table_of record_of plain plain_record bytes_of encode decimal decimal_within
-returns c = (refl, refl)
-
-pub formal-table-spec : {M : Type 1} → statement M
-formal-table-spec = tie.close (tie.spec returns)
+returns c =
+    record {
+      bytes = refl;
+      lent = refl;
+    }
