@@ -38,7 +38,6 @@ fn numbers_of(e: EdgeView, d: NumFields) -> [u64; EDGE_NUMBERS]
 }
 
 // The edge at an offset, and the offset behind it.
-#[unsafe(no_mangle)]
 pub extern "C" fn rilvostam_edge_at(
     listing: &[u8],
     at: u64,

@@ -27,7 +27,6 @@ use paths::Query;
 use text::Place;
 
 // The written numbers of a line as a listing of edges, behind those given.
-#[unsafe(no_mangle)]
 pub extern "C" fn rilvostam_add_numbers(
     line: &[u8],
     table: &[u8],
@@ -51,7 +50,6 @@ pub extern "C" fn rilvostam_add_numbers(
 }
 
 // The best edge of a span.
-#[unsafe(no_mangle)]
 pub extern "C" fn rilvostam_best_edge(
     line: &[u8],
     listing: &[u8],
@@ -72,7 +70,6 @@ pub extern "C" fn rilvostam_best_edge(
 }
 
 // The right neighbour of a place.
-#[unsafe(no_mangle)]
 pub extern "C" fn rilvostam_right_neighbor(
     line: &[u8],
     listing: &[u8],
@@ -92,7 +89,6 @@ pub extern "C" fn rilvostam_right_neighbor(
 }
 
 // The left neighbour of a place.
-#[unsafe(no_mangle)]
 pub extern "C" fn rilvostam_left_neighbor(
     line: &[u8],
     listing: &[u8],
@@ -112,7 +108,6 @@ pub extern "C" fn rilvostam_left_neighbor(
 }
 
 // The path from start to end, written to the output as a listing.
-#[unsafe(no_mangle)]
 pub extern "C" fn rilvostam_path(
     line: &[u8],
     listing: &[u8],
@@ -147,7 +142,6 @@ pub extern "C" fn rilvostam_path(
 }
 
 // The text shown at a place: its offset and length, in the listing or in the line.
-#[unsafe(no_mangle)]
 pub extern "C" fn rilvostam_shown_text(
     line: &[u8],
     listing: &[u8],

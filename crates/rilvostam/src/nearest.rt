@@ -7,7 +7,6 @@ ghost use Rattle.rilvostam.specs.Exported.{place_of};
 use text::Place;
 
 // The active numeric edge nearest to a place.
-#[unsafe(no_mangle)]
 pub extern "C" fn rilvostam_nearest_number(
     line: &[u8],
     listing: &[u8],

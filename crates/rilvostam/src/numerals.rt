@@ -27,7 +27,6 @@ fn written_told(w: Written) -> CStatus
 }
 
 // The numeral of a number, at the front of the output.
-#[unsafe(no_mangle)]
 pub extern "C" fn rilvostam_write_number(number: u64, out: &mut [u8], at: &mut u64) -> u32
     ensures status { result ≡ (written_told (written number (length out.old))).status }
     ensures place { at.new ≡ (written_told (written number (length out.old))).at }
@@ -66,7 +65,6 @@ fn field_told(f: Field) -> CField
 }
 
 // Is the line one number?
-#[unsafe(no_mangle)]
 pub extern "C" fn rilvostam_read_field(line: &[u8], is_number: &mut u8, at: &mut u64) -> u32
     ensures status { result ≡ (field_told (field_of line.now)).status }
     ensures number { is_number.new ≡ (field_told (field_of line.now)).number }
@@ -101,7 +99,6 @@ fn weights_told(w: Weighed) -> CStatus
 }
 
 // The weight of each 一 to 九 of a line, at the front of the output.
-#[unsafe(no_mangle)]
 pub extern "C" fn rilvostam_weights(line: &[u8], out: &mut [u8], at: &mut u64) -> u32
     ensures status { result
         ≡ (weights_told (weighed.weigh line.now (length out.old))).status }
@@ -138,7 +135,6 @@ fn worn_told(w: Worn) -> CStatus
 }
 
 // The characters that may have stood at the line's □, each in a row with the line's value, at the front of the output.
-#[unsafe(no_mangle)]
 pub extern "C" fn rilvostam_worn_character(line: &[u8], out: &mut [u8], at: &mut u64) -> u32
     ensures status { result ≡ (worn_told (worn.worn line.now (length out.old))).status }
     ensures place { at.new ≡ (worn_told (worn.worn line.now (length out.old))).at }

@@ -3,7 +3,6 @@ ghost use Rattle.std.specs.Prelude.{◌≡◌};
 ghost use Rattle.shares.specs.Told.{pool_told};
 
 // What the active edges with a fraction come to together, in lowest terms.
-#[unsafe(no_mangle)]
 pub extern "C" fn rilvostam_pool_shares(
     line: &[u8],
     listing: &[u8],

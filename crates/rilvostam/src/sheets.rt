@@ -3,7 +3,6 @@ ghost use Rattle.std.specs.Prelude.{◌≡◌, length};
 ghost use Rattle.sheet.specs.Answer.{answer, output};
 
 // The page of the proof sheet from a position on, at the front of the output. Refuses nothing.
-#[unsafe(no_mangle)]
 pub extern "C" fn rilvostam_proof_sheet(
     position: u64,
     out: &mut [u8],

@@ -25,7 +25,6 @@ fn put_table(table: &[u8], out: &mut [u8]) -> Answer
 }
 
 // The plain table.
-#[unsafe(no_mangle)]
 pub extern "C" fn rilvostam_plain_table(out: &mut [u8], at: &mut u64) -> u32
     ensures status { result ≡ (call_told (supplied plain_bytes (length out.old))).status }
     ensures place { at.new ≡ (call_told (supplied plain_bytes (length out.old))).at }
@@ -39,7 +38,6 @@ pub extern "C" fn rilvostam_plain_table(out: &mut [u8], at: &mut u64) -> u32
 }
 
 // The formal table.
-#[unsafe(no_mangle)]
 pub extern "C" fn rilvostam_formal_table(out: &mut [u8], at: &mut u64) -> u32
     ensures status { result ≡ (call_told (supplied formal_bytes (length out.old))).status }
     ensures place { at.new ≡ (call_told (supplied formal_bytes (length out.old))).at }
@@ -73,7 +71,6 @@ fn regular_told(a: RegularCheck) -> CStatus
 }
 
 // Whether a table is regular.
-#[unsafe(no_mangle)]
 pub extern "C" fn rilvostam_regular_table(table: &[u8], at: &mut u64) -> u32
     ensures status { result ≡ (regular_told (check_regular table.now)).status }
     ensures place { at.new ≡ (regular_told (check_regular table.now)).at }

@@ -3,7 +3,6 @@ ghost use Rattle.std.specs.Prelude.{◌≡◌};
 ghost use Rattle.rilvostam.specs.Version.{version};
 
 // One number: its ten thousands are major, the hundreds below them minor, the rest patch.
-#[unsafe(no_mangle)]
 pub extern "C" fn rilvostam_version() -> u32
     ensures { result ≡ version }
 {

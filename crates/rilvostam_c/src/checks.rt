@@ -1,0 +1,13 @@
+// The check of a table for C: refusals 4 and 5 as the call would give them, without a line. Thin, as the functions of lib.rt.
+ghost use Rattle.std.specs.Prelude.{◌≡◌};
+ghost use Rattle.table.specs.Check.{read_table};
+ghost use Rattle.rilvostam.specs.TableTold.{table_told};
+
+// The count of a table's records, or why the bytes are none.
+#[unsafe(no_mangle)]
+pub extern "C" fn rilvostam_check_table(table: &[u8], at: &mut u64) -> u32
+    ensures status { result ≡ (table_told (read_table table.now)).status }
+    ensures place { at.new ≡ (table_told (read_table table.now)).at }
+{
+    rilvostam::checks::rilvostam_check_table(table, at)
+}
