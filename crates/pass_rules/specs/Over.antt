@@ -4,7 +4,6 @@
 use Rattle.std.specs.Prelude.{Bool, cond, ℕ, ltb}
 use Rattle.whole.specs.Whole.{TOP, of_nat}
 use Rattle.pass_rules.specs.declared.value.Over.{Over}
-use Rattle.pass_rules.specs.declared.value.Over.TheVariants as Over
 
 abbrev pub over_answer : Bool → ℕ → Over
 over_answer fits n = cond fits (cond (ltb TOP n) Over.Above (Over.Value (of_nat n))) Over.Apart

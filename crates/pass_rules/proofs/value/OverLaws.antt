@@ -1,8 +1,8 @@
 -- Laws of what the value over two edges answers (`specs/Over.antt`), for this crate's proofs. No contract cites this file.
 -- In order: what each answer says; values of whole edges; where one has decimals. Assumes nothing.
-use mathlib.Core.Path.{◌≡◌, refl, sym, ap, ◌∙◌}
-use mathlib.Core.Bool.{Bool, true, false, cond, ◌&&◌, ◌||◌}
-use Prim.Native.Nat.{ℕ, ◌*◌, ◌/◌, ◌%◌, ◌^◌, ◌≤◌, ◌<◌}
+use mathlib.Core.Path.{◌≡◌, refl}
+use mathlib.Core.Bool.{Bool, true, false, cond, ◌&&◌}
+use Prim.Native.Nat.{ℕ, ◌/◌, ◌%◌, ◌^◌, ◌≤◌, ◌<◌}
 use native.Mathlib.Omega.{arith}
 use lib.Dec.{ltb, leb, eqb}
 use lib.Ieee.{Float}
@@ -19,7 +19,6 @@ use Rattle.passes.specs.Passes.{Pass, D1, G1, G2, G3, G4}
 use Rattle.pass_list.specs.StoredEdge.{StoredEdge}
 use Rattle.pass_list.specs.StoredPass.{value_of, both_whole, whole_product, takes_decimal, decimals_fit}
 use Rattle.pass_rules.specs.declared.value.Over.{Over}
-use Rattle.pass_rules.specs.declared.value.Over.TheVariants as Over
 use Rattle.pass_rules.specs.Over.{over_answer}
 
 -- ---- what each answer says

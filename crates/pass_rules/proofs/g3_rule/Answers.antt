@@ -1,0 +1,7 @@
+-- `g3_rule` meets its contract: the tests are those of the definition. Assumes nothing.
+use Rattle.pass_list.specs.StoredPass.{g3_rule}
+use Rattle.pass_rules.proofs.g3_rule.Goals as goal
+
+pub returns : goal.returns
+unfolding g3_rule
+returns c x y m l v b g = rw (m, l, v, b, g)
