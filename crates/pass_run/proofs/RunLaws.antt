@@ -7,7 +7,7 @@ use mathlib.Core.Logic.{inl}
 use mathlib.Core.Bool.{Bool, true, false, cond}
 use mathlib.Core.List.{List, [], ◌∷◌, ◌++◌, append_assoc, append-nil}
 use mathlib.Core.Option.{Option, none, some}
-use Prim.Native.Nat.{ℕ, zero, suc, ◌+◌, ◌*◌, ◌-◌, ◌^◌, ◌≤◌, ◌<◌}
+use Prim.Native.Nat.{ℕ, zero, suc, ◌+◌, ◌*◌, ◌-◌, ◌≤◌, ◌<◌}
 use native.Mathlib.Nat.{lt_of_lt_of_le, add-zero}
 use native.Mathlib.Numerals.{add-one}
 use native.Mathlib.Omega.{arith}
@@ -22,7 +22,6 @@ use Rattle.text.proofs.RowLaws.{and-true}
 use Rattle.passes.specs.Passes.{Pass, D1, G1, G2, G3, G4}
 use Rattle.pass_list.specs.declared.record.PassEdge.{PassEdge}
 use Rattle.pass_rules.specs.declared.chain.Chain.{Chain}
-use Rattle.pass_rules.specs.declared.chain.Next.{Next}
 use Rattle.pass_rules.specs.declared.chain.Next.TheVariants.{Longer, Ends, Above}
 use Rattle.pass_list.specs.declared.run.PassAnswer.TheVariants as PassAnswer
 use Rattle.fields.specs.Part.{part}
@@ -30,13 +29,12 @@ use Rattle.fields.proofs.PartLaws.{length_part, part_at, part_take, part_sets, p
 use Rattle.pass_list.specs.StoredEdge.{StoredEdge, Small, nil, cons, AllSmall, Fits, EdgeIs}
 use Rattle.pass_list.specs.Layout.{SIZE}
 use Rattle.pass_list.specs.Stored.{record_bytes, stored_at, stored_list_at}
-use Rattle.pass_list.specs.StoredPass.{StoredChain, begin, meets, g1_rule, g3_rule, rule, counted, kind_of, joins, joined_value, longer, next, over, chains_of, edges_of, joined_of, after, added, first_above}
+use Rattle.pass_list.specs.StoredPass.{StoredChain, begin, meets, g1_rule, g3_rule, rule, counted, joins, joined_value, longer, next, over, chains_of, edges_of, joined_of, after, added, first_above}
 use Rattle.pass_list.specs.Answers.{PassAnswerIs}
 use Rattle.pass_rules.specs.Chain.{pass_chain, ChainIs, answer}
 use Rattle.pass_run.specs.Ended.{Ended}
 use Rattle.text.specs.declared.Place.{Place}
 use Rattle.pass_run.specs.declared.ChainRun.{ChainRun}
-use Rattle.pass_run.specs.declared.ChainRun.TheVariants as ChainRun
 use Rattle.pass_run.specs.declared.ChainRun.TheVariants.{To}
 use Rattle.pass_run.specs.Run.{First, Ran, RunIs}
 use Rattle.pass_list.proofs.NextLaws.{joins_of_next}

@@ -28,9 +28,7 @@ use Rattle.paths.proofs.ReadingLaws.{first_two, reads, spans_le}
 use Rattle.passes.specs.declared.ratio.Ratio.{Ratio}
 use Rattle.passes.specs.Characters.{gcd_within, gcd, lowest}
 use Rattle.shares.specs.declared.Pooled.{Pooled}
-use Rattle.shares.specs.declared.Pooled.TheVariants as Pooled
 use Rattle.shares.specs.declared.Share.{Share}
-use Rattle.shares.specs.declared.Share.TheVariants as Share
 use Rattle.shares.specs.declared.Shares.{Shares}
 use Rattle.shares.specs.declared.Shares.TheVariants.{Sum, Above, Refused}
 use Rattle.shares.specs.Pool.{Fraction, pool}

@@ -11,7 +11,6 @@ use Rattle.edge.specs.Layout.{next_at, edge_at, edges_at, listed}
 use Rattle.edge.specs.Check.{each, sound_fraction}
 use Rattle.paths.specs.declared.ReadRefusal.{ReadRefusal}
 use Rattle.paths.specs.declared.ReadCheck.{ReadCheck}
-use Rattle.paths.specs.declared.ReadCheck.TheVariants as ReadCheck
 use Rattle.paths.specs.Reading.{Spans, readable, read_check}
 use Rattle.paths.proofs.ReadingLaws.{reads}
 use Rattle.passes.specs.declared.ratio.Ratio.{Ratio}

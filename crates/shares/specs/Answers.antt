@@ -11,9 +11,7 @@ use Rattle.whole.specs.Whole.{TOP}
 use Rattle.passes.specs.declared.ratio.Ratio.{Ratio}
 use Rattle.passes.specs.Characters.{lowest}
 use Rattle.shares.specs.declared.Pooled.{Pooled}
-use Rattle.shares.specs.declared.Pooled.TheVariants as Pooled
 use Rattle.shares.specs.declared.Share.{Share}
-use Rattle.shares.specs.declared.Share.TheVariants as Share
 use Rattle.shares.specs.Pool.{Fraction}
 
 abbrev pub fraction_of : Ratio → Fraction

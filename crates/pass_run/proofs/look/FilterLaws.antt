@@ -1,6 +1,6 @@
 -- Laws of the tests before an edge is read (`pass_list`, specs/StoredPass.antt): what holds wherever a pass joins. No contract cites this file.
 -- In order: rows of tests; what a rule needs; a chain and the next edge; two edges by their fields in the list; two that don't touch. Assumes nothing.
-use mathlib.Core.Path.{◌≡◌, refl, sym, ap, ◌∙◌, subst}
+use mathlib.Core.Path.{◌≡◌, refl, sym, ◌∙◌, subst}
 use mathlib.Core.Logic.{◌⊎◌, inl, inr}
 use mathlib.Core.Bool.{Bool, true, false, ◌&&◌, ◌||◌, not, cond}
 use mathlib.Core.List.{List}
