@@ -1,4 +1,4 @@
-//! Links librilvostam.a: from RILVOSTAM_LIB_DIR, or from where `rt staticlib rilvostam` writes it.
+//! Links librilvostam.a: from RILVOSTAM_LIB_DIR, or from where `tools/prove --library` writes it.
 fn main() {
     println!("cargo::rerun-if-env-changed=RILVOSTAM_LIB_DIR");
     let here = std::env::var("CARGO_MANIFEST_DIR").expect("cargo sets it");

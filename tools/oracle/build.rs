@@ -1,4 +1,4 @@
-//! With the feature `library`: links librilvostam.a from where `rt staticlib rilvostam` writes it.
+//! With the feature `library`: links librilvostam.a from where `tools/prove --library` writes it.
 fn main() {
     if std::env::var_os("CARGO_FEATURE_LIBRARY").is_some() {
         let folder = concat!(env!("CARGO_MANIFEST_DIR"), "/../../target/staticlib");

@@ -7,7 +7,7 @@ use table::index::INDEX_SIZE;
 use table::shape::TableCheck;
 
 // The count of a table's records, or why the bytes are none.
-pub extern "C" fn rilvostam_check_table(table: &[u8], at: &mut u64) -> u32
+pub fn rilvostam_check_table(table: &[u8], at: &mut u64) -> u32
     ensures status { result ≡ (table_told (read_table table.now)).status }
     ensures place { at.new ≡ (table_told (read_table table.now)).at }
 {

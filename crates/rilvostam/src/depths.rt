@@ -4,7 +4,7 @@ ghost use Rattle.numbers.specs.Call.{add_numbers_with_decimals, out_after};
 ghost use Rattle.rilvostam.specs.Exported.{call_told};
 
 // The written numbers of a line as a listing of edges, behind those given; digits, a point and digits are one edge in it.
-pub extern "C" fn rilvostam_add_numbers_with_decimals(
+pub fn rilvostam_add_numbers_with_decimals(
     line: &[u8],
     table: &[u8],
     edges: &[u8],

@@ -38,7 +38,7 @@ fn numbers_of(e: EdgeView, d: NumFields) -> [u64; EDGE_NUMBERS]
 }
 
 // The edge at an offset, and the offset behind it.
-pub extern "C" fn rilvostam_edge_at(
+pub fn rilvostam_edge_at(
     listing: &[u8],
     at: u64,
     numbers: &mut [u64; EDGE_NUMBERS],

@@ -8,7 +8,7 @@ pub mod pooling; // pooling.rt: what a listing's shares come to
 pub mod nearest; // nearest.rt: the number nearest to a place (02, S-14)
 pub mod edges; // edges.rt: the edge at an offset of a listing
 pub mod checks; // checks.rt: the check of a table
-pub mod singles; // singles.rt: the numbers of a line, without singles that may not stand (02, S-12)
+pub mod without_singles; // without_singles.rt: the numbers of a line, without singles that may not stand (02, S-12)
 pub mod depths; // depths.rt: the numbers of a line, with decimals (02, S-13)
 pub mod registers; // registers.rt: the numbers of many lines, by pages
 pub mod tables; // tables.rt: the plain and the formal table
@@ -27,7 +27,7 @@ use paths::Query;
 use text::Place;
 
 // The written numbers of a line as a listing of edges, behind those given.
-pub extern "C" fn rilvostam_add_numbers(
+pub fn rilvostam_add_numbers(
     line: &[u8],
     table: &[u8],
     edges: &[u8],
@@ -50,7 +50,7 @@ pub extern "C" fn rilvostam_add_numbers(
 }
 
 // The best edge of a span.
-pub extern "C" fn rilvostam_best_edge(
+pub fn rilvostam_best_edge(
     line: &[u8],
     listing: &[u8],
     start: u64,
@@ -70,7 +70,7 @@ pub extern "C" fn rilvostam_best_edge(
 }
 
 // The right neighbour of a place.
-pub extern "C" fn rilvostam_right_neighbor(
+pub fn rilvostam_right_neighbor(
     line: &[u8],
     listing: &[u8],
     place: u64,
@@ -89,7 +89,7 @@ pub extern "C" fn rilvostam_right_neighbor(
 }
 
 // The left neighbour of a place.
-pub extern "C" fn rilvostam_left_neighbor(
+pub fn rilvostam_left_neighbor(
     line: &[u8],
     listing: &[u8],
     place: u64,
@@ -108,7 +108,7 @@ pub extern "C" fn rilvostam_left_neighbor(
 }
 
 // The path from start to end, written to the output as a listing.
-pub extern "C" fn rilvostam_path(
+pub fn rilvostam_path(
     line: &[u8],
     listing: &[u8],
     start: u64,
@@ -142,7 +142,7 @@ pub extern "C" fn rilvostam_path(
 }
 
 // The text shown at a place: its offset and length, in the listing or in the line.
-pub extern "C" fn rilvostam_shown_text(
+pub fn rilvostam_shown_text(
     line: &[u8],
     listing: &[u8],
     place: u64,

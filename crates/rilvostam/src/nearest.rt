@@ -7,12 +7,7 @@ ghost use Rattle.rilvostam.specs.Exported.{place_of};
 use text::Place;
 
 // The active numeric edge nearest to a place.
-pub extern "C" fn rilvostam_nearest_number(
-    line: &[u8],
-    listing: &[u8],
-    place: u64,
-    at: &mut u64,
-) -> u32
+pub fn rilvostam_nearest_number(line: &[u8], listing: &[u8], place: u64, at: &mut u64) -> u32
     ensures status { result ≡ (answer_told (nearest_number line.now listing.now
         (place_of place))).status }
     ensures place { at.new ≡ (answer_told

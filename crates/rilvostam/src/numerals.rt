@@ -27,7 +27,7 @@ fn written_told(w: Written) -> CStatus
 }
 
 // The numeral of a number, at the front of the output.
-pub extern "C" fn rilvostam_write_number(number: u64, out: &mut [u8], at: &mut u64) -> u32
+pub fn rilvostam_write_number(number: u64, out: &mut [u8], at: &mut u64) -> u32
     ensures status { result ≡ (written_told (written number (length out.old))).status }
     ensures place { at.new ≡ (written_told (written number (length out.old))).at }
     ensures output { out.new ≡ output number out.old }
@@ -65,7 +65,7 @@ fn field_told(f: Field) -> CField
 }
 
 // Is the line one number?
-pub extern "C" fn rilvostam_read_field(line: &[u8], is_number: &mut u8, at: &mut u64) -> u32
+pub fn rilvostam_read_field(line: &[u8], is_number: &mut u8, at: &mut u64) -> u32
     ensures status { result ≡ (field_told (field_of line.now)).status }
     ensures number { is_number.new ≡ (field_told (field_of line.now)).number }
     ensures value { at.new ≡ (field_told (field_of line.now)).at }
@@ -99,7 +99,7 @@ fn weights_told(w: Weighed) -> CStatus
 }
 
 // The weight of each 一 to 九 of a line, at the front of the output.
-pub extern "C" fn rilvostam_weights(line: &[u8], out: &mut [u8], at: &mut u64) -> u32
+pub fn rilvostam_weights(line: &[u8], out: &mut [u8], at: &mut u64) -> u32
     ensures status { result
         ≡ (weights_told (weighed.weigh line.now (length out.old))).status }
     ensures count { at.new
@@ -135,7 +135,7 @@ fn worn_told(w: Worn) -> CStatus
 }
 
 // The characters that may have stood at the line's □, each in a row with the line's value, at the front of the output.
-pub extern "C" fn rilvostam_worn_character(line: &[u8], out: &mut [u8], at: &mut u64) -> u32
+pub fn rilvostam_worn_character(line: &[u8], out: &mut [u8], at: &mut u64) -> u32
     ensures status { result ≡ (worn_told (worn.worn line.now (length out.old))).status }
     ensures place { at.new ≡ (worn_told (worn.worn line.now (length out.old))).at }
     ensures output { out.new ≡ worn.output line.now out.old }

@@ -3,7 +3,7 @@ ghost use Rattle.std.specs.Prelude.{◌≡◌};
 ghost use Rattle.shares.specs.Told.{pool_told};
 
 // What the active edges with a fraction come to together, in lowest terms.
-pub extern "C" fn rilvostam_pool_shares(
+pub fn rilvostam_pool_shares(
     line: &[u8],
     listing: &[u8],
     numerator: &mut u64,

@@ -4,7 +4,7 @@ ghost use Rattle.lines.specs.Pages.{add_numbers_to_lines, out_after};
 ghost use Rattle.lines.specs.Told.{lines_told};
 
 // A page of the lines' entries, at the front of the output: each what `rilvostam_add_numbers` tells of its line.
-pub extern "C" fn rilvostam_add_numbers_to_lines(
+pub fn rilvostam_add_numbers_to_lines(
     lines: &[u8],
     table: &[u8],
     work: &mut [u8],

@@ -3,12 +3,7 @@ ghost use Rattle.std.specs.Prelude.{◌≡◌, length};
 ghost use Rattle.sheet.specs.Answer.{answer, output};
 
 // The page of the proof sheet from a position on, at the front of the output. Refuses nothing.
-pub extern "C" fn rilvostam_proof_sheet(
-    position: u64,
-    out: &mut [u8],
-    at: &mut u64,
-    next: &mut u64,
-) -> u32
+pub fn rilvostam_proof_sheet(position: u64, out: &mut [u8], at: &mut u64, next: &mut u64) -> u32
     ensures status { result ≡ 0 }
     ensures bytes { at.new ≡ (answer position (length out.old)).bytes }
     ensures after { next.new ≡ (answer position (length out.old)).next }

@@ -25,7 +25,7 @@ fn put_table(table: &[u8], out: &mut [u8]) -> Answer
 }
 
 // The plain table.
-pub extern "C" fn rilvostam_plain_table(out: &mut [u8], at: &mut u64) -> u32
+pub fn rilvostam_plain_table(out: &mut [u8], at: &mut u64) -> u32
     ensures status { result ≡ (call_told (supplied plain_bytes (length out.old))).status }
     ensures place { at.new ≡ (call_told (supplied plain_bytes (length out.old))).at }
     ensures output { out.new
@@ -38,7 +38,7 @@ pub extern "C" fn rilvostam_plain_table(out: &mut [u8], at: &mut u64) -> u32
 }
 
 // The formal table.
-pub extern "C" fn rilvostam_formal_table(out: &mut [u8], at: &mut u64) -> u32
+pub fn rilvostam_formal_table(out: &mut [u8], at: &mut u64) -> u32
     ensures status { result ≡ (call_told (supplied formal_bytes (length out.old))).status }
     ensures place { at.new ≡ (call_told (supplied formal_bytes (length out.old))).at }
     ensures output { out.new
@@ -71,7 +71,7 @@ fn regular_told(a: RegularCheck) -> CStatus
 }
 
 // Whether a table is regular.
-pub extern "C" fn rilvostam_regular_table(table: &[u8], at: &mut u64) -> u32
+pub fn rilvostam_regular_table(table: &[u8], at: &mut u64) -> u32
     ensures status { result ≡ (regular_told (check_regular table.now)).status }
     ensures place { at.new ≡ (regular_told (check_regular table.now)).at }
 {

@@ -3,7 +3,7 @@ ghost use Rattle.std.specs.Prelude.{◌≡◌};
 ghost use Rattle.rilvostam.specs.Version.{version};
 
 // One number: its ten thousands are major, the hundreds below them minor, the rest patch.
-pub extern "C" fn rilvostam_version() -> u32
+pub fn rilvostam_version() -> u32
     ensures { result ≡ version }
 {
     100

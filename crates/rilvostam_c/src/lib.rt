@@ -7,7 +7,7 @@ pub mod pooling; // pooling.rt: what a listing's shares come to
 pub mod nearest; // nearest.rt: the number nearest to a place (02, S-14)
 pub mod edges; // edges.rt: the edge at an offset of a listing
 pub mod checks; // checks.rt: the check of a table
-pub mod singles; // singles.rt: the numbers of a line, without singles that may not stand (02, S-12)
+pub mod without_singles; // without_singles.rt: the numbers of a line, without singles that may not stand (02, S-12)
 pub mod depths; // depths.rt: the numbers of a line, with decimals (02, S-13)
 pub mod registers; // registers.rt: the numbers of many lines, by pages
 pub mod tables; // tables.rt: the plain and the formal table

@@ -1,10 +1,10 @@
--- `rilvostam::singles::rilvostam_add_numbers_without_singles` meets its contract: its answer, told to C. Assumes nothing.
+-- `rilvostam::without_singles::rilvostam_add_numbers_without_singles` meets its contract: its answer, told to C. Assumes nothing.
 use mathlib.Core.Path.{ap, ◌∙◌}
 use borrow.Author.Rules.{rules}
 use Rattle.answers.specs.Answers.{told}
 use Rattle.rilvostam.proofs.Tells.{tells}
-use Rattle.rilvostam.proofs.singles.rilvostam_add_numbers_without_singles.Statement.{statement}
-use Rattle.rilvostam.proofs.singles.rilvostam_add_numbers_without_singles.Tie as tie
+use Rattle.rilvostam.proofs.without_singles.rilvostam_add_numbers_without_singles.Statement.{statement}
+use Rattle.rilvostam.proofs.without_singles.rilvostam_add_numbers_without_singles.Tie as tie
 
 add-numbers-without-singles-requires : tie.Need-add-numbers-without-singles-requires
 add-numbers-without-singles-requires c κs = search rules
