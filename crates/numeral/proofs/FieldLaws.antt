@@ -1,6 +1,6 @@
 -- Laws of the answer for a whole line (`specs/Field.antt`), for the proofs of this crate.
 -- In order: values; characters of the plain table and code points; a line of such characters; any other line; what the code answers.
-use Prim.Native.Nat.{ℕ, ◌+◌, ◌*◌, ◌≤◌, ◌<◌}
+use Prim.Native.Nat.{ℕ, ◌≤◌, ◌<◌}
 use mathlib.Core.Path.{◌≡◌, refl, sym, ap, ◌∙◌}
 use mathlib.Core.Bool.{Bool, true, false, cond}
 use mathlib.Core.List.{List, [], ◌∷◌, map}
@@ -13,9 +13,7 @@ use Rattle.text.specs.Text.{chars, well_formed, encodes}
 use Rattle.text.specs.Line.{line_check}
 use Rattle.text.specs.declared.Offset.{Offset}
 use Rattle.text.specs.declared.LineCheck.{LineCheck}
-use Rattle.text.specs.declared.LineCheck.TheVariants as LineCheck
 use Rattle.text.proofs.TextLaws.{well_formed_split}
-use Rattle.whole.specs.Whole.{TOP}
 use Rattle.grammar.specs.Plain.{Char, code_point, sixteen, utf8}
 use Rattle.grammar.proofs.Sixteen.{each}
 use Rattle.grammar.proofs.PlainText.{utf8_length}
@@ -23,7 +21,7 @@ use Rattle.grammar.proofs.Demand3.{IsLine, line_of}
 use Rattle.numeral.specs.declared.Value.{Value}
 use Rattle.numeral.specs.declared.Value.TheVariants.{Of, Nothing}
 use Rattle.numeral.specs.declared.Field.{Field}
-use Rattle.numeral.specs.declared.Field.TheVariants.{Number, AboveTop, NotANumber, IllFormed, TooLong}
+use Rattle.numeral.specs.declared.Field.TheVariants.{NotANumber}
 use Rattle.numeral.specs.Numeral.{reads, result, start, numeral_of}
 use Rattle.numeral.specs.Field.{plain_among, plain_char, behind, plain_line, answered, plain_field, checked, field_of}
 use Rattle.numeral.specs.Walk.{capped, plain_text, valued, value_on, value_from}

@@ -9,7 +9,6 @@ use borrow.Author.Tests.{not-true, not-false}
 use Rattle.numeral.specs.declared.Blocks.{Blocks}
 use Rattle.numeral.specs.declared.Atoms.{Atoms}
 use Rattle.numeral.specs.declared.Glyph.{Glyph}
-use Rattle.numeral.specs.declared.Glyph.TheVariants as Glyph
 use Rattle.numeral.specs.declared.Value.{Value}
 use Rattle.numeral.specs.declared.Value.TheVariants.{Nothing}
 use Rattle.numeral.specs.Numeral.{State, in_numeral, in_small, failed, opening, stands, fits, with_digit, with_ten, total, to_small, with_block, to_block, result}

@@ -8,7 +8,7 @@ use mathlib.Core.Option.{Option, none, some, some-ne-none, some-injective}
 use native.Mathlib.Nat.{zero-add}
 use Rattle.grammar.specs.Plain.{Char, digit, ten, large, large_value}
 use Rattle.table_grammar.specs.Row.{Row, one, ◌▷◌, last}
-use Rattle.grammar.specs.Grammar.{Atom, run, power, small, block, lone, Division, IsSmall, division_value, small_text, member_value, member_base, count_value, count_base, Reading}
+use Rattle.grammar.specs.Grammar.{Atom, run, power, small, block, lone, Division, IsSmall, division_value, small_text, member_value, member_base, count_value, count_base}
 use Rattle.numeral.specs.declared.Blocks.{Blocks}
 use Rattle.numeral.specs.declared.Atoms.{Atoms}
 use Rattle.numeral.specs.Numeral.{State, in_numeral, in_small, failed, stands, fits, to_small, to_block, reads, result, Valued}

@@ -1,6 +1,6 @@
 -- Laws of the way over a line (`specs/Walk.antt`), for the proofs of this crate.
 -- In order: three bytes as one number; the bytes of characters; the character at the start of some bytes; at an offset of the line.
-use Prim.Native.Nat.{ℕ, suc, ◌+◌, ◌*◌, ◌≤◌, ◌<◌}
+use Prim.Native.Nat.{ℕ, suc, ◌+◌, ◌≤◌, ◌<◌}
 use mathlib.Core.Path.{◌≡◌, refl, sym, ap, ◌∙◌}
 use mathlib.Core.Bool.{Bool, true, false, cond, ◌&&◌}
 use mathlib.Core.List.{List, [], ◌∷◌, ◌++◌}
@@ -15,10 +15,8 @@ use Rattle.grammar.proofs.Sixteen.{each}
 use Rattle.table_grammar.proofs.Tests.{and_left, and_right}
 use Rattle.grammar.proofs.PlainText.{utf8_nil, utf8_append, char_three}
 use Rattle.numeral.specs.declared.Glyph.{Glyph}
-use Rattle.numeral.specs.declared.Glyph.TheVariants as Glyph
-use Rattle.numeral.specs.declared.Value.{Value}
-use Rattle.numeral.specs.declared.Value.TheVariants.{Of, Nothing}
-use Rattle.numeral.specs.Numeral.{State, failed, step, take_digit, take_ten, take_large, reads, result}
+use Rattle.numeral.specs.declared.Value.TheVariants.{Nothing}
+use Rattle.numeral.specs.Numeral.{State, failed, step, take_digit, take_ten, take_large, result}
 use Rattle.numeral.specs.Field.{behind}
 use Rattle.numeral.specs.Walk.{capped, glyph, three, first, second, third, number, by_number, glyph_if, glyph_of, ThreeAt, by_bytes, glyph_at, onto, plain_text, valued, value_on, value_from}
 use Rattle.numeral.proofs.Sound.{reads_failed}

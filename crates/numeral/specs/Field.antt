@@ -9,7 +9,6 @@ use Rattle.std.proofs.Math.Option.{Option, none, some}
 use Rattle.text.specs.Text.{chars}
 use Rattle.text.specs.Line.{line_check}
 use Rattle.text.specs.declared.LineCheck.{LineCheck}
-use Rattle.text.specs.declared.LineCheck.TheVariants as LineCheck
 use Rattle.whole.specs.Whole.{TOP}
 use Rattle.grammar.specs.Plain.{Char, code_point, sixteen}
 use Rattle.numeral.specs.declared.Field.{Field}

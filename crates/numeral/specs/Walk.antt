@@ -13,7 +13,6 @@ use Rattle.std.proofs.Math.Option.{Option, none, some}
 use Rattle.whole.specs.Whole.{TOP}
 use Rattle.grammar.specs.Plain.{Char, digit, ten, large, digit_value, ten_value, large_value, code_point, sixteen}
 use Rattle.numeral.specs.declared.Glyph.{Glyph}
-use Rattle.numeral.specs.declared.Glyph.TheVariants as Glyph
 use Rattle.numeral.specs.declared.Value.{Value}
 use Rattle.numeral.specs.declared.Value.TheVariants.{Of, Nothing}
 use Rattle.numeral.specs.Numeral.{State, reads, result}

@@ -9,7 +9,7 @@ use native.Mathlib.Omega.{arith}
 use lib.ListN.{length, drop, length-append}
 use lib.Seq.{drop_at, append_snoc}
 use Rattle.fields.specs.Flag.{flag}
-use Rattle.grammar.specs.Plain.{Char, digit, ten, large, code_point, sixteen, utf8}
+use Rattle.grammar.specs.Plain.{Char, digit, ten, large, utf8}
 use Rattle.grammar.proofs.PlainText.{utf8_append, utf8_length, char_three}
 use Rattle.numeral.specs.declared.Glyph.{Glyph}
 use Rattle.numeral.specs.Walk.{glyph, glyph_if, glyph_at, plain_text}

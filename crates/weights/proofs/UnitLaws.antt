@@ -1,5 +1,5 @@
 -- What a character is worth to the way over the line (`specs/Walk.antt`), case by case, for the proofs of the code.
-use Prim.Native.Nat.{ℕ, ◌*◌, ◌/◌, ◌≤◌, ◌<◌}
+use Prim.Native.Nat.{ℕ, ◌*◌, ◌≤◌, ◌<◌}
 use mathlib.Core.Path.{◌≡◌, refl, sym, ap, ◌∙◌}
 use mathlib.Core.Bool.{Bool, true, false, cond}
 use mathlib.Core.List.{List}
@@ -7,7 +7,6 @@ use native.Mathlib.Omega.{arith}
 use borrow.Author.Tests.{le-leb, lt-leb}
 use Rattle.fields.specs.Flag.{flag}
 use Rattle.numeral.specs.declared.Glyph.{Glyph}
-use Rattle.numeral.specs.declared.Glyph.TheVariants as Glyph
 use Rattle.numeral.specs.Walk.{capped}
 use Rattle.weights.specs.declared.units.Units.{Units}
 use Rattle.weights.specs.Walk.{is_weighed, before, after_large, unit_of_two}

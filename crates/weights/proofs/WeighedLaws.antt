@@ -15,17 +15,15 @@ use Rattle.text.specs.Text.{chars, well_formed, encodes}
 use Rattle.text.specs.Line.{line_check}
 use Rattle.text.specs.declared.Offset.{Offset}
 use Rattle.text.specs.declared.LineCheck.{LineCheck}
-use Rattle.text.specs.declared.LineCheck.TheVariants as LineCheck
 use Rattle.text.proofs.TextLaws.{well_formed_split}
 use Rattle.whole.specs.Whole.{TOP}
-use Rattle.grammar.specs.Plain.{Char, Large, digit, ten, large, 万, 億, 兆, digit_value, large_value, code_point, utf8}
+use Rattle.grammar.specs.Plain.{Char, Large, digit, ten, large, 万, 億, 兆, digit_value, large_value, utf8}
 use Rattle.grammar.specs.Grammar.{plainly, Reading, division_value}
 use Rattle.table_grammar.proofs.Readings.{same_division}
 use Rattle.table_grammar.proofs.Tests.{true_le}
 use Rattle.numeral.specs.declared.Field.{Field}
-use Rattle.numeral.specs.declared.Field.TheVariants as Field
 use Rattle.numeral.specs.Numeral.{numeral_of}
-use Rattle.numeral.specs.Field.{plain_line, plain_field, answered, checked, field_of}
+use Rattle.numeral.specs.Field.{plain_line, plain_field, checked, field_of}
 use Rattle.numeral.specs.Walk.{capped, glyph}
 use Rattle.numeral.proofs.OneNumber.{reading_value, numeral_of_lem}
 use Rattle.numeral.proofs.AnswerLaws.{yes_of, no_of}
@@ -34,8 +32,8 @@ use Rattle.weights.specs.declared.units.Units.{Units}
 use Rattle.weights.specs.declared.Weighed.{Weighed}
 use Rattle.weights.specs.declared.Weighed.TheVariants.{Count, AboveTop, TooShort, IllFormed, TooLong}
 use Rattle.weights.specs.Weights.{is_nine, nines, weights, sum}
-use Rattle.weights.specs.Weighed.{value_weights, char_weights, plain_weights, line_weights, counted, weighed, weigh, weights_bytes, stored, output}
-use Rattle.weights.specs.Walk.{is_weighed, before, back, found, start, after_large, unit_of_two, last_unit}
+use Rattle.weights.specs.Weighed.{value_weights, char_weights, plain_weights, line_weights, weighed, weigh, weights_bytes, stored, output}
+use Rattle.weights.specs.Walk.{is_weighed, before, back, found, start, after_large, last_unit}
 use Rattle.weights.proofs.WrongDigit.{numeral_value, one_weight_each}
 use Rattle.weights.proofs.WalkLaws.{exact, found_weights}
 

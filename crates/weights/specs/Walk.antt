@@ -10,7 +10,6 @@
 use Rattle.std.specs.Prelude.{ℕ, ◌*◌, ◌/◌, Bool, false, cond, List, [], ◌∷◌, leb}
 use Rattle.grammar.specs.Plain.{Char}
 use Rattle.numeral.specs.declared.Glyph.{Glyph}
-use Rattle.numeral.specs.declared.Glyph.TheVariants as Glyph
 use Rattle.numeral.specs.Walk.{glyph}
 use Rattle.weights.specs.declared.units.Units.{Units}
 

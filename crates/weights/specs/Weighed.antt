@@ -11,7 +11,6 @@ use Rattle.text.specs.Text.{chars}
 use Rattle.fields.specs.Fields.{bytes_of}
 use Rattle.grammar.specs.Plain.{Char}
 use Rattle.numeral.specs.declared.Field.{Field}
-use Rattle.numeral.specs.declared.Field.TheVariants as Field
 use Rattle.numeral.specs.Numeral.{numeral_of}
 use Rattle.numeral.specs.Field.{plain_line, field_of}
 use Rattle.numeral.proofs.OneNumber.{numeral_of_lem}

@@ -1,0 +1,23 @@
+-- `writing::put` meets its contract: nothing for 0, and three bytes for one of the sixteen characters. Assumes nothing.
+use native.Mathlib.Omega.{arith}
+use lib.ListN.{length-set}
+use Rattle.writing.proofs.BeforeLaws.{mark_small, mark_none, before_none, before_mark}
+use borrow.Author.Rules.{rules}
+use Rattle.writing.proofs.put.Goals as goal
+
+pub returns-then-c-eq0 : goal.returns-then-c-eq0
+returns-then-c-eq0 c =
+    record {
+      begins = (search rules, search rules, c.requires.2);
+      stored = λ m h. before_none _ _ (mark_none m _ h c.if-c-eq0.true);
+    }
+
+pub overflow_cast-buf : goal.overflow_cast-buf
+overflow_cast-buf c = omega (arith, mark_small c.requires.3.0 _ c.requires.3.1)
+
+pub returns : goal.returns
+returns c =
+    record {
+      begins = (omega arith, omega arith, simp length-set c.requires.2);
+      stored = λ m h. before_mark _ _ _ m (omega arith) (omega arith) h (λ e. omega (arith, c.if-c-eq0.false));
+    }
