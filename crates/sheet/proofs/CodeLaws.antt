@@ -14,7 +14,6 @@ use Rattle.grammar.specs.Plain.{Char, utf8}
 use Rattle.grammar.proofs.PlainText.{utf8_nil, utf8_append, utf8_length}
 use Rattle.numeral.specs.Field.{field_of}
 use Rattle.sheet_rows.specs.declared.Found.{Found}
-use Rattle.sheet_rows.specs.declared.Found.TheVariants as Found
 use Rattle.sheet_rows.specs.Rows.{char_at, numeral_within, number_of, found}
 use Rattle.sheet_rows.proofs.RowLaws.{number_within}
 use Rattle.sheet_rows.proofs.CodeLaws.{put_read}

@@ -12,7 +12,6 @@ use borrow.Author.Tests.{ltb-false}
 use Rattle.text.specs.Text.{chars, well_formed}
 use Rattle.text.specs.Line.{line_check}
 use Rattle.text.specs.declared.LineCheck.{LineCheck}
-use Rattle.text.specs.declared.LineCheck.TheVariants as LineCheck
 use Rattle.text.proofs.line.LineLaws.{checked_line}
 use Rattle.edge.specs.Write.{Put}
 use Rattle.grammar.specs.Plain.{Char}

@@ -1,5 +1,4 @@
 -- Worn lines by computation: what serves in 百□ and 十□十; on both sides of TOP; where nothing does; lines without just one □.
-use Prim.Native.Nat.{ℕ}
 use mathlib.Core.Path.{◌≡◌, refl}
 use mathlib.Core.List.{[], ◌∷◌}
 use mathlib.Core.Option.{none, some}

@@ -1,17 +1,15 @@
 -- Laws of the copy in which each character is tried (`Stands` of `specs/Tried.antt`), and of the rows that are put, for the proofs of `rows`.
 -- In order: the copy; a character in it; its value; rows so far; the answer for the rows.
-use Prim.Native.Nat.{ℕ, suc, ◌+◌, ◌*◌, ◌-◌, ◌≤◌, ◌<◌}
+use Prim.Native.Nat.{ℕ, ◌+◌, ◌*◌, ◌≤◌, ◌<◌}
 use mathlib.Core.Path.{◌≡◌, refl, sym, ap, ◌∙◌}
-use mathlib.Core.Bool.{Bool, true, false, cond}
 use mathlib.Core.List.{List, [], ◌∷◌, ◌++◌, map, map-append, append_assoc, append-nil}
 use mathlib.Core.Option.{Option, none, some}
 use native.Mathlib.Omega.{arith}
 use native.Mathlib.Numerals.{add-one}
-use lib.ListN.{length, get_or, take, drop, length-append, length-take}
-use lib.Seq.{sets, sets-eq, take_at, drop_at, take-suc, take_all, length-sets}
+use lib.ListN.{length, take, drop, length-append}
+use lib.Seq.{sets, sets-eq, take_at, drop_at, take-suc, take_all}
 use borrow.Author.Tests.{lt-ltb, le-ltb}
 use Rattle.text.specs.Text.{chars}
-use Rattle.whole.specs.Whole.{TOP}
 use Rattle.whole.specs.Decimal.{decimal}
 use Rattle.whole.proofs.SetsLaws.{sets_then}
 use Rattle.whole.proofs.DecimalLaws.{length_decimal_top}
@@ -21,13 +19,12 @@ use Rattle.grammar.proofs.PlainText.{utf8_append, utf8_length}
 use Rattle.numeral.specs.Field.{field_of}
 use Rattle.sheet_rows.specs.declared.Found.{Found}
 use Rattle.sheet_rows.specs.declared.Found.TheVariants.{Value, Nothing}
-use Rattle.sheet_rows.specs.Rows.{order, char_at, numeral_within, number_of, found, row_if, rows_of, row_of, row_bytes, rows_bytes}
-use Rattle.sheet_rows.proofs.RowLaws.{numeral_within_lem, number_within, length_row, rows_bytes_more, rows_nil}
-use Rattle.sheet_rows.proofs.CodeLaws.{put_length, row_is}
-use Rattle.worn.specs.declared.Worn.{Worn}
+use Rattle.sheet_rows.specs.Rows.{order, char_at, number_of, found, row_if, rows_of, row_of, row_bytes, rows_bytes}
+use Rattle.sheet_rows.proofs.RowLaws.{numeral_within_lem, number_within, length_row, rows_bytes_more}
+use Rattle.sheet_rows.proofs.CodeLaws.{row_is}
 use Rattle.worn.specs.declared.Worn.TheVariants.{Rows, TooShort, NoneServes}
-use Rattle.worn.specs.Worn.{serves, worn_rows, worn_bytes, unless_none, finished, stored}
-use Rattle.worn.specs.Marked.{mark_bytes, worn_text, WornAt}
+use Rattle.worn.specs.Worn.{serves, worn_rows, worn_bytes, unless_none, finished}
+use Rattle.worn.specs.Marked.{mark_bytes, WornAt}
 use Rattle.worn.specs.Tried.{Stands, AnswersRows}
 use Rattle.worn.proofs.PartLaws.{found_short}
 

@@ -14,7 +14,6 @@ use Rattle.std.proofs.lemmas.List.Edits.{sets}
 use Rattle.text.specs.Text.{chars}
 use Rattle.text.specs.Line.{line_check}
 use Rattle.text.specs.declared.LineCheck.{LineCheck}
-use Rattle.text.specs.declared.LineCheck.TheVariants as LineCheck
 use Rattle.grammar.specs.Plain.{Char}
 use Rattle.numeral.specs.Field.{plain_line}
 use Rattle.sheet_rows.specs.Rows.{order, numeral_within, rows_of, rows_bytes}
