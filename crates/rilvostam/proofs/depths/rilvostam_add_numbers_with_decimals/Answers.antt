@@ -1,0 +1,14 @@
+-- `rilvostam::depths::rilvostam_add_numbers_with_decimals` meets its contract: its answer, told to C. Assumes nothing.
+use mathlib.Core.Path.{ap, ◌∙◌}
+use Rattle.answers.specs.Answers.{told}
+use Rattle.rilvostam.proofs.Tells.{tells}
+use Rattle.rilvostam.proofs.depths.rilvostam_add_numbers_with_decimals.Goals as goal
+
+pub returns : goal.returns
+returns c =
+    let e = tells (c.answer_told-numbers.ensures ∙ ap told c.add_numbers_with_decimals-answer.ensures.answer) in
+    record {
+      status = e.0;
+      place = e.1;
+      output = c.add_numbers_with_decimals-answer.ensures.output;
+    }
