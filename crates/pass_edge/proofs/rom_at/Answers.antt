@@ -10,13 +10,11 @@ use Rattle.pass_edge.proofs.RecordLaws.{type_end, Lies}
 use Rattle.pass_edge.proofs.TextLaws.{type_within, rom_part, cut}
 use Rattle.pass_edge.proofs.rom_at.Goals as goal
 
--- CONV no step `is_well_formed` on the way to `Start` (has [''])
 pub overflow_add-len_at : goal.overflow_add-len_at
 overflow_add-len_at c =
     let within : type_end c.args.table.now c.args.at ≤ length c.args.table.now = type_within c.args.table.now c.args.at c.requires.0 in
     omega (arith, within, c.well_formed.0)
 
--- CONV no step `is_well_formed` on the way to `Start` (has [''])
 pub overflow_add-len_at-2 : goal.overflow_add-len_at-2
 overflow_add-len_at-2 c =
     let within : type_end c.args.table.now c.args.at ≤ length c.args.table.now = type_within c.args.table.now c.args.at c.requires.0 in
@@ -30,13 +28,11 @@ bounds-table-at c =
 pub overflow_cast-len_at : goal.overflow_cast-len_at
 overflow_cast-len_at c = omega (arith, c.type_inv.table (c.args.at + 5))
 
--- CONV no step `is_well_formed` on the way to `After-shared_slice_known` (has ['shared_slice_known', ''])
 pub overflow_add-len_at-3 : goal.overflow_add-len_at-3
 overflow_add-len_at-3 c =
     let within : type_end c.args.table.now c.args.at ≤ length c.args.table.now = type_within c.args.table.now c.args.at c.requires.0 in
     omega (arith, within, c.well_formed.0)
 
--- CONV no step `is_well_formed` on the way to `After-shared_slice_known` (has ['shared_slice_known', ''])
 pub overflow_add-from : goal.overflow_add-from
 overflow_add-from c =
     let lies : (w : List ℕ) (a b : ℕ) → let t = c.args.table.now in Lies t (type_end t c.args.at) (char_txt w t c.args.at a b) = λ w a b. rom_part c.args.table.now c.args.at c.requires.0 w a b c.requires.1 in
@@ -50,7 +46,6 @@ bounds-table-len_at c =
 pub overflow_cast-to : goal.overflow_cast-to
 overflow_cast-to c = omega (arith, c.type_inv.table (type_end c.args.table.now c.args.at))
 
--- CONV no step `is_well_formed` on the way to `After-shared_slice_known2` (has ['shared_slice_known2', 'shared_slice_known', ''])
 pub overflow_add-to : goal.overflow_add-to
 overflow_add-to c =
     let lies : (w : List ℕ) (a b : ℕ) → let t = c.args.table.now in Lies t (type_end t c.args.at) (char_txt w t c.args.at a b) = λ w a b. rom_part c.args.table.now c.args.at c.requires.0 w a b c.requires.1 in

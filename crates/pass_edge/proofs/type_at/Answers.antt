@@ -8,13 +8,11 @@ use Rattle.pass_edge.proofs.RecordLaws.{type_end}
 use Rattle.pass_edge.proofs.TextLaws.{type_part, type_within, cut}
 use Rattle.pass_edge.proofs.type_at.Goals as goal
 
--- CONV no step `is_well_formed` on the way to `Start` (has [''])
 pub overflow_add-from : goal.overflow_add-from
 overflow_add-from c =
     let within : type_end c.args.table.now c.args.at ≤ length c.args.table.now = type_within c.args.table.now c.args.at c.requires in
     omega (arith, within, c.well_formed.0)
 
--- CONV no step `is_well_formed` on the way to `Start` (has [''])
 pub overflow_add-to : goal.overflow_add-to
 overflow_add-to c =
     let within : type_end c.args.table.now c.args.at ≤ length c.args.table.now = type_within c.args.table.now c.args.at c.requires in
@@ -28,7 +26,6 @@ bounds-table-at c =
 pub overflow_cast-to : goal.overflow_cast-to
 overflow_cast-to c = omega (arith, c.type_inv.table (c.args.at + 5))
 
--- CONV no step `is_well_formed` on the way to `After-shared_slice_known` (has ['shared_slice_known', ''])
 pub overflow_add-to-2 : goal.overflow_add-to-2
 overflow_add-to-2 c =
     let within : type_end c.args.table.now c.args.at ≤ length c.args.table.now = type_within c.args.table.now c.args.at c.requires in

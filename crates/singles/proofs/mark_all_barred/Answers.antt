@@ -25,7 +25,6 @@ slice_bounds-read_edge-count c = omega (arith, c.requires.3)
 pub slice_bounds-read_edge-start : goal.slice_bounds-read_edge-start
 slice_bounds-read_edge-start c = omega (arith, c.requires.3)
 
--- CONV no step `is_well_formed` on the way to `After-read_edge-arg` (has ['read_edge-arg', 'loop-test', 'loop', 'shared_slice_known2', 'shared_slice_known', ''])
 pub overflow_mul-i : goal.overflow_mul-i
 overflow_mul-i c = omega (arith, c.requires.3, c.loop-i-test.true, c.well_formed)
 

@@ -14,13 +14,11 @@ returns-then-by-gt0 c =
     let is_divided : let a = c.args in c.divide-by.result ≡ divided (a.a * a.b) a.d = c.divide-by.ensures ∙ ap (λ (m : ℕ). divided m c.args.d) (value_of _ c.product.ensures) in
     exact_not_whole _ _ is_divided c.if-by-gt0.true
 
--- CONV step `fits2` taken as `fits`
 pub returns-then-fits : goal.returns-then-fits
 returns-then-fits c =
     let is_divided : let a = c.args in c.divide-by.result ≡ divided (a.a * a.b) a.d = c.divide-by.ensures ∙ ap (λ (m : ℕ). divided m c.args.d) (value_of _ c.product.ensures) in
     exact_whole _ _ is_divided c.if-by-gt0.false c.fits.ensures c.if-fits.true
 
--- CONV step `fits2` taken as `fits`
 pub returns-else-fits : goal.returns-else-fits
 returns-else-fits c =
     let is_divided : let a = c.args in c.divide-by.result ≡ divided (a.a * a.b) a.d = c.divide-by.ensures ∙ ap (λ (m : ℕ). divided m c.args.d) (value_of _ c.product.ensures) in

@@ -2,6 +2,5 @@
 use Rattle.lattice_add.proofs.copy.CopyLaws.{pair_copied}
 use Rattle.lattice_add.proofs.copy.copy_pair.Goals as goal
 
--- CONV `slice_known-1` may be Rattle's own name (old `slice_known`)
 pub returns : goal.returns
 returns c = pair_copied _ (λ i. (c.slice_known-1.given i).fits) _ _ _ c.u64_at-v.ensures c.put_u64.ensures _ c.requires.0 c.u64_at-u.ensures c.put_u64-2.ensures

@@ -2,6 +2,5 @@
 use Rattle.lattice_add.proofs.copy.CopyLaws.{word_copied}
 use Rattle.lattice_add.proofs.copy.copy_word.Goals as goal
 
--- CONV `slice_known-1` may be Rattle's own name (old `slice_known`)
 pub returns : goal.returns
 returns c = word_copied _ (λ i. (c.slice_known-1.given i).fits) _ _ _ c.u64_at-v.ensures c.put_u64.ensures c.requires.0

@@ -10,7 +10,6 @@ use Rattle.pass_edge.proofs.RecordLaws.{type_end}
 use Rattle.pass_edge.proofs.TextLaws.{front_is, own_part, type_within}
 use Rattle.pass_edge.proofs.txt.char_txt.Goals as goal
 
--- CONV no step `is_well_formed` on the way to `After-shared_slice_known2` (has ['shared_slice_known2', 'shared_slice_known', 'slice_known', ''])
 pub overflow_add-at : goal.overflow_add-at
 overflow_add-at c =
     let within : type_end c.args.table.now c.args.at ≤ length c.args.table.now = type_within c.args.table.now c.args.at c.requires.5 in

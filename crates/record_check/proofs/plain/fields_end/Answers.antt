@@ -72,6 +72,5 @@ overflow_add-at-3 c = omega arith
 pub tail_end-requires : goal.tail_end-requires
 tail_end-requires c = (omega arith, omega arith)
 
--- CONV `shared_slice_known4.given` is `type_inv.s` at an earlier place
 pub returns : goal.returns
 returns c = fields_is _ _ _ _ c.tail_end.result refl refl c.if-both-gt24.false (λ j. (c.type_inv.s j).fits) (omega arith) (c.ascii.ensures (not-false _ (ap not c.if-not-ascii.false))) c.tail_end.ensures
