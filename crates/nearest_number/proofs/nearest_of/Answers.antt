@@ -1,22 +1,12 @@
-use native.Mathlib.Omega.{arith}
-use Rattle.nearest_number.proofs.NearestLaws.{walk_start, walk_edge, walk_at, walk_taken, walk_passed, walk_found}
-use Rattle.nearest_number.proofs.nearest_of.Goals as goal
+use Rattle.nearest_number.proofs.NearestLaws.{walk_edge, walk_at, walk_taken, walk_passed, walk_found}
 use Rattle.nearest_number.proofs.nearest_of.Goals.{then-replaces_held, else-replaces_held}
-
-pub loop-left-init : goal.loop-left-init
-loop-left-init c = walk_start _ _ _ c.requires
+use Rattle.nearest_number.proofs.nearest_of.Goals as goal
 
 pub replaces_held-requires : goal.replaces_held-requires
 replaces_held-requires c = let w = c.loop-left.invariant in (walk_edge w c.loop-left-test.true, w.spanned)
 
 pub next_at-at-requires : goal.next_at-at-requires
 next_at-at-requires c = walk_at c.loop-left.invariant c.loop-left-test.true
-
-pub overflow_sub-left : goal.overflow_sub-left
-overflow_sub-left c = omega arith
-
-pub loop-left-smaller : goal.loop-left-smaller
-loop-left-smaller c = omega arith
 
 pub loop-left-preserved : goal.loop-left-preserved
 loop-left-preserved c =

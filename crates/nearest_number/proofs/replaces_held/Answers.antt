@@ -2,7 +2,7 @@
 -- Assumes nothing.
 use Rattle.std.proofs.Common.{ap, not}
 use Rattle.edge.proofs.CheckLaws.{head_within}
-use Rattle.nearest_number.proofs.NearestLaws.{stays_no_number, replaces_nothing, replaces_later, held_spanned}
+use Rattle.nearest_number.proofs.NearestLaws.{stays_no_number, replaces_nothing, replaces_later}
 use Rattle.nearest_number.proofs.replaces_held.Goals as goal
 
 pub is_number-requires : goal.is_number-requires
@@ -10,9 +10,6 @@ is_number-requires c = head_within _ _ _ c.requires.0.whole
 
 pub returns-then-not-is_number : goal.returns-then-not-is_number
 returns-then-not-is_number c = stays_no_number _ _ _ c.args.held c.is_number.ensures (ap not c.if-not-is_number.true)
-
-pub comes_first-requires : goal.comes_first-requires
-comes_first-requires c = (c.requires.0, held_spanned _ _ c.in-At.is c.requires.1)
 
 pub returns-in-Nothing : goal.returns-in-Nothing
 returns-in-Nothing c = replaces_nothing _ _ _ _ c.is_number.ensures (ap not c.if-not-is_number.false) c.in-Nothing.is

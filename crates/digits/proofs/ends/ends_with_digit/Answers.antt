@@ -10,6 +10,3 @@ returns-then-txt-eq0 c = empty_ends _ c.if-txt-eq0.true
 
 pub returns-then-b-lt128 : goal.returns-then-b-lt128
 returns-then-b-lt128 c = tested _ c.is_digit.ensures ∙ ascii_ends _ (omega arith) c.if-b-lt128.true
-
-pub returns : goal.returns
-returns c = c.last_is_digit.ensures

@@ -3,8 +3,8 @@ use native.Mathlib.Omega.{arith}
 use Rattle.digits.specs.TextEnds.{ends_with_digit}
 use Rattle.digits.proofs.DigitsLaws.{tested}
 use Rattle.digits.proofs.TextEndsLaws.{NotWhole, other_length, no_char, none_left, too_short, whole_ending, longer_ending}
-use Rattle.digits.proofs.ends.last_is_digit.Goals as goal
 use Rattle.digits.proofs.ends.last_is_digit.Goals.{in-Char+else-len-k, in_default}
+use Rattle.digits.proofs.ends.last_is_digit.Goals as goal
 
 pub loop-k-init : goal.loop-k-init
 unfolding ends_with_digit

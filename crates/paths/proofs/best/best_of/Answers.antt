@@ -1,7 +1,6 @@
-use native.Mathlib.Omega.{arith}
 use Rattle.paths.proofs.BestLaws.{walk_start, whole_head, whole_at, walk_better, walk_on, walk_nothing, walk_found}
-use Rattle.paths.proofs.best.best_of.Goals as goal
 use Rattle.paths.proofs.best.best_of.Goals.{then-top-score, else-top-score}
+use Rattle.paths.proofs.best.best_of.Goals as goal
 
 pub loop-left-init : goal.loop-left-init
 loop-left-init c = walk_start _ _ _ _ _ c.requires
@@ -11,12 +10,6 @@ score_at-score-requires c = whole_head _ _ _ c.loop-left-test.true c.loop-left.i
 
 pub next_at-at-requires : goal.next_at-at-requires
 next_at-at-requires c = whole_at _ _ _ c.loop-left-test.true c.loop-left.invariant.whole
-
-pub overflow_sub-left : goal.overflow_sub-left
-overflow_sub-left c = omega arith
-
-pub loop-left-smaller : goal.loop-left-smaller
-loop-left-smaller c = omega arith
 
 pub loop-left-preserved : goal.loop-left-preserved
 loop-left-preserved c =

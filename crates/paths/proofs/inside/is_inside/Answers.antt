@@ -2,15 +2,6 @@
 use Rattle.paths.specs.Reading.{inside}
 use Rattle.paths.proofs.inside.is_inside.Goals as goal
 
-pub enum_known-q : goal.enum_known-q
-enum_known-q c = c.in-Span.in-Span-own.keys1
-
-pub enum_known-q-in-Right-1 : goal.enum_known-q-in-Right-1
-enum_known-q-in-Right-1 c = c.in-Right.in-Right-own.keys2
-
-pub enum_known-q-in-Left-1 : goal.enum_known-q-in-Left-1
-enum_known-q-in-Left-1 c = c.in-Left.in-Left-own.keys3
-
 pub returns-in-Span : goal.returns-in-Span
 unfolding inside
 returns-in-Span c = rw c.in-Span.is

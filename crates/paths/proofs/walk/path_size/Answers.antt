@@ -10,15 +10,6 @@ returns-then-room-lt2 c = sized_never _ _ _ c.if-room-lt2.true
 pub loop-p-init : goal.loop-p-init
 loop-p-init c = sized_start _ _ _ _ _ c.if-room-lt2.false
 
-pub hop_from-requires : goal.hop_from-requires
-hop_from-requires c = (c.requires.0, omega arith)
-
-pub overflow_add-p : goal.overflow_add-p
-overflow_add-p c = omega arith
-
-pub loop-p-smaller-in-Pass : goal.loop-p-smaller-in-Pass
-loop-p-smaller-in-Pass c = omega arith
-
 pub loop-p-preserved-in-Pass : goal.loop-p-preserved-in-Pass
 loop-p-preserved-in-Pass c =
     let step : let a = c.args in Hopped a.s.now (by_table a.s.now a.tops.now a.ats.now) a.end.0 c.loop-p.p c.hop_from.result = hopped c.args.s.now c.args.tops.now c.args.ats.now c.requires.0 c.args.end.0 c.requires.1 c.loop-p.p c.loop-p-test.true c.hop_from.ensures in
@@ -29,16 +20,10 @@ overflow_sub-size c =
     let step : let a = c.args in Hopped a.s.now (by_table a.s.now a.tops.now a.ats.now) a.end.0 c.loop-p.p c.hop_from.result = hopped c.args.s.now c.args.tops.now c.args.ats.now c.requires.0 c.args.end.0 c.requires.1 c.loop-p.p c.loop-p-test.true c.hop_from.ensures in
     (step.over c.in-Take.is).rises
 
-pub overflow_sub-room : goal.overflow_sub-room
-overflow_sub-room c = c.loop-p.invariant.fits
-
 pub returns-then-room-len : goal.returns-then-room-len
 returns-then-room-len c =
     let step : let a = c.args in Hopped a.s.now (by_table a.s.now a.tops.now a.ats.now) a.end.0 c.loop-p.p c.hop_from.result = hopped c.args.s.now c.args.tops.now c.args.ats.now c.requires.0 c.args.end.0 c.requires.1 c.loop-p.p c.loop-p-test.true c.hop_from.ensures in
     sized_over _ _ _ _ _ _ _ _ c.loop-p.invariant (step.over c.in-Take.is) c.if-room-len.true
-
-pub overflow_add-len : goal.overflow_add-len
-overflow_add-len c = omega (arith, c.if-room-len.false, c.loop-p.invariant.fits)
 
 pub overflow_add-n : goal.overflow_add-n
 overflow_add-n c =

@@ -1,19 +1,7 @@
 use native.Mathlib.Omega.{arith}
 use Rattle.paths.specs.Table.{by_table}
-use Rattle.paths.proofs.PathLaws.{Hopped, hopped, copied_start, copied_length, copied_pass, copied_fits, copied_room, copied_take, copied_ends}
+use Rattle.paths.proofs.PathLaws.{Hopped, hopped, copied_pass, copied_room, copied_take, copied_ends}
 use Rattle.paths.proofs.walk.write_path.Goals as goal
-
-pub loop-p-init : goal.loop-p-init
-loop-p-init c = copied_start _ _ _ _ _
-
-pub hop_from-requires : goal.hop_from-requires
-hop_from-requires c = (c.requires.0, omega arith)
-
-pub overflow_add-p : goal.overflow_add-p
-overflow_add-p c = omega arith
-
-pub loop-p-smaller-in-Pass : goal.loop-p-smaller-in-Pass
-loop-p-smaller-in-Pass c = omega arith
 
 pub loop-p-preserved-in-Pass : goal.loop-p-preserved-in-Pass
 loop-p-preserved-in-Pass c =
@@ -45,11 +33,6 @@ overflow_sub-at c =
     let step : let a = c.args in Hopped a.s.now (by_table a.s.now a.tops.now a.ats.now) a.end.0 c.loop-p.p c.hop_from.result = hopped c.args.s.now c.args.tops.now c.args.ats.now c.requires.0 c.args.end.0 c.requires.1 c.loop-p.p c.loop-p-test.true c.hop_from.ensures in
     (step.over c.in-Take.is).rises
 
-pub overflow_add-at : goal.overflow_add-at
-overflow_add-at c =
-    let step : let a = c.args in Hopped a.s.now (by_table a.s.now a.tops.now a.ats.now) a.end.0 c.loop-p.p c.hop_from.result = hopped c.args.s.now c.args.tops.now c.args.ats.now c.requires.0 c.args.end.0 c.requires.1 c.loop-p.p c.loop-p-test.true c.hop_from.ensures in
-    omega (arith, copied_fits _ _ _ _ _ _ _ _ c.loop-p.invariant (step.over c.in-Take.is) c.requires.2, copied_length _ _ _ _ _ _ _ _ c.loop-p.invariant, c.well_formed.1.1.1.1.1.0.0)
-
 pub loop-p-smaller : goal.loop-p-smaller
 loop-p-smaller c =
     let step : let a = c.args in Hopped a.s.now (by_table a.s.now a.tops.now a.ats.now) a.end.0 c.loop-p.p c.hop_from.result = hopped c.args.s.now c.args.tops.now c.args.ats.now c.requires.0 c.args.end.0 c.requires.1 c.loop-p.p c.loop-p-test.true c.hop_from.ensures in
@@ -59,9 +42,6 @@ pub loop-p-preserved : goal.loop-p-preserved
 loop-p-preserved c =
     let step : let a = c.args in Hopped a.s.now (by_table a.s.now a.tops.now a.ats.now) a.end.0 c.loop-p.p c.hop_from.result = hopped c.args.s.now c.args.tops.now c.args.ats.now c.requires.0 c.args.end.0 c.requires.1 c.loop-p.p c.loop-p-test.true c.hop_from.ensures in
     copied_take _ _ _ _ _ _ _ _ c.loop-p.invariant (step.over c.in-Take.is) c.copy_in.ensures
-
-pub shape_of-out : goal.shape_of-out
-shape_of-out c = copied_length _ _ _ _ _ _ _ _ c.loop-p.invariant
 
 pub returns : goal.returns
 returns c = copied_ends _ _ _ _ _ _ _ _ c.loop-p.invariant c.loop-p-test.false
