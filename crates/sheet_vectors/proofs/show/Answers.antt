@@ -1,0 +1,8 @@
+-- `sheet_vectors::show` is safe: what is lent is a part of the array. Assumes nothing.
+use mathlib.Core.Path.{sym}
+use native.Mathlib.Omega.{arith}
+use lib.Seq.{length-take-le}
+use Rattle.sheet_vectors.proofs.show.Goals as goal
+
+pub slice_bounds-show_in-end : goal.slice_bounds-show_in-end
+slice_bounds-show_in-end c = sym (length-take-le _ _ (omega arith))
