@@ -22,5 +22,7 @@ pub extern "C" fn rilvostam_add_numbers_without_singles(
         ≡ out_after out.old (add_numbers_without_singles line.now table.now
         edges.now (length work.old) (length out.old)) }
 {
-    rilvostam::without_singles::rilvostam_add_numbers_without_singles(line, table, edges, work, out, at)
+    rilvostam::without_singles::rilvostam_add_numbers_without_singles(
+        line, table, edges, work, out, at,
+    )
 }
