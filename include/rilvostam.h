@@ -168,7 +168,7 @@ uint32_t rilvostam_nearest_number(const uint8_t *line, size_t line_len, const ui
                                   uint64_t place, uint64_t *at);
 
 /* The path: right neighbours from start until it is at end or past it, written to out as a listing; a place without one is passed over.
- * 0: *at is the length of that listing. It is never longer than the listing that is read (theorem path-out-shorter, docs/PROVED.md). */
+ * 0: *at is the length of that listing. It is never longer than the listing that is read (theorem path_out_shorter, docs/PROVED.md). */
 uint32_t rilvostam_path(const uint8_t *line, size_t line_len, const uint8_t *listing, size_t listing_len,
                         uint64_t start, uint64_t end, uint8_t skip, uint8_t *out, size_t out_len, uint64_t *at);
 
