@@ -30,7 +30,7 @@ use Rattle.grammar.proofs.PlainInstance.{from_plain, to_plain, same_plain}
 
 -- ---- what is said, of any table t and the characters that `code` gives for the sixteen
 
--- the line, as it is lent: is_well_formed UTF-8 whose characters are those of w, each of them for one of the sixteen
+-- the line, as it is lent: well-formed UTF-8 whose characters are those of w, each of them for one of the sixteen
 pub record Spells (code : Char → ℕ) (line : List ℕ) (w : List Char) : Type 0 where
   pub is_well_formed : well_formed line ≡ true
   pub characters : chars line ≡ map code w

@@ -51,7 +51,7 @@ none_listed = refl
 
 -- the table's bytes, and the table that they say
 module _ (table : List ℕ) (t : Table) (at : ℕ) (reads : read_table table ≡ Fine t at) where
-  -- an accepted line is is_well_formed, and refusal 7 has no place in it
+  -- an accepted line is well-formed, and refusal 7 has no place in it
   pub accepted : (line given : List ℕ) (work out : ℕ) → Listed (add_numbers line table given work out) → (well_formed line ≡ true) × (above_at t (chars line) ≡ none)
   accepted line given work out h = go (add_numbers line table given work out) refl h
     where

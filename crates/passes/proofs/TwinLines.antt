@@ -1,4 +1,4 @@
--- Lines and their twins (02, S-11: "a one_to_one renaming of characters") go together one by one: two lines with the same twin are the same, and every line whose remaining
+-- Lines and their twins (02, S-11: "a one-to-one renaming of characters") go together one by one: two lines with the same twin are the same, and every line whose remaining
 -- characters have a record in neither table is a twin. The words are defined in `specs/Renaming.antt`. Assumes nothing.
 use Prim.Native.Nat.{ℕ}
 use mathlib.Core.Path.{◌≡◌, refl, sym, ◌∙◌}

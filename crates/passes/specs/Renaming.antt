@@ -29,7 +29,7 @@ renamed d r = record {
   large_power = r.large_power;
 }
 
--- "any two tables whose records differ only by a one_to_one renaming of characters, where every record has a rom, gap characters map to gap characters and no others do".
+-- "any two tables whose records differ only by a one-to-one renaming of characters, where every record has a rom, gap characters map to gap characters and no others do".
 -- The lists agree without `back` and `one_to_one`; by these two lines and their twins go together one by one (`proofs/TwinLines.antt`).
 pub record Renaming (f : ℕ → ℕ) (t u : Table) : Type 0 where
   pub there : (c : ℕ) (r : Record) → find t.records c ≡ some r → find u.records (f c) ≡ some (renamed (f c) r)

@@ -24,7 +24,7 @@ loop-left-preserved c =
     (good_next _ _ _ _ c.next_at-next.ensures fine, c.loop-left.invariant.1, check_good _ _ _ _ _ c.loop-left-test.true c.next_at-next.ensures fine ∙ c.loop-left.invariant.2)
 
 pub returns-then-at-s : goal.returns-then-at-s
-returns-then-at-s c = listing_answer _ _ _ (check_left_over _ _ _ _ _ c.loop-left-test.false c.if-at-s.true ∙ c.loop-left.invariant.2)
+returns-then-at-s c = listing_answer _ _ _ (check_left_over _ _ _ _ _ c.loop-left-test.false (omega arith) ∙ c.loop-left.invariant.2)
 
 pub returns : goal.returns
-returns c = listing_answer _ _ _ (check_ends _ _ _ _ _ c.loop-left-test.false c.if-at-s.false c.loop-left.invariant.1 ∙ c.loop-left.invariant.2)
+returns c = listing_answer _ _ _ (check_ends _ _ _ _ _ c.loop-left-test.false (omega arith) c.loop-left.invariant.1 ∙ c.loop-left.invariant.2)
