@@ -4,9 +4,9 @@
 pub mod reading; // reading.rt: the same of the calls that read a listing
 
 ghost use Rattle.std.specs.Prelude.{◌≡◌};
-ghost use Rattle.answers.specs.Answers.{refusal_told, answer_of, told};
+ghost use Rattle.answers.specs.Answers.{of_line, refusal_told, answer_of, told};
 
-use text::{Offset, Place};
+use text::{LineRefusal, Offset, Place};
 
 // A refusal of the call: 1 to 8 of 01.
 #[derive(Clone, Copy)]
@@ -21,11 +21,15 @@ pub enum Refusal {
     TooLong,
 }
 
-// What the call answers: the length of the listing in the output, or a refusal.
-#[derive(Clone, Copy)]
-pub enum Answer {
-    Listing(usize),
-    Refused(Refusal),
+impl From<LineRefusal> for Refusal {
+    ghost from_gives = { λ e r. r ≡ of_line e };
+
+    fn from(e: LineRefusal) -> Refusal {
+        match e {
+            LineRefusal::IllFormed(at) => Refusal::NotUtf8(at),
+            LineRefusal::TooLong(at) => Refusal::OverLong(at),
+        }
+    }
 }
 
 // What C is told of an answer: a status, 0 or the refusal's number, and the number that goes with it.
@@ -39,45 +43,32 @@ pub struct CStatus {
 pub fn refusal_told(r: Refusal) -> CStatus
     ensures { result ≡ refusal_told r }
 {
-    match r {
-        Refusal::ShortWork => CStatus { status: 1, at: 0 },
-        Refusal::NotUtf8(at) => CStatus {
-            status: 2,
-            at: at.0 as u64,
-        },
-        Refusal::OverLong(at) => CStatus {
-            status: 3,
-            at: at.0 as u64,
-        },
-        Refusal::BadTable(at) => CStatus {
-            status: 4,
-            at: at.0 as u64,
-        },
-        Refusal::BadContent(at) => CStatus {
-            status: 5,
-            at: at.0 as u64,
-        },
-        Refusal::BadEdges(at) => CStatus {
-            status: 6,
-            at: at.0 as u64,
-        },
-        Refusal::AboveTop(p) => CStatus {
-            status: 7,
-            at: p.0 as u64,
-        },
-        Refusal::TooLong => CStatus { status: 8, at: 0 },
+    let (status, at) = match r {
+        Refusal::ShortWork => (1, 0),
+        Refusal::NotUtf8(at) => (2, at.0),
+        Refusal::OverLong(at) => (3, at.0),
+        Refusal::BadTable(at) => (4, at.0),
+        Refusal::BadContent(at) => (5, at.0),
+        Refusal::BadEdges(at) => (6, at.0),
+        Refusal::AboveTop(p) => (7, p.0),
+        Refusal::TooLong => (8, 0),
+    };
+    CStatus {
+        status,
+        at: at as u64,
     }
 }
 
 // 0 and the bytes of the listing, or the refusal.
-pub fn answer_told(a: Answer) -> CStatus
+// Kept beside `reading::told`: the refusals are of two types, and a function generic over them would be longer than both matches.
+pub fn answer_told(a: Result<usize, Refusal>) -> CStatus
     ensures { result ≡ told (answer_of a) }
 {
     match a {
-        Answer::Listing(n) => CStatus {
+        Ok(n) => CStatus {
             status: 0,
             at: n as u64,
         },
-        Answer::Refused(r) => refusal_told(r),
+        Err(r) => refusal_told(r),
     }
 }

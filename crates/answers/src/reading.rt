@@ -3,7 +3,8 @@ ghost use Rattle.std.specs.Prelude.{◌≡◌};
 ghost use Rattle.answers.specs.Statuses.{found_at, read_refusal_told, answer_told, written_told, shown_told};
 
 use crate::CStatus;
-use paths::{EdgeAnswer, Found, PathAnswer, ReadRefusal, Shown};
+use paths::{ReadRefusal, Shown};
+use text::Offset;
 
 // What C is told of a text shown: its status, offset and length, and 1 where it is a part of the listing.
 #[derive(Clone, Copy)]
@@ -18,78 +19,71 @@ pub struct CText {
 pub fn refusal_told(r: ReadRefusal) -> CStatus
     ensures { result ≡ read_refusal_told r }
 {
-    match r {
-        ReadRefusal::NotUtf8(at) => CStatus {
-            status: 2,
-            at: at.0 as u64,
-        },
-        ReadRefusal::OverLong(at) => CStatus {
-            status: 3,
-            at: at.0 as u64,
-        },
-        ReadRefusal::BadListing(at) => CStatus {
-            status: 6,
-            at: at.0 as u64,
-        },
-        ReadRefusal::ShortOutput => CStatus { status: 8, at: 0 },
-        ReadRefusal::BadPlace => CStatus { status: 9, at: 0 },
+    let (status, at) = match r {
+        ReadRefusal::NotUtf8(at) => (2, at.0),
+        ReadRefusal::OverLong(at) => (3, at.0),
+        ReadRefusal::BadListing(at) => (6, at.0),
+        ReadRefusal::ShortOutput => (8, 0),
+        ReadRefusal::BadPlace => (9, 0),
+    };
+    CStatus {
+        status,
+        at: at as u64,
     }
 }
 
 // The offset of an edge; the greatest u64 where there is none.
-fn found_at(f: Found) -> u64
+fn found_at(f: Option<Offset>) -> u64
     ensures { result ≡ found_at f }
 {
     match f {
-        Found::At(at) => at.0 as u64,
-        Found::Nothing => 18446744073709551615,
+        Some(at) => at.0 as u64,
+        None => u64::MAX,
+    }
+}
+
+// A number that is answered, or the refusal.
+fn told(a: Result<u64, ReadRefusal>) -> CStatus
+    ensures { result ≡ written_told a }
+{
+    match a {
+        Ok(n) => CStatus { status: 0, at: n },
+        Err(r) => refusal_told(r),
     }
 }
 
 // A best edge or a neighbour: the offset of the edge, or the refusal.
-pub fn answer_told(a: EdgeAnswer) -> CStatus
+pub fn answer_told(a: Result<Option<Offset>, ReadRefusal>) -> CStatus
     ensures { result ≡ answer_told a }
 {
-    match a {
-        EdgeAnswer::Best(f) => CStatus {
-            status: 0,
-            at: found_at(f),
-        },
-        EdgeAnswer::Refused(r) => refusal_told(r),
-    }
+    told(a.map(found_at))
 }
 
 // A path: the bytes of its listing, or the refusal.
-pub fn written_told(a: PathAnswer) -> CStatus
+pub fn written_told(a: Result<usize, ReadRefusal>) -> CStatus
     ensures { result ≡ written_told a }
 {
-    match a {
-        PathAnswer::Bytes(n) => CStatus {
-            status: 0,
-            at: n as u64,
-        },
-        PathAnswer::Refused(r) => refusal_told(r),
-    }
+    told(a.map(|n| n as u64))
 }
 
 // A text shown: its part of the listing or of the line, or the refusal.
-pub fn shown_told(a: Shown) -> CText
+pub fn shown_told(a: Result<Shown, ReadRefusal>) -> CText
     ensures { result ≡ shown_told a }
 {
     match a {
-        Shown::Listing(p) => CText {
+        Ok(Shown::Listing(p)) => CText {
             status: 0,
             at: p.at.0 as u64,
             len: p.len as u64,
             in_listing: 1,
         },
-        Shown::Line(p) => CText {
+        Ok(Shown::Line(p)) => CText {
             status: 0,
             at: p.at.0 as u64,
             len: p.len as u64,
             in_listing: 0,
         },
-        Shown::Refused(r) => {
+        Err(r) => {
             let t = refusal_told(r);
             CText {
                 status: t.status,

@@ -1,2 +1,3 @@
 -- The proofs of `call`.
 pub mod AnswerLaws
+pub mod MapLaws

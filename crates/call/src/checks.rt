@@ -3,26 +3,17 @@ ghost use Rattle.std.specs.Prelude.{◌≡◌};
 ghost use Rattle.call.specs.Checks.{table_refusal, RestIs, CallCheckIs, CallCheckIndexed};
 
 use answers::Refusal;
-use edge::ListingCheck;
 use table::index::INDEX_SIZE;
-use table::shape::{BAD_LAYOUT, Shape, TableCheck};
-use text::{LineCheck, Offset};
+use table::shape::{Cause, Shape, TableRefusal};
 
-// What the checks find: so many characters, the table's shape and so many given edges, or a refusal.
-#[derive(Clone, Copy)]
-pub enum CallCheck {
-    Accepted(usize, Shape, usize),
-    Refused(Refusal),
-}
-
-// The refusal of a table, by its number.
-pub fn table_refusal(number: u8, at: Offset) -> Refusal
-    ensures { result ≡ table_refusal number at }
+// The refusal of a table, by its cause.
+pub fn table_refusal(r: TableRefusal) -> Refusal
+    ensures { result ≡ table_refusal r }
 {
-    if number == BAD_LAYOUT {
-        return Refusal::BadTable(at);
+    match r.cause {
+        Cause::Layout => Refusal::BadTable(r.at),
+        Cause::Content => Refusal::BadContent(r.at),
     }
-    Refusal::BadContent(at)
 }
 
 // The checks 4 to 6, of a line of so many characters.
@@ -32,17 +23,13 @@ fn check_rest(
     edges: &[u8],
     offs: &mut [u32; INDEX_SIZE],
     entries: &mut usize,
-) -> CallCheck
+) -> Result<(usize, Shape, usize), Refusal>
     ensures rest_is { RestIs chars table.now edges.now result }
     ensures indexed { CallCheckIndexed table.now offs.new entries.new result }
 {
-    match table_check::check_table(table, offs, entries) {
-        TableCheck::Refused(number, at) => CallCheck::Refused(table_refusal(number, at)),
-        TableCheck::Table(h) => match edge_check::check_listing(edges, chars, true) {
-            ListingCheck::Refused(at) => CallCheck::Refused(Refusal::BadEdges(at)),
-            ListingCheck::Edges(count) => CallCheck::Accepted(chars, h, count),
-        },
-    }
+    let shape = table_check::check_table(table, offs, entries).map_err(table_refusal)?;
+    let count = edge_check::check_listing(edges, chars, true).map_err(Refusal::BadEdges)?;
+    Ok((chars, shape, count))
 }
 
 // The checks 2 to 6, in this order. The index over the table's records is left in offs, with so many entries.
@@ -52,13 +39,10 @@ pub fn check(
     edges: &[u8],
     offs: &mut [u32; INDEX_SIZE],
     entries: &mut usize,
-) -> CallCheck
+) -> Result<(usize, Shape, usize), Refusal>
     ensures call_check_is { CallCheckIs line.now table.now edges.now result }
     ensures indexed { CallCheckIndexed table.now offs.new entries.new result }
 {
-    match text::check::check_line(line) {
-        LineCheck::IllFormed(at) => CallCheck::Refused(Refusal::NotUtf8(at)),
-        LineCheck::TooLong(at) => CallCheck::Refused(Refusal::OverLong(at)),
-        LineCheck::Chars(chars) => check_rest(chars, table, edges, offs, entries),
-    }
+    let chars = text::check::check_line(line)?;
+    check_rest(chars, table, edges, offs, entries)
 }

@@ -4,21 +4,20 @@ ghost use Rattle.numbers.specs.Call as numbers;
 ghost use Rattle.call.specs.Answers.{AnswerIs};
 ghost use Rattle.call.specs.Stages.{Leads};
 
-use crate::stages::StagesAnswer;
-use answers::{Answer, Refusal};
-use lattice::Finished;
+use answers::Refusal;
+use lattice::Lattice;
+use text::Place;
 
 // What the call answers for what its stages answered. The output is written only here.
-pub fn finish_call(work: &[u8], stages: StagesAnswer, out: &mut [u8]) -> Answer
+pub fn finish_call(
+    work: &[u8],
+    stages: Result<Lattice, Place>,
+    out: &mut [u8],
+) -> Result<usize, Refusal>
     requires { (a : numbers.Answer) × Leads work.now (length out.old) stages a }
     ensures { (a : numbers.Answer) → Leads work.now (length out.old) stages a
         → AnswerIs out.old out.new result a }
 {
-    match stages {
-        StagesAnswer::Above(p) => Answer::Refused(Refusal::AboveTop(p)),
-        StagesAnswer::Made(l) => match lattice::ends::finish(work, l, out) {
-            Finished::Listing(len) => Answer::Listing(len),
-            Finished::TooLong => Answer::Refused(Refusal::TooLong),
-        },
-    }
+    let lattice = stages.map_err(Refusal::AboveTop)?;
+    lattice::ends::finish(work, lattice, out).ok_or(Refusal::TooLong)
 }

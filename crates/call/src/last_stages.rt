@@ -39,6 +39,7 @@ fn set_apart(
         (apart_by silencing (map (edge_of (chars line.now) table) (behind work.old count)) es)) }
 {
     let apart = separators::separate(work, lattice);
+    // Kept as a flag: one `if` over one stage; as a closure its contract of seven lines would go through three functions.
     if silencing {
         singles::silence_singles(work, apart, line, offs, count);
     }

@@ -12,9 +12,8 @@ ghost use Rattle.numbers.specs.Call.{answer_by, add_numbers, add_numbers_without
 ghost use Rattle.call.specs.Kinds.{call_stages};
 ghost use Rattle.call.specs.Answers.{AnswerIs};
 
-use crate::checks::CallCheck;
 use crate::stages::CallKind;
-pub use answers::{Answer, Refusal, refusal_told};
+pub use answers::{Refusal, refusal_told};
 use table::index::INDEX_SIZE;
 
 // The least work space (refusal 1).
@@ -28,25 +27,21 @@ fn add_numbers_by(
     work: &mut [u8],
     out: &mut [u8],
     kind: CallKind,
-) -> Answer
+) -> Result<usize, Refusal>
     ensures { AnswerIs out.old out.new result
         (answer_by (call_stages kind) line.now table.now edges.now
         (length work.old) (length out.old)) }
 {
     if work.len() < WORK_SIZE {
-        return Answer::Refused(Refusal::ShortWork);
+        return Err(Refusal::ShortWork);
     }
     let mut index = [0u32; INDEX_SIZE];
     let mut entries: usize = 0;
-    match crate::checks::check(line, table, edges, &mut index, &mut entries) {
-        CallCheck::Refused(r) => Answer::Refused(r),
-        CallCheck::Accepted(n, h, count) => {
-            let stages = crate::stages::run_stages(
-                work, line, table, h, n, edges, count, &index, entries, kind,
-            );
-            crate::ending::finish_call(work, stages, out)
-        }
-    }
+    let (chars, shape, count) = crate::checks::check(line, table, edges, &mut index, &mut entries)?;
+    let stages = crate::stages::run_stages(
+        work, line, table, shape, chars, edges, count, &index, entries, kind,
+    );
+    crate::ending::finish_call(work, stages, out)
 }
 
 // The call: the written numbers of a line as edges, behind those given. A refused call leaves the output as it was.
@@ -56,7 +51,7 @@ pub fn add_numbers(
     edges: &[u8],
     work: &mut [u8],
     out: &mut [u8],
-) -> Answer
+) -> Result<usize, Refusal>
     ensures { AnswerIs out.old out.new result
         (add_numbers line.now table.now edges.now (length work.old)
         (length out.old)) }
@@ -71,7 +66,7 @@ pub fn add_numbers_without_singles(
     edges: &[u8],
     work: &mut [u8],
     out: &mut [u8],
-) -> Answer
+) -> Result<usize, Refusal>
     ensures { AnswerIs out.old out.new result
         (add_numbers_without_singles line.now table.now edges.now
         (length work.old) (length out.old)) }
@@ -86,7 +81,7 @@ pub fn add_numbers_with_decimals(
     edges: &[u8],
     work: &mut [u8],
     out: &mut [u8],
-) -> Answer
+) -> Result<usize, Refusal>
     ensures { AnswerIs out.old out.new result
         (add_numbers_with_decimals line.now table.now edges.now
         (length work.old) (length out.old)) }

@@ -10,7 +10,6 @@ ghost use Rattle.call.specs.Kinds.{has_decimals, silences_singles};
 ghost use Rattle.call.specs.Stages.{StagesAre};
 
 use first_stages::bare::is_bare;
-use first_stages::five_passes::PassesAnswer;
 use lattice::Lattice;
 use table::index::INDEX_SIZE;
 use table::shape::Shape;
@@ -25,33 +24,18 @@ pub enum CallKind {
     WithDecimals,
 }
 
-// What the stages answer: refusal 7's place, or the finished lattice.
-#[derive(Clone, Copy)]
-pub enum StagesAnswer {
-    Above(Place),
-    Made(Lattice),
-}
-
 // Whether the passes join digits, a point and digits.
 fn has_decimals(kind: CallKind) -> bool
     ensures { result ≡ has_decimals kind }
 {
-    match kind {
-        CallKind::First => false,
-        CallKind::WithoutSingles => false,
-        CallKind::WithDecimals => true,
-    }
+    matches!(kind, CallKind::WithDecimals)
 }
 
 // Whether singles that may not stand turn inactive.
 fn silences_singles(kind: CallKind) -> bool
     ensures { result ≡ silences_singles kind }
 {
-    match kind {
-        CallKind::First => false,
-        CallKind::WithoutSingles => true,
-        CallKind::WithDecimals => false,
-    }
+    matches!(kind, CallKind::WithoutSingles)
 }
 
 // The stages of a call, for a line, a table and given edges that passed their checks. A line without given edges that no stage adds an edge to is
@@ -67,7 +51,7 @@ pub fn run_stages(
     index: &[u32; INDEX_SIZE],
     entries: usize,
     kind: CallKind,
-) -> StagesAnswer
+) -> Result<Lattice, Place>
     requires { (work_size ≤ length work.old) × Accepted line.now table.now edges.now places shape count
         × RecordIndex table.now shape index.now entries }
     ensures { StagesAre kind (table_of table.now shape) (chars line.now)
@@ -75,25 +59,16 @@ pub fn run_stages(
 {
     let bare = is_bare(line, table, shape, index, entries);
     if bare & (count == 0) {
-        return StagesAnswer::Made(lattice::ends::empty(work));
+        return Ok(lattice::ends::empty(work));
     }
     let mut offs = [0usize; PLACES];
     pass_edge::places::place_offsets(line, &mut offs);
     let decimals = has_decimals(kind);
-    match first_stages::run_first_stages(
+    let (lattice, stored) = first_stages::run_first_stages(
         work, line, &offs, table, shape, edges, count, index, entries, decimals,
-    ) {
-        PassesAnswer::Above(p) => StagesAnswer::Above(p),
-        PassesAnswer::Added(m, k) => StagesAnswer::Made(crate::last_stages::run_last_stages(
-            work,
-            m,
-            line,
-            &offs,
-            table,
-            shape,
-            places,
-            k,
-            silences_singles(kind),
-        )),
-    }
+    )?;
+    let silencing = silences_singles(kind);
+    Ok(crate::last_stages::run_last_stages(
+        work, lattice, line, &offs, table, shape, places, stored, silencing,
+    ))
 }

@@ -4,7 +4,7 @@
 use mathlib.Core.Path.{◌≡◌, refl, sym, ap, ◌∙◌}
 use mathlib.Core.Bool.{Bool, true, false, cond, ◌&&◌, true≢false}
 use mathlib.Core.Bool as bool
-use mathlib.Core.List.{List, [], ◌∷◌, append-nil}
+use mathlib.Core.List.{List, [], ◌∷◌}
 use mathlib.Core.Option
 use mathlib.Core.Option.{Option, none, some}
 use Prim.Native.Nat.{ℕ, suc, ◌+◌, ◌-◌, ◌%◌, ◌≤◌, ◌<◌}
@@ -18,7 +18,7 @@ use Rattle.whole.specs.Whole.{TOP}
 use Rattle.whole.specs.Decimal.{padded}
 use Rattle.text.specs.Bytes.{same}
 use Rattle.text.specs.Sequence.{scalar, encode}
-use Rattle.text.specs.Text.{encodes, Scalars}
+use Rattle.text.specs.Text.{Scalars}
 use Rattle.text.proofs.BytesLaws.{same_refl, same_true}
 use Rattle.text.proofs.RowLaws.{and-true}
 use Rattle.text.proofs.TextLaws.{encodes_injective, scalars_at, encodes_one}

@@ -2,7 +2,7 @@
 -- In order: the records by the table's count; the stored edge of a character; what the table's check gives; one character more, without and with a record; no character;
 -- the end of the line.
 use mathlib.Core.Path.{◌≡◌, refl, sym, ap, ◌∙◌, subst}
-use mathlib.Core.Bool.{Bool, true}
+use mathlib.Core.Bool.{Bool}
 use mathlib.Core.List.{List, [], ◌∷◌, ◌++◌}
 use mathlib.Core.Option.{none}
 use Prim.Native.Nat.{ℕ, ◌+◌, ◌<◌}
@@ -12,8 +12,8 @@ use Rattle.text.specs.Text.{chars, Scalars}
 use Rattle.text.proofs.PlaceLaws.{Reached, reached_count}
 use Rattle.fields.specs.Fields.{le_at}
 use Rattle.table.specs.Table.{Record, find}
-use Rattle.table.specs.Layout.{numbers_in, records_at}
-use Rattle.table.specs.Check.{Fine, read_table, legal_numbers, digit_rule}
+use Rattle.table.specs.Layout.{records_at}
+use Rattle.table.specs.Check.{Fine, read_table}
 use Rattle.table.specs.Answers.{record_of, table_of}
 use Rattle.table.specs.declared.shape.Shape.{Shape}
 use Rattle.table.specs.declared.layout.NumProp.{NumProp}

@@ -1,6 +1,6 @@
 -- What the table's check (table/specs/Check.antt) says of each record, and so of the one that is found for a character. No contract cites this file.
 -- In order: the records one by one; the table and its count; a count that is too high; the record of a character.
-use mathlib.Core.Path.{◌≡◌, refl, sym, ap, ◌∙◌}
+use mathlib.Core.Path.{◌≡◌, refl, ap, ◌∙◌}
 use mathlib.Core.Bool.{Bool, true, false, cond}
 use mathlib.Core.List.{List, [], ◌∷◌}
 use mathlib.Core.Option.{some}
@@ -12,7 +12,7 @@ use lib.Dec.{eqb}
 use Rattle.fields.specs.Fields.{le_at}
 use Rattle.table.specs.Table.{Text, Record, Table, find}
 use Rattle.table.specs.Layout.{Field, Is, Fault, on_field, number, read_record, many_at, records_at}
-use Rattle.table.specs.Check.{Fine, Refused, item, legal_record, read_list, read_records, read_table}
+use Rattle.table.specs.Check.{Fine, Refused, item, legal_record, read_list, read_records, read_table, bad_layout}
 use Rattle.table.proofs.LayoutLaws.{number_is, number_cut}
 use Rattle.table.proofs.LookupLaws.{item_fine, then_fine}
 use Rattle.pass_list.specs.StoredEdge.{Every, nil, cons}
@@ -66,7 +66,7 @@ table_told_lem s {t} {end} e =
     go p.value f.value u.value m.value rs.value rs.next (eqb rs.next (length s)) rs.rest (record { long = head.0; lawful = told.0; counted = told.1 ∙ head.1 })
   where
     go : (p f u m : List Text) (rs : List Record) (k : ℕ) (b : Bool)
-        → cond b (Fine (record { percentage_markers = p; fraction_connectors = f; plus_signs = u; minus_signs = m; records = rs }) k) (Refused 4 k) ≡ Fine t end
+        → cond b (Fine (record { percentage_markers = p; fraction_connectors = f; plus_signs = u; minus_signs = m; records = rs }) k) (Refused bad_layout k) ≡ Fine t end
         → Told s rs → Told s t.records
     go p f u m rs k true g h = let q : record { percentage_markers = p; fraction_connectors = f; plus_signs = u; minus_signs = m; records = rs } ≡ t = cc in rw (← q) h
     go p f u m rs k false g h = let z : ◌≡◌ {A = ℕ} 0 1 = cc in absurd (omega arith)

@@ -6,25 +6,21 @@ ghost use Rattle.pass_edge.specs.Adding.{Addable, Added};
 ghost use Rattle.pass_list.specs.Kind.{kind_number};
 
 use lattice::Lattice;
-use pass_edge::Fraction;
 use pass_list::record::PassEdge;
+use passes::ratio::Ratio;
 use table::bits;
 use table::record::known::record_here;
 use text::check::PLACES;
 
 // Its fraction. Only a record that has one is read whole.
-fn fraction_at(table: &[u8], at: usize) -> Fraction
+fn fraction_at(table: &[u8], at: usize) -> Option<Ratio>
     requires { LegalAt table.now at }
     ensures { FractionIs result (stored_fraction table.now 0 at) }
 {
     if table[at + 4] / bits::FRACTION % 2 == 1 {
         return crate::fraction::fraction_of(record_here(table, at));
     }
-    Fraction {
-        there: false,
-        numerator: 0,
-        denominator: 0,
-    }
+    None
 }
 
 // A character is added: its type is a part of the table, its txt the rom there or else the character in the line.

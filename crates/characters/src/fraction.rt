@@ -2,26 +2,17 @@
 ghost use Rattle.std.specs.Prelude.{◌≡◌, ◌/◌, ◌%◌, ◌<◌};
 ghost use Rattle.pass_edge.specs.Fields.{record_fraction, FractionIs};
 
-use pass_edge::Fraction;
+use passes::ratio::{Ratio, lowest};
 use table::bits;
 use table::layout::NumProp;
 
 // The fraction of a record, in lowest terms.
-pub fn fraction_of(prop: NumProp) -> Fraction
+pub fn fraction_of(prop: NumProp) -> Option<Ratio>
     requires { prop.map / 4 % 2 ≡ 1 → 0 < prop.numbers.denominator }
     ensures { FractionIs result (record_fraction prop) }
 {
     if prop.map / bits::FRACTION % 2 == 1 {
-        let r = passes::ratio::lowest(prop.numbers.numerator, prop.numbers.denominator);
-        return Fraction {
-            there: true,
-            numerator: r.numerator,
-            denominator: r.denominator,
-        };
+        return Some(lowest(prop.numbers.numerator, prop.numbers.denominator));
     }
-    Fraction {
-        there: false,
-        numerator: 0,
-        denominator: 0,
-    }
+    None
 }

@@ -7,19 +7,13 @@ ghost use Rattle.whole.specs.Whole.{TOP, of_nat};
 ghost use Rattle.wide.specs.Numbers.{exact_quotient};
 ghost use Rattle.decimals.specs.Quotient.{quotient};
 
-use wide::Quotient;
+use whole::AboveTop;
 
 pub fn power_of_ten(decimals: u64) -> u64
     requires { decimals ≤ 15 }
     ensures { result ≡ 10 ^ decimals }
 {
-    let mut power = 1;
-    let mut i = 0;
-    while i < decimals {
-        power = power * 10;
-        i += 1;
-    }
-    power
+    10u64.pow(decimals as u32)
 }
 
 // The f64 that a listing has for a written decimal: both operands are exact, so that it is rounded once.
@@ -31,7 +25,7 @@ pub fn quotient(digits: f64, decimals: u64) -> f64
 }
 
 // A written decimal times a whole number, where that is whole.
-pub fn exact_product(digits: u64, decimals: u64, factor: u64) -> Quotient
+pub fn exact_product(digits: u64, decimals: u64, factor: u64) -> Result<Option<u64>, AboveTop>
     requires { (digits ≤ TOP) × (decimals ≤ 15) × (factor ≤ TOP) }
     ensures { result ≡ exact_quotient (digits * factor) (10 ^ decimals) }
 {

@@ -6,22 +6,10 @@
 
 ghost use Rattle.std.specs.Prelude.{◌≤◌};
 
-use answers::Answer;
+use answers::Refusal;
 use edge::{EdgeView, NumFields, bits};
 use fields::Part;
 use text::Offset;
-use vectors::ROWS;
-use walker::whole_edge::WholeEdge;
-
-fn kind_word(map: u16) {
-    if !edge::bit(map, bits::NUMERIC) {
-        io::write_all(1, b"=");
-    } else if edge::bit(map, bits::ACTIVE) {
-        io::write_all(1, b"+");
-    } else {
-        io::write_all(1, b".");
-    }
-}
 
 fn show_part(listing: &[u8], part: Part) {
     let from = part.at.0;
@@ -38,7 +26,10 @@ fn show_part(listing: &[u8], part: Part) {
 fn show_edge(listing: &[u8], view: EdgeView, num: NumFields) {
     vectors::say(b" ", view.start.0 as u64);
     vectors::say(b"-", view.end.0 as u64);
-    kind_word(view.map);
+    vectors::edge_mark(
+        edge::bit(view.map, bits::NUMERIC),
+        edge::bit(view.map, bits::ACTIVE),
+    );
     show_part(listing, view.txt);
     if edge::bit(view.map, bits::DECIMALS) {
         vectors::say(b"/", num.decimals as u64);
@@ -49,31 +40,25 @@ fn show_edge(listing: &[u8], view: EdgeView, num: NumFields) {
 // The edges one after the other; each has a byte at least.
 fn show_edges(listing: &[u8]) {
     let mut at: usize = 2;
-    let mut i = 0;
-    while i < listing.len() {
-        match walker::whole_edge::whole_edge_at(listing, Offset(at)) {
-            WholeEdge::Edge(view, num, next) => {
-                show_edge(listing, view, num);
-                at = next.0;
-                i += 1;
-            }
-            WholeEdge::Nothing => {
-                return;
-            }
-        }
+    for _ in 0..listing.len() {
+        let Some((view, num, next)) = walker::whole_edge::whole_edge_at(listing, Offset(at)) else {
+            return;
+        };
+        show_edge(listing, view, num);
+        at = next.0;
     }
 }
 
-fn show(answer: Answer, out: &[u8]) {
+fn show(answer: Result<usize, Refusal>, out: &[u8]) {
     match answer {
-        Answer::Listing(len) => {
+        Ok(len) => {
             if out.len() < len {
                 io::write_all(1, b" too long");
             } else {
                 show_edges(&out[..len]);
             }
         }
-        Answer::Refused(r) => {
+        Err(r) => {
             let told = call::refusal_told(r);
             io::write_all(1, b" ");
             vectors::refused(told.status as u64, told.at);
@@ -111,32 +96,15 @@ fn after_edges(line: &[u8], table: &[u8], edges: &[u8], row: &[u8]) {
     vectors::end_row(rest);
 }
 
-// Takes an edge list's digits apart into its buffer, and goes on behind them.
-fn after_table(line: &[u8], table: &[u8], row: &[u8]) {
-    let mut edges = io::buffer();
-    let n = vectors::unhex(vectors::word(row), &mut edges);
-    after_edges(line, table, &edges[0..n], vectors::rest(row));
-}
-
-// Likewise a table's.
-fn after_line(line: &[u8], row: &[u8]) {
-    let mut table = io::buffer();
-    let n = vectors::unhex(vectors::word(row), &mut table);
-    after_table(line, &table[0..n], vectors::rest(row));
-}
-
-// Likewise a line's.
+// A row: a line, a table and an edge list, then what is behind them.
 fn answer(row: &[u8]) {
-    let mut line = io::buffer();
-    let n = vectors::unhex(vectors::word(row), &mut line);
-    after_line(&line[0..n], vectors::rest(row));
+    vectors::with_bytes(row, |line, rest| {
+        vectors::with_bytes(rest, |table, rest| {
+            vectors::with_bytes(rest, |edges, rest| after_edges(line, table, edges, rest))
+        })
+    })
 }
 
 fn main() {
-    let mut input = io::large_buffer();
-    let mut ends = [0usize; ROWS];
-    let rows = vectors::read_rows(&mut input, &mut ends);
-    for i in 0..rows {
-        answer(vectors::row(&input, &ends, i));
-    }
+    vectors::each_row(|row| answer(row));
 }

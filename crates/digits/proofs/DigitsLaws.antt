@@ -11,8 +11,8 @@ use lib.Dec.{T, leb, ltb, leb→le}
 use lib.Ieee.Fits.{and_l, and_r}
 use lib.ListN.{length, get_or, drop, drop_of_length-le}
 use lib.Seq.{drop-cons}
-use borrow.Author.Tests.{le-leb, lt-leb, leb-true, leb-false, lt-ltb, le-ltb, ltb-true, ltb-false}
-use Rattle.digits.specs.Digits.{starts, in_runs, is_digit, not_above, any_above, compared, digit_test}
+use borrow.Author.Tests.{le-leb, lt-leb, leb-true, leb-false, lt-ltb, le-ltb}
+use Rattle.digits.specs.Digits.{starts, in_runs, is_digit, not_above, any_above, digit_test}
 use Rattle.digits.specs.declared.DigitTest.{DigitTest}
 
 -- ---- the rule: the first start is at least lo, and each later one at least ten above the one before it

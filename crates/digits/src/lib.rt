@@ -51,8 +51,7 @@ fn compare_from_third(c: u32) -> DigitTest
     ensures { result ≡ digit_test c }
 {
     let starts = STARTS;
-    let mut n = 2;
-    while n < 68 {
+    for n in 2..68 {
         if c < starts[n] {
             let past = c - starts[n - 1];
             let compared = n + 1;
@@ -61,7 +60,6 @@ fn compare_from_third(c: u32) -> DigitTest
                 compared,
             };
         }
-        n += 1;
     }
     let past = c - starts[67];
     DigitTest {

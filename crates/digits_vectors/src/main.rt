@@ -7,18 +7,14 @@ ghost use Rattle.std.specs.Prelude.{◌≤◌};
 
 use text::{Offset, Seq};
 
-const STDIN: i32 = 0;
-
 const STDOUT: i32 = 1;
 
 fn count_digits() -> u64 {
     let mut n: u64 = 0;
-    let mut c: u32 = 0;
-    while c < 0x110000 {
+    for c in 0..0x110000 {
         if digits::is_digit(c).digit {
             n += 1;
         }
-        c += 1;
     }
     n
 }
@@ -32,10 +28,8 @@ fn compared(c: u32) -> u64
 
 fn count_compared() -> u64 {
     let mut n: u64 = 0;
-    let mut c: u32 = 0;
-    while c < 0x110000 {
+    for c in 0..0x110000 {
         n += compared(c);
-        c += 1;
     }
     n
 }
@@ -58,18 +52,12 @@ fn write_compared(line: &[u8]) {
     }
 }
 
-fn write_rows(s: &[u8]) {
-    let mut at = 0;
-    while at < s.len() {
-        let end = vectors::until(s, at, b'\n');
-        let line = &s[at..end];
-        io::write_all(STDOUT, line);
-        write_answer(digits::ends::begins_with_digit(line));
-        write_answer(digits::ends::ends_with_digit(line));
-        write_compared(line);
-        io::write_all(STDOUT, b"\n");
-        at = end + 1;
-    }
+fn write_row(line: &[u8]) {
+    io::write_all(STDOUT, line);
+    write_answer(digits::ends::begins_with_digit(line));
+    write_answer(digits::ends::ends_with_digit(line));
+    write_compared(line);
+    io::write_all(STDOUT, b"\n");
 }
 
 fn main() {
@@ -77,7 +65,5 @@ fn main() {
     io::write_all(STDOUT, b"\n");
     io::print_decimal(STDOUT, count_compared());
     io::write_all(STDOUT, b"\n");
-    let mut buffer = [0u8; 4096];
-    let n = io::read_full(STDIN, &mut buffer);
-    write_rows(&buffer[..n]);
+    vectors::each_row(|line| write_row(line));
 }

@@ -17,9 +17,9 @@ use Rattle.edge.specs.Check.{allowed, each, up_to_top, sound_fraction, sound_cou
 use Rattle.fields.specs.Part.{part_of}
 use Rattle.edge.specs.View.{part_at, part_if, view_at, fields_at, numeric_of, numbers_sound, fields_sound, Inside}
 use borrow.Author.Tests.{le-leb, lt-leb, lt-ltb, le-ltb, leb-true}
-use Rattle.edge.specs.declared.ListingCheck.{ListingCheck}
-use Rattle.edge.specs.declared.ListingCheck.TheVariants.{Edges, Refused}
 use Rattle.edge.proofs.LayoutLaws.{if_on, string_end_ge, within}
+use Rattle.std.specs.Prelude.{Result, Ok, Err}
+use Rattle.text.specs.declared.Offset.{Offset}
 
 -- ---- fields that may be absent
 each_or : {A : Type 0} (p : A → Bool) (on : Bool) (a : A) → (not on || p a) ≡ each p (only on a)
@@ -148,7 +148,7 @@ module _ (given : Bool) (n : ℕ) (s : List ℕ) (at : ℕ) where
     one_left : k ≡ suc (k - 1)
     one_left = omega arith
 
-    pub check_bad : good given n s at ≡ false → Refused (record { 0 = at }) ≡ check_edges given n s k at
+    pub check_bad : good given n s at ≡ false → Err (record { 0 = at }) ≡ check_edges given n s k at
     unfolding check_edges
     check_bad b = sym (ap (λ (j : ℕ). check_edges given n s j at) one_left ∙ rw b)
 
@@ -160,16 +160,16 @@ module _ (given : Bool) (n : ℕ) (s : List ℕ) (at : ℕ) where
     none_left_is : k ≡ 0
     none_left_is = omega arith
 
-    pub check_left_over : at < length s → Refused (record { 0 = at }) ≡ check_edges given n s k at
+    pub check_left_over : at < length s → Err (record { 0 = at }) ≡ check_edges given n s k at
     unfolding check_edges
     check_left_over h = sym (rw (none_left_is, lt-ltb at (length s) h))
 
-    pub check_ends : {count : ℕ} → length s ≤ at → count ≡ le_at s 0 2 → Edges count ≡ check_edges given n s k at
+    pub check_ends : {count : ℕ} → length s ≤ at → count ≡ le_at s 0 2 → Ok count ≡ check_edges given n s k at
     unfolding check_edges
     check_ends h e = sym (rw (none_left_is, le-ltb at (length s) h, e))
 
 module _ (given : Bool) (n : ℕ) (s : List ℕ) where
-  pub check_no_count : length s < 2 → Refused (record { 0 = 0 }) ≡ check_listing given n s
+  pub check_no_count : length s < 2 → Err (record { 0 = 0 }) ≡ check_listing given n s
   unfolding check_listing
   check_no_count h = sym (rw (lt-leb 2 (length s) h))
 
@@ -182,13 +182,13 @@ cond_not : {A : Type 0} (b : Bool) (x y : A) → cond b x y ≡ cond (not b) y x
 cond_not true x y = refl
 cond_not false x y = refl
 
-answers_told : (fine : Bool) (count at : ℕ) → let r = cond fine (Edges count) (Refused (record { 0 = at })) in (listing_refusal r ≡ cond fine 0 6) × (listing_place r ≡ cond fine count at)
+answers_told : (fine : Bool) (count at : ℕ) → let r = cond {A = Result ℕ Offset} fine (Ok count) (Err (record { 0 = at })) in (listing_refusal r ≡ cond fine 0 6) × (listing_place r ≡ cond fine count at)
 answers_told true count at = (refl, refl)
 answers_told false count at = (refl, refl)
 
 module _ (given : Bool) (n : ℕ) (s : List ℕ) where
-  abbrev answered : Bool → ℕ → ListingCheck
-  answered fine at = cond fine (Edges (le_at s 0 2)) (Refused (record { 0 = at }))
+  abbrev answered : Bool → ℕ → Result ℕ Offset
+  answered fine at = cond fine (Ok (le_at s 0 2)) (Err (record { 0 = at }))
 
   edges_told : (k at : ℕ) → check_edges given n s k at ≡ answered (good_from given n s k at) (fault_from given n s k at)
   unfolding check_edges good_from fault_from
@@ -196,7 +196,7 @@ module _ (given : Bool) (n : ℕ) (s : List ℕ) where
   edges_told (suc k) at = go (good given n s at) (edges_told k (next_at s at))
     where
       go : (b : Bool) → check_edges given n s k (next_at s at) ≡ answered (good_from given n s k (next_at s at)) (fault_from given n s k (next_at s at))
-          → cond b (check_edges given n s k (next_at s at)) (Refused (record { 0 = at })) ≡ answered (b && good_from given n s k (next_at s at)) (cond b (fault_from given n s k (next_at s at)) at)
+          → cond b (check_edges given n s k (next_at s at)) (Err (record { 0 = at })) ≡ answered (b && good_from given n s k (next_at s at)) (cond b (fault_from given n s k (next_at s at)) at)
       go true later = later
       go false later = refl
 
@@ -204,11 +204,11 @@ module _ (given : Bool) (n : ℕ) (s : List ℕ) where
   unfolding check_listing
   listing_told = go (leb 2 (length s))
     where
-      go : (b : Bool) → cond b (check_edges given n s (le_at s 0 2) 2) (Refused (record { 0 = 0 })) ≡ answered (b && good_from given n s (le_at s 0 2) 2) (cond b (fault_from given n s (le_at s 0 2) 2) 0)
+      go : (b : Bool) → cond b (check_edges given n s (le_at s 0 2) 2) (Err (record { 0 = 0 })) ≡ answered (b && good_from given n s (le_at s 0 2) 2) (cond b (fault_from given n s (le_at s 0 2) 2) 0)
       go true = edges_told (le_at s 0 2) 2
       go false = refl
 
-  pub listing_answer : {r : ListingCheck} → r ≡ check_listing given n s → ListingAnswer given n s r
+  pub listing_answer : {r : Result ℕ Offset} → r ≡ check_listing given n s → ListingAnswer given n s r
   listing_answer e =
       let told = answers_told (accepted given n s) (le_at s 0 2) (cond (leb 2 (length s)) (fault_from given n s (le_at s 0 2) 2) 0) in
       record { is = e; number = ap listing_refusal (e ∙ listing_told) ∙ told.0; place = ap listing_place (e ∙ listing_told) ∙ told.1 }

@@ -1,8 +1,8 @@
 -- Laws of the offsets of an edge's fields (`specs/Layout.antt`). No contract cites this file.
-use mathlib.Core.Path.{◌≡◌, refl, ◌∙◌}
+use mathlib.Core.Path.{◌≡◌, refl}
 use mathlib.Core.Bool.{Bool, true, false, cond}
-use mathlib.Core.List.{List, ◌∷◌}
-use Prim.Native.Nat.{ℕ, suc, ◌+◌, ◌*◌, ◌/◌, ◌%◌, ◌≤◌, ◌<◌}
+use mathlib.Core.List.{List}
+use Prim.Native.Nat.{ℕ, suc, ◌+◌, ◌*◌, ◌≤◌}
 use native.Mathlib.Nat.{add-zero, le_trans, le_of_eq}
 use borrow.Author.Tests.{eqb-true}
 use native.Mathlib.Omega.{arith}
@@ -115,3 +115,13 @@ orig_within m s at n h = le_trans (string_end_ge s at) (within m s at n h).value
 
 pub length_within : (s : List ℕ) (a n : ℕ) {x : ℕ} → x ≡ a → string_end s a ≤ n → x + 2 ≤ n
 length_within s a n e h = let k = string_end_ge s a in omega arith
+
+-- what stands there where a test holds, and what stands for it where it does not
+pub told : {A : Type 0} (b : Bool) {r x y : A} → (b ≡ true → r ≡ x) → (b ≡ false → r ≡ y) → r ≡ cond b x y
+told true on off = on refl
+told false on off = off refl
+
+-- what holds either way
+pub either : {P : Type 0} (b : Bool) → (b ≡ true → P) → (b ≡ false → P) → P
+either true on off = on refl
+either false on off = off refl

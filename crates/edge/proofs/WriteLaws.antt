@@ -2,28 +2,28 @@
 -- In order: promises in a row; one field; the numbers; all fields; the map; the head; the answer.
 use mathlib.Core.Path.{◌≡◌, refl, sym, ap, ◌∙◌}
 use mathlib.Core.Bool.{Bool, true, false}
-use mathlib.Core.List.{List, [], ◌∷◌, ◌++◌, append_assoc, append-nil}
-use Prim.Native.Nat.{ℕ, ◌+◌, ◌*◌, ◌-◌, ◌/◌, ◌%◌, ◌≤◌, ◌<◌}
-use native.Mathlib.Nat.{add-sub_cancel_left, le_trans, mul-one, mul-zero}
+use mathlib.Core.List.{List, [], ◌++◌, append_assoc, append-nil}
+use Prim.Native.Nat.{ℕ, ◌+◌, ◌*◌, ◌/◌, ◌≤◌, ◌<◌}
+use native.Mathlib.Nat.{le_trans, mul-one, mul-zero}
 use native.Mathlib.Omega.{arith}
-use lib.ListN.{length, take, drop, length-append}
+use lib.ListN.{length, length-append}
 use lib.Seq.{sets}
 use lib.Dec.{eqb}
 use borrow.Author.Tests.{eqb-true, eqb-false, le-leb, lt-leb}
 use Rattle.whole.proofs.SetsLaws.{sets_then}
 use Rattle.fields.specs.Fields.{bytes_of}
-use Rattle.fields.specs.Part.{part, part_of}
+use Rattle.fields.specs.Part.{part_of}
 use Rattle.fields.proofs.FieldsLaws.{length-bytes_of}
 use Rattle.fields.proofs.PartLaws.{length_part}
-use Rattle.fields.specs.Flag.{there, flag, bytes_if}
+use Rattle.fields.specs.Flag.{there, bytes_if}
 use Rattle.fields.proofs.FlagLaws.{flag_is}
 use Rattle.fields.specs.declared.Part.{Part}
 use Rattle.edge.specs.declared.NumFields.{NumFields}
-use Rattle.edge.specs.declared.Written.TheVariants.{To, NoRoom}
 use Rattle.edge.specs.Edge.{Text, numeric_map, str, fraction_bytes, numeric_bytes, head_bytes, edge_bytes}
 use Rattle.edge.specs.Layout.{bit, stands, only, script_at}
 use Rattle.edge.specs.View.{numeric_of}
 use Rattle.edge.specs.Write.{written, written_to, Put, regular, numeric, numbers_bytes, text_past_if, texts_past, fields_past, Writable}
+use Rattle.std.specs.Prelude.{Some, None}
 
 -- ---- promises in a row
 pub put_then : {s t u : List ℕ} {at k r : ℕ} {a b : List ℕ} → Put s t at k a → Put t u k r b → Put s u at r (a ++ b)
@@ -45,15 +45,6 @@ length_str x = length-append (bytes_of 2 (length x)) x ∙ rw (length-bytes_of 2
 pub put_str : (x s : List ℕ) {t u : List ℕ} (at : ℕ) → t ≡ sets s at (bytes_of 2 (length x)) → u ≡ sets t (at + 2) x → Put s u at (at + 2 + length x) (str x)
 unfolding str
 put_str x s at p q = put_then (put_number 2 (length x) s at p) (record { wrote = q; next = refl })
-
--- a part of a slice, its length and its bytes
-pub put_part : (s : List ℕ) (p : Part) (w : List ℕ) {t u : List ℕ} (at : ℕ) → p.at.0 + p.len ≤ length s → t ≡ sets w at (bytes_of 2 p.len)
-    → u ≡ sets t (at + 2) (take (p.at.0 + p.len - p.at.0) (drop p.at.0 s)) → Put w u at (at + 2 + p.len) (str (part_of s p))
-unfolding part
-put_part s p w at h a b =
-    let e = add-sub_cancel_left p.at.0 p.len in
-    let l = length_part s p.at.0 p.len h in
-    rw l at (put_str (part_of s p) w at (rw l a) (rw e at b))
 
 -- ---- one field
 module _ (b : Bool) (s : List ℕ) (x : Text) (n at : ℕ) where
@@ -256,18 +247,18 @@ module _ (o c v : List ℕ) (d : NumFields) (h : Writable o c v d) where
 
 -- ---- the answer
 module _ (s : List ℕ) (at : ℕ) (bs : List ℕ) where
-  pub no_room : length s < at + length bs → (NoRoom ≡ written s at bs) × (s ≡ written_to s at bs)
+  pub no_room : length s < at + length bs → (None ≡ written s at bs) × (s ≡ written_to s at bs)
   no_room h = rw (lt-leb (at + length bs) (length s) h) (refl, refl)
 
-  pub put_there : {t : List ℕ} {r : ℕ} → at + length bs ≤ length s → Put s t at r bs → (To r ≡ written s at bs) × (t ≡ written_to s at bs)
-  put_there h p = let e = p.next in rw (le-leb (at + length bs) (length s) h) (ap To e, p.wrote)
+  pub put_there : {t : List ℕ} {r : ℕ} → at + length bs ≤ length s → Put s t at r bs → (Some r ≡ written s at bs) × (t ≡ written_to s at bs)
+  put_there h p = let e = p.next in rw (le-leb (at + length bs) (length s) h) (ap Some e, p.wrote)
 
 module _ (s : List ℕ) (at a z : ℕ) (ty tx : Text) where
-  pub regular_no_room : length s < at + 10 + length ty + length tx → (NoRoom ≡ written s at (edge_bytes (regular a z ty tx))) × (s ≡ written_to s at (edge_bytes (regular a z ty tx)))
+  pub regular_no_room : length s < at + 10 + length ty + length tx → (None ≡ written s at (edge_bytes (regular a z ty tx))) × (s ≡ written_to s at (edge_bytes (regular a z ty tx)))
   regular_no_room h = rw (regular_bytes a z ty tx) (let l = length_head 0 a z ty tx in no_room s at (head_bytes 0 a z ty tx) (omega arith))
 
   pub regular_there : {t : List ℕ} {r : ℕ} → at + 10 + length ty + length tx ≤ length s → Put s t at r (head_bytes 0 a z ty tx)
-      → (To r ≡ written s at (edge_bytes (regular a z ty tx))) × (t ≡ written_to s at (edge_bytes (regular a z ty tx)))
+      → (Some r ≡ written s at (edge_bytes (regular a z ty tx))) × (t ≡ written_to s at (edge_bytes (regular a z ty tx)))
   regular_there h p = rw (regular_bytes a z ty tx) (let l = length_head 0 a z ty tx in put_there s at (head_bytes 0 a z ty tx) (omega arith) p)
 
   module _ (o c v : List ℕ) (d : NumFields) (w : Writable o c v d) {past : ℕ} (ends : past ≡ fields_past d (at + 10 + length ty + length tx)) where
@@ -277,10 +268,10 @@ module _ (s : List ℕ) (at a z : ℕ) (ty tx : Text) where
         let k = length_fields o c v d w (at + 10 + length ty + length tx) in
         simp length-append (omega arith)
 
-    pub numeric_no_room : length s < past → (NoRoom ≡ written s at (edge_bytes (numeric a z ty tx o c v d))) × (s ≡ written_to s at (edge_bytes (numeric a z ty tx o c v d)))
+    pub numeric_no_room : length s < past → (None ≡ written s at (edge_bytes (numeric a z ty tx o c v d))) × (s ≡ written_to s at (edge_bytes (numeric a z ty tx o c v d)))
     numeric_no_room h = rw (numeric_bytes_lem o c v d w a z ty tx) (let l = numeric_past in no_room s at (head_bytes d.map a z ty tx ++ numeric_bytes (numeric_of o c v d)) (omega arith))
 
     pub numeric_there : {t u : List ℕ} {k r : ℕ} → past ≤ length s → k ≡ at + 10 + length ty + length tx → Put s t at k (head_bytes d.map a z ty tx)
         → Put t u (at + 10 + length ty + length tx) r (numeric_bytes (numeric_of o c v d))
-        → (To r ≡ written s at (edge_bytes (numeric a z ty tx o c v d))) × (u ≡ written_to s at (edge_bytes (numeric a z ty tx o c v d)))
+        → (Some r ≡ written s at (edge_bytes (numeric a z ty tx o c v d))) × (u ≡ written_to s at (edge_bytes (numeric a z ty tx o c v d)))
     numeric_there h e p q = rw (numeric_bytes_lem o c v d w a z ty tx) (let l = numeric_past in put_there s at (head_bytes d.map a z ty tx ++ numeric_bytes (numeric_of o c v d)) (omega arith) (put_then (rw e at p) q))

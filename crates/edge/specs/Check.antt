@@ -9,15 +9,14 @@
 --     listing_refusal r, listing_place r    01's number of an answer, 0 where the listing is accepted; its offset, or the count of edges
 --     ListingAnswer given n s r   r is the answer for the listing s, and says its number and its offset or count
 --     Assumes nothing.
-use Rattle.std.specs.Prelude.{ℕ, zero, suc, ◌≡◌, Bool, true, false, cond, not, ◌&&◌, List, eqb, ltb, leb, length}
+use Rattle.std.specs.Prelude.{ℕ, zero, suc, ◌≡◌, Bool, true, cond, not, ◌&&◌, List, eqb, ltb, leb, length, Result, Ok, Err}
 use Rattle.std.proofs.Math.Option.{Option, none, some}
 use Rattle.whole.specs.Whole.{TOP}
 use Rattle.text.specs.Text.{well_formed}
 use Rattle.fields.specs.Fields.{le_at}
-use Rattle.edge.specs.declared.ListingCheck.{ListingCheck}
-use Rattle.edge.specs.declared.ListingCheck.TheVariants.{Edges, Refused}
 use Rattle.edge.specs.Edge.{Numeric, Edge}
 use Rattle.edge.specs.Layout.{stands, map_at, next_at, edge_at}
+use Rattle.text.specs.declared.Offset.{Offset}
 
 unfoldable pub allowed : Bool → ℕ → Bool
 allowed given m = cond given (eqb m 0) (cond (stands 0 m) (ltb m 1024) (eqb m 0))
@@ -51,13 +50,13 @@ sound n e = ((ltb e.start e.end && leb e.end n) && (well_formed e.type && well_f
 unfoldable pub good : Bool → ℕ → List ℕ → ℕ → Bool
 good given n s at = leb (next_at s at) (length s) && (allowed given (map_at s at) && sound n (edge_at s at))
 
-unfoldable pub check_edges : Bool → ℕ → List ℕ → ℕ → ℕ → ListingCheck
-check_edges given n s zero at = cond (ltb at (length s)) (Refused (record { 0 = at })) (Edges (le_at s 0 2))
-check_edges given n s (suc k) at = cond (good given n s at) (check_edges given n s k (next_at s at)) (Refused (record { 0 = at }))
+unfoldable pub check_edges : Bool → ℕ → List ℕ → ℕ → ℕ → Result ℕ Offset
+check_edges given n s zero at = cond (ltb at (length s)) (Err (record { 0 = at })) (Ok (le_at s 0 2))
+check_edges given n s (suc k) at = cond (good given n s at) (check_edges given n s k (next_at s at)) (Err (record { 0 = at }))
 
 -- a listing that has no whole count is refused at 0
-unfoldable pub check_listing : Bool → ℕ → List ℕ → ListingCheck
-check_listing given n s = cond (leb 2 (length s)) (check_edges given n s (le_at s 0 2) 2) (Refused (record { 0 = 0 }))
+unfoldable pub check_listing : Bool → ℕ → List ℕ → Result ℕ Offset
+check_listing given n s = cond (leb 2 (length s)) (check_edges given n s (le_at s 0 2) 2) (Err (record { 0 = 0 }))
 
 -- ---- what 01's table says of it
 unfoldable pub good_from : Bool → ℕ → List ℕ → ℕ → ℕ → Bool
@@ -80,15 +79,15 @@ abbrev pub listing_offset : Bool → ℕ → List ℕ → ℕ
 listing_offset given n s = cond (accepted given n s) (le_at s 0 2) (cond (leb 2 (length s)) (fault_from given n s (le_at s 0 2) 2) 0)
 
 -- 01's number of an answer, 0 where the listing is accepted; its offset, or the count of edges
-abbrev pub listing_refusal : ListingCheck → ℕ
-listing_refusal (Edges count) = 0
-listing_refusal (Refused at) = 6
+abbrev pub listing_refusal : Result ℕ Offset → ℕ
+listing_refusal (Ok count) = 0
+listing_refusal (Err at) = 6
 
-abbrev pub listing_place : ListingCheck → ℕ
-listing_place (Edges count) = count
-listing_place (Refused at) = at.0
+abbrev pub listing_place : Result ℕ Offset → ℕ
+listing_place (Ok count) = count
+listing_place (Err at) = at.0
 
-pub record ListingAnswer (given : Bool) (n : ℕ) (s : List ℕ) (r : ListingCheck) : Type 0 where
+pub record ListingAnswer (given : Bool) (n : ℕ) (s : List ℕ) (r : Result ℕ Offset) : Type 0 where
   pub is : r ≡ check_listing given n s
   pub number : listing_refusal r ≡ listing_number given n s
   pub place : listing_place r ≡ listing_offset given n s

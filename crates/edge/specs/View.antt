@@ -4,17 +4,13 @@
 --     numeric_of o c v d   the numeric data that the fields d say, their strings in the lists o (orig_txt), c (script) and v (value_s)
 --     Assumes nothing.
 use Rattle.std.specs.Prelude.{◌≡◌, ℕ, ◌+◌, ◌≤◌, Bool, true, cond, List}
-use Rattle.std.proofs.Math.Option.{none, some}
-use Rattle.std.specs.Float.{binary64}
-use Rattle.std.specs.Float.Ieee.{to_bits, of_bits}
 use Rattle.fields.specs.Fields.{le_at}
 use Rattle.fields.specs.Part.{part_of}
 use Rattle.edge.specs.declared.EdgeView.{EdgeView}
 use Rattle.edge.specs.declared.NumFields.{NumFields}
-use Rattle.edge.specs.declared.NumData.{NumData}
 use Rattle.fields.specs.declared.Part.{Part}
 use Rattle.edge.specs.Check.{sound_numbers, sound_numeric}
-use Rattle.edge.specs.Edge.{Text, Numeric, Edge}
+use Rattle.edge.specs.Edge.{Numeric}
 use Rattle.edge.specs.Layout.{stands, only, map_at, string_end, txt_at, head_end, fraction_at, base_at, mult_at, script_at, value_sAt, decimals_at}
 
 -- the text whose length is at an offset

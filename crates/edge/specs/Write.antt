@@ -7,8 +7,8 @@
 --     Writable .. d       the fields d can be listed: their map may stand in a numeric edge, their texts are within the lists and have a u16 length
 --     fields_of d          the fields of numeric data, their floats as bits
 --     Assumes nothing.
-use Rattle.std.specs.Prelude.{◌≡◌, Bool, true, cond, List, ◌++◌, ℕ, ◌+◌, ◌≤◌, ◌<◌, leb, length}
-use Rattle.std.proofs.Math.Option.{Option, none, some}
+use Rattle.std.specs.Prelude.{◌≡◌, Bool, true, cond, List, ◌++◌, ℕ, ◌+◌, ◌≤◌, ◌<◌, leb, length, Some, None}
+use Rattle.std.proofs.Math.Option.{none, some}
 use Rattle.std.proofs.lemmas.List.Edits.{sets}
 use Rattle.std.specs.Float.{binary64}
 use Rattle.std.specs.Float.Ieee.{to_bits}
@@ -16,14 +16,13 @@ use Rattle.fields.specs.Fields.{bytes_of, u16_limit}
 use Rattle.fields.specs.Flag.{bytes_if}
 use Rattle.edge.specs.declared.NumFields.{NumFields}
 use Rattle.edge.specs.declared.NumData.{NumData}
-use Rattle.edge.specs.declared.Written.{Written}
-use Rattle.edge.specs.declared.Written.TheVariants.{To, NoRoom}
 use Rattle.edge.specs.Edge.{Text, Edge, fraction_bytes}
 use Rattle.edge.specs.Layout.{bit, stands, only, script_at}
 use Rattle.edge.specs.View.{numeric_of}
+use Rattle.std.specs.Prelude as std
 
-abbrev pub written : List ℕ → ℕ → List ℕ → Written
-written s at bs = cond (leb (at + length bs) (length s)) (To (at + length bs)) NoRoom
+abbrev pub written : List ℕ → ℕ → List ℕ → std.Option ℕ
+written s at bs = cond (leb (at + length bs) (length s)) (Some (at + length bs)) None
 
 abbrev pub written_to : List ℕ → ℕ → List ℕ → List ℕ
 written_to s at bs = cond (leb (at + length bs) (length s)) (sets s at bs) s

@@ -6,6 +6,7 @@ ghost use Rattle.edge.specs.Write.{fields_of};
 use crate::{NumData, NumFields};
 
 // The fields of numeric data.
+// Kept as a function, and not as From: it requires that the floats are no NaN, and `From::from` requires nothing.
 pub fn num_fields(d: NumData) -> NumFields
     requires { T (not (is_nan d.value)) × T (not (is_nan d.base_multiplier)) }
     ensures { result ≡ fields_of d }

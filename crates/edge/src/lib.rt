@@ -9,8 +9,9 @@ pub mod numeric; // numeric.rt: the fields of a numeric edge
 pub mod data; // data.rt: numeric data as the fields that it is listed with
 pub mod theorems; // theorems.rt: what was listed is read back, an accepted listing is its edges' bytes (theorems)
 
-ghost use Rattle.std.specs.Prelude.{◌≡◌, ◌+◌, ◌/◌, ◌%◌, ◌≤◌, ◌<◌, eqb};
+ghost use Rattle.std.specs.Prelude.{◌≡◌, true, false, ◌+◌, ◌/◌, ◌%◌, ◌≤◌, ◌<◌, eqb, length};
 ghost use Rattle.edge.specs.Layout.{script_at};
+ghost use Rattle.edge.specs.View.{part_at};
 
 use fields::Part;
 use text::{Offset, Place};
@@ -27,6 +28,7 @@ pub struct EdgeView {
 }
 
 // The fields of a numeric edge as they are listed, floats as their bits. Those whose bit of the map stands count.
+// Kept with the map beside the values, and not as Options: the listing (01) and `rilvostam_edge_at` of the C interface give out the map itself, so Options would say its bits twice.
 #[derive(Clone, Copy)]
 pub struct NumFields {
     pub map: u16,
@@ -42,6 +44,7 @@ pub struct NumFields {
 }
 
 // The numeric data of an edge. Its floats are no NaN.
+// Kept beside NumFields: one generic struct would still need both names, and `num_fields` would stay as long, as two fields change their value and not only their type.
 #[derive(Clone, Copy)]
 pub struct NumData {
     pub map: u16,
@@ -56,26 +59,33 @@ pub struct NumData {
     pub decimals: u8,
 }
 
-// The answer of `edge_check`: so many edges, or refusal 6 and its offset.
-#[derive(Clone, Copy)]
-pub enum ListingCheck {
-    Edges(usize),
-    Refused(Offset),
-}
-
-// The answer of the writers of `edge_write::numeric`: the offset behind what was written, or that there is no room, the buffer then as it was.
-#[derive(Clone, Copy)]
-pub enum Written {
-    To(usize),
-    NoRoom,
-}
-
 // Whether the bit of value p stands in a map.
 pub fn bit(map: u16, p: u16) -> bool
     requires { 0 < p }
     ensures { result ≡ eqb (map / p % 2) 1 }
 {
     map / p % 2 == 1
+}
+
+// What reading gives where the bit of value p stands in a map; where it does not, another value.
+fn if_bit<T: Copy, F: FnOnce() -> T>(map: u16, p: u16, absent: T, read: F) -> T
+    requires positive { 0 < p }
+    requires readable { eqb (map / p % 2) 1 ≡ true → F.pre read }
+    ensures there { eqb (map / p % 2) 1 ≡ true → F.post read result }
+    ensures absent { eqb (map / p % 2) 1 ≡ false → result ≡ absent }
+{
+    if bit(map, p) { read() } else { absent }
+}
+
+// The text whose length stands at an offset.
+fn text_at(s: &[u8], at: usize) -> Part
+    requires { at + 2 ≤ length s.now }
+    ensures { result ≡ part_at s.now at }
+{
+    Part {
+        at: Offset(at + 2),
+        len: fields::u16_at(s, at) as usize,
+    }
 }
 
 // Where the script of a numeric edge stands, whose value stands at v.

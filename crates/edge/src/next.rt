@@ -26,26 +26,14 @@ fn string_end(s: &[u8], at: usize) -> usize
     at + 2 + u16_or_zero(s, at) as usize
 }
 
-// Behind a string that is there only if a bit stands.
-fn string_end_if(map: u16, p: u16, s: &[u8], at: usize) -> usize
-    requires { (at ≤ length s.now + 1000000) × (0 < p) }
-    ensures { (result ≡ cond (eqb (map / p % 2) 1) (string_end s.now at) at) × (result ≤ at + 65537) }
-{
-    if crate::bit(map, p) {
-        string_end(s, at)
-    } else {
-        at
-    }
-}
-
 // Behind the fields of a numeric edge.
 fn fields_end(map: u16, s: &[u8], at: usize) -> usize
     requires { at ≤ length s.now + 200000 }
     ensures { result ≡ fields_end map s.now at }
 {
     let script = crate::script_at(map, string_end(s, at));
-    let value_s = string_end_if(map, bits::SCRIPT, s, script);
-    let decimals = string_end_if(map, bits::VALUE_S, s, value_s);
+    let value_s = crate::if_bit(map, bits::SCRIPT, script, || string_end(s, script));
+    let decimals = crate::if_bit(map, bits::VALUE_S, value_s, || string_end(s, value_s));
     decimals + (map / bits::DECIMALS % 2) as usize
 }
 

@@ -5,29 +5,27 @@ pub mod sound; // sound.rt: whether one edge may stand
 
 ghost use Rattle.edge.specs.Check.{ListingAnswer};
 
-use edge::ListingCheck;
 use text::Offset;
 
 // Refusal 6: a listing over a line of so many characters; given: its edges are given to the call.
-pub fn check_listing(s: &[u8], chars: usize, given: bool) -> ListingCheck
+// Kept as a bool: `ListingAnswer`, `check_listing` and `Legal` of edge's specs, which its theorems cite, take the same Bool, and it picks no step, only which maps may stand.
+pub fn check_listing(s: &[u8], chars: usize, given: bool) -> Result<usize, Offset>
     ensures { ListingAnswer given chars s.now result }
 {
     if s.len() < 2 {
-        return ListingCheck::Refused(Offset(0));
+        return Err(Offset(0));
     }
     let count = fields::u16_at(s, 0) as usize;
-    let mut left = count;
     let mut at = 2;
-    while 0 < left {
+    for _ in 0..count {
         let next = edge::next::next_at(s, at);
         if !crate::sound::edge_legal(s, at, next, chars, given) {
-            return ListingCheck::Refused(Offset(at));
+            return Err(Offset(at));
         }
         at = next;
-        left -= 1;
     }
     if at < s.len() {
-        return ListingCheck::Refused(Offset(at));
+        return Err(Offset(at));
     }
-    ListingCheck::Edges(count)
+    Ok(count)
 }

@@ -12,8 +12,8 @@ fn say(word: &[u8], n: usize) {
 // The answer for a listing over a line of three characters.
 fn show(s: &[u8], given: bool) {
     match edge_check::check_listing(s, 3, given) {
-        edge::ListingCheck::Edges(count) => say(b"edges ", count),
-        edge::ListingCheck::Refused(at) => say(b"refused 6 ", at.0),
+        Ok(count) => say(b"edges ", count),
+        Err(at) => say(b"refused 6 ", at.0),
     }
 }
 
@@ -26,10 +26,8 @@ fn listing() -> [u8; 76] {
 // Every length that cuts the listing off, from 0 bytes on, and the whole listing at last.
 fn cuts() {
     let s = listing();
-    let mut n = 0;
-    while n < 77 {
+    for n in 0..77 {
         show(&s[..n], false);
-        n += 1;
     }
 }
 

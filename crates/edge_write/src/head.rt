@@ -7,7 +7,7 @@ ghost use Rattle.fields.specs.Fields.{u16_limit};
 use text::Place;
 
 // A string: its u16 length and its bytes.
-fn put_text(out: &mut [u8], at: usize, t: &[u8]) -> usize
+pub(crate) fn put_text(out: &mut [u8], at: usize, t: &[u8]) -> usize
     requires { (at + 2 + length t.now ≤ length out.old) × (length t.now < u16_limit) }
     ensures { (result ≡ at + 2 + length t.now)
         × Put out.old out.new at result (str t.now) }
@@ -18,6 +18,7 @@ fn put_text(out: &mut [u8], at: usize, t: &[u8]) -> usize
 }
 
 // What every edge begins with.
+// Start, end, type and txt stay four parameters: the callers have them singly, so a struct would be made at each call only to be taken apart here.
 pub fn put_head(
     out: &mut [u8],
     at: usize,

@@ -1,5 +1,7 @@
 // A numeric edge written at an offset of a lent buffer (01, "Listing"), or the answer that there is no room. `edge_write::regular` writes a regular one.
-ghost use Rattle.std.specs.Prelude.{◌≡◌, true, ◌+◌, ◌*◌, ◌/◌, ◌%◌, ◌≤◌, ◌<◌, length, eqb};
+ghost use Rattle.std.specs.Prelude.{◌≡◌, true, false, ◌+◌, ◌*◌, ◌/◌, ◌%◌, ◌≤◌, ◌<◌, length, eqb};
+ghost use Rattle.std.specs.Fn.{FnOnceTakesAtMut, FnOnceReturnsAtMut};
+ghost use Rattle.std.proofs.lemmas.List.Edits.{sets};
 ghost use Rattle.fields.specs.Fields.{bytes_of, u16_limit};
 ghost use Rattle.fields.specs.Flag.{bytes_if};
 ghost use Rattle.edge.specs.Edge.{str, numeric_bytes, edge_bytes};
@@ -8,7 +10,7 @@ ghost use Rattle.edge.specs.Write.{written, written_to, Put, numeric, numbers_by
 ghost use Rattle.fields.specs.Part.{part_of};
 ghost use Rattle.edge.specs.View.{numeric_of};
 
-use edge::{NumFields, Written, bits};
+use edge::{NumFields, bits};
 use fields::Part;
 use text::Place;
 
@@ -20,52 +22,41 @@ fn put_part(out: &mut [u8], at: usize, s: &[u8], t: Part) -> usize
 {
     let from = t.at.0;
     let to = from + t.len;
-    fields::write::put_u16(out, at, t.len as u16);
-    fields::copy::copy_in(out, at + 2, &s[from..to]);
-    at + 2 + t.len
+    crate::head::put_text(out, at, &s[from..to])
 }
 
-// The same, only if a bit stands.
-fn put_part_if(map: u16, p: u16, out: &mut [u8], at: usize, s: &[u8], t: Part) -> usize
-    requires { (0 < p) × (text_past_if (eqb (map / p % 2) 1) t.len at ≤ length out.old) × (t.len < u16_limit)
-        × (eqb (map / p % 2) 1 ≡ true → t.at.0 + t.len ≤ length s.now) }
-    ensures { (result ≡ text_past_if (eqb (map / p % 2) 1) t.len at)
-        × Put out.old out.new at result
-        (bytes_if str (only (eqb (map / p % 2) 1) (part_of s.now t))) }
+// A number.
+fn put_number(out: &mut [u8], at: usize, v: u64) -> usize
+    requires { at + 8 ≤ length out.old }
+    ensures { (result ≡ at + 8) × (out.new ≡ sets out.old at (bytes_of 8 v)) }
 {
-    if edge::bit(map, p) {
-        put_part(out, at, s, t)
-    } else {
-        at
-    }
+    fields::write::put_u64(out, at, v);
+    at + 8
 }
 
-// A number, only if a bit stands.
-fn put_u64_if(map: u16, p: u16, out: &mut [u8], at: usize, v: u64) -> usize
-    requires { (0 < p) × (at + 8 * (map / p % 2) ≤ length out.old) }
-    ensures { (result ≡ at + 8 * (map / p % 2))
-        × Put out.old out.new at result (bytes_if (bytes_of 8) (only (eqb (map / p % 2) 1) v)) }
+// A byte.
+fn put_byte(out: &mut [u8], at: usize, v: u8) -> usize
+    requires { at + 1 ≤ length out.old }
+    ensures { (result ≡ at + 1) × (out.new ≡ sets out.old at (bytes_of 1 v)) }
 {
-    if edge::bit(map, p) {
-        fields::write::put_u64(out, at, v);
-        at + 8
-    } else {
-        at
-    }
+    out[at] = v;
+    at + 1
 }
 
-// A byte, only if a bit stands.
-fn put_u8_if(map: u16, p: u16, out: &mut [u8], at: usize, v: u8) -> usize
-    requires { (0 < p) × (at + map / p % 2 ≤ length out.old) }
-    ensures { (result ≡ at + map / p % 2)
-        × Put out.old out.new at result (bytes_if (bytes_of 1) (only (eqb (map / p % 2) 1) v)) }
+// What is put where the bit of value p stands in a map, up to the offset answered; nothing where it does not.
+fn put_if<F: FnOnce(&mut [u8]) -> usize>(
+    map: u16,
+    p: u16,
+    out: &mut [u8],
+    at: usize,
+    put: F,
+) -> usize
+    requires positive { 0 < p }
+    requires room { eqb (map / p % 2) 1 ≡ true → FnOnceTakesAtMut F.FnOnce put out.old }
+    ensures there { eqb (map / p % 2) 1 ≡ true → FnOnceReturnsAtMut F.FnOnce put out.old result out.new }
+    ensures absent { eqb (map / p % 2) 1 ≡ false → (result ≡ at) × (out.new ≡ out.old) }
 {
-    if edge::bit(map, p) {
-        out[at] = v;
-        at + 1
-    } else {
-        at
-    }
+    if edge::bit(map, p) { put(out) } else { at }
 }
 
 // The numbers of a numeric edge.
@@ -74,11 +65,17 @@ fn put_numbers(out: &mut [u8], at: usize, d: NumFields) -> usize
     ensures { (result ≡ script_at d.map at) × Put out.old out.new at result (numbers_bytes d) }
 {
     let map = d.map;
-    let numerator = put_u64_if(map, bits::VALUE, out, at, d.value);
-    let denominator = put_u64_if(map, bits::FRACTION, out, numerator, d.numerator);
-    let base = put_u64_if(map, bits::FRACTION, out, denominator, d.denominator);
-    let multiplier = put_u64_if(map, bits::BASE, out, base, d.base);
-    put_u64_if(map, bits::MULT, out, multiplier, d.base_multiplier)
+    let numerator = put_if(map, bits::VALUE, out, at, |w| put_number(w, at, d.value));
+    let denominator = put_if(map, bits::FRACTION, out, numerator, |w| {
+        put_number(w, numerator, d.numerator)
+    });
+    let base = put_if(map, bits::FRACTION, out, denominator, |w| {
+        put_number(w, denominator, d.denominator)
+    });
+    let multiplier = put_if(map, bits::BASE, out, base, |w| put_number(w, base, d.base));
+    put_if(map, bits::MULT, out, multiplier, |w| {
+        put_number(w, multiplier, d.base_multiplier)
+    })
 }
 
 // The fields of a numeric edge, their texts in three slices.
@@ -89,9 +86,27 @@ fn put_fields(out: &mut [u8], at: usize, d: NumFields, o: &[u8], c: &[u8], v: &[
 {
     let value = put_part(out, at, o, d.orig);
     let script = put_numbers(out, value, d);
-    let value_s = put_part_if(d.map, bits::SCRIPT, out, script, c, d.script);
-    let decimals = put_part_if(d.map, bits::VALUE_S, out, value_s, v, d.value_s);
-    put_u8_if(d.map, bits::DECIMALS, out, decimals, d.decimals)
+    let value_s = put_if(
+        d.map,
+        bits::SCRIPT,
+        out,
+        script,
+        |w| put_part(w, script, c, d.script),
+    );
+    let decimals = put_if(
+        d.map,
+        bits::VALUE_S,
+        out,
+        value_s,
+        |w| put_part(w, value_s, v, d.value_s),
+    );
+    put_if(
+        d.map,
+        bits::DECIMALS,
+        out,
+        decimals,
+        |w| put_byte(w, decimals, d.decimals),
+    )
 }
 
 // Behind a text that is there only if a bit stands.
@@ -126,7 +141,7 @@ pub fn write_numeric(
     o: &[u8],
     c: &[u8],
     v: &[u8],
-) -> Written
+) -> Option<usize>
     requires { (at ≤ length out.old) × (length ty.now < u16_limit) × (length txt.now < u16_limit)
         × (start.0 < u16_limit) × (end.0 < u16_limit) × Writable o.now c.now v.now d }
     ensures answer { result ≡ written out.old at
@@ -138,8 +153,8 @@ pub fn write_numeric(
 {
     let head = at + 10 + ty.len() + txt.len();
     if out.len() < fields_past(d, head) {
-        return Written::NoRoom;
+        return None;
     }
     crate::head::put_head(out, at, d.map, start, end, ty, txt);
-    Written::To(put_fields(out, head, d, o, c, v))
+    Some(put_fields(out, head, d, o, c, v))
 }

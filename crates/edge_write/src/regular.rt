@@ -4,7 +4,6 @@ ghost use Rattle.edge.specs.Edge.{edge_bytes};
 ghost use Rattle.edge.specs.Write.{written, written_to, regular};
 ghost use Rattle.fields.specs.Fields.{u16_limit};
 
-use edge::Written;
 use text::Place;
 
 // Writes a regular edge.
@@ -15,7 +14,7 @@ pub fn write_regular(
     end: Place,
     ty: &[u8],
     txt: &[u8],
-) -> Written
+) -> Option<usize>
     requires { (at ≤ length out.old) × (length ty.now < u16_limit) × (length txt.now < u16_limit)
         × (start.0 < u16_limit) × (end.0 < u16_limit) }
     ensures answer { result ≡ written out.old at
@@ -24,7 +23,7 @@ pub fn write_regular(
         (edge_bytes (regular start.0 end.0 ty.now txt.now)) }
 {
     if out.len() < at + 10 + ty.len() + txt.len() {
-        return Written::NoRoom;
+        return None;
     }
-    Written::To(crate::head::put_head(out, at, 0, start, end, ty, txt))
+    Some(crate::head::put_head(out, at, 0, start, end, ty, txt))
 }

@@ -12,7 +12,7 @@ use lib.ListN.{length, drop, get_or, drop_of_length-le}
 use lib.Seq.{get_or-drop}
 use mathlib.Core.Option.{some-ne-none}
 use lib.Dec.{leb, ltb}
-use borrow.Author.Tests.{leb-true, lt-ltb, ltb-true, ltb-false, lt-leb, le-leb}
+use borrow.Author.Tests.{leb-true, lt-ltb, ltb-false, lt-leb, le-leb}
 use Rattle.text.specs.Sequence.{trail_byte, encode}
 use Rattle.text.specs.Text.{chars, left, encodes, well_formed, offset_of}
 use Rattle.text.proofs.RowLaws.{and-true}
@@ -44,34 +44,23 @@ module _ (c p : ℕ) (m : Bool) where
   unfolding digit_edge
   above_digits h = rw (above c h)
 
-  no_digit : ((m || ltb c 48) || ltb 57 c) ≡ true → digit_edge c p m ≡ []
-  unfolding digit_edge
-  no_digit t = go m (ltb c 48) refl (ltb 57 c) refl t
+  pub add_digit_none : {w : List ℕ} {l : Lattice} → (m || not (ascii_digit c)) ≡ true → (es : List Edge) → Holds w l es → Holds w l (add_all es (digit_edge c p m))
+  unfolding add_all digit_edge
+  add_digit_none t es q = rw (go m (ascii_digit c) t) q
     where
-      go : (n x : Bool) → ltb c 48 ≡ x → (y : Bool) → ltb 57 c ≡ y → ((n || x) || y) ≡ true → cond (ascii_digit c && not n) (regular p (suc p) num_type (c ∷ []) ∷ []) [] ≡ []
-      go true x f y g t = rw (and-false (ascii_digit c))
-      go false true f y g t = rw (lt-leb 48 c (ltb-true c 48 f))
-      go false false f true g t = rw (above c (ltb-true 57 c g))
-      go false false f false g t = absurd (let o : ◌≡◌ {A = ℕ} 0 1 = cc in omega arith)
+      go : (n a : Bool) → (n || not a) ≡ true → (a && not n) ≡ false
+      go true a t = and-false a
+      go false true t = absurd (true≢false (sym t))
+      go false false t = refl
 
-  is_digit_lem : ((m || ltb c 48) || ltb 57 c) ≡ false → digit_edge c p m ≡ regular p (p + 1) num_type (c ∷ []) ∷ []
-  unfolding digit_edge
-  is_digit_lem t = go m (ltb c 48) refl (ltb 57 c) refl t
+  pub add_digit_one : {w : List ℕ} {l : Lattice} → (m || not (ascii_digit c)) ≡ false → (es : List Edge) → Holds w l (add es (regular p (p + 1) num_type (c ∷ []))) → Holds w l (add_all es (digit_edge c p m))
+  unfolding add_all digit_edge
+  add_digit_one t es q = rw (go m (ascii_digit c) t, sym (add-one p)) q
     where
-      go : (n x : Bool) → ltb c 48 ≡ x → (y : Bool) → ltb 57 c ≡ y → ((n || x) || y) ≡ false
-          → cond (ascii_digit c && not n) (regular p (suc p) num_type (c ∷ []) ∷ []) [] ≡ regular p (p + 1) num_type (c ∷ []) ∷ []
-      go true x f y g t = absurd (let o : ◌≡◌ {A = ℕ} 0 1 = cc in omega arith)
-      go false true f y g t = absurd (let o : ◌≡◌ {A = ℕ} 0 1 = cc in omega arith)
-      go false false f true g t = absurd (let o : ◌≡◌ {A = ℕ} 0 1 = cc in omega arith)
-      go false false f false g t = rw (le-leb 48 c (ltb-false c 48 f), le-leb c 57 (ltb-false 57 c g), add-one)
-
-  pub add_digit_none : {w : List ℕ} {l : Lattice} → ((m || ltb c 48) || ltb 57 c) ≡ true → (es : List Edge) → Holds w l es → Holds w l (add_all es (digit_edge c p m))
-  unfolding add_all
-  add_digit_none t es q = rw (no_digit t) q
-
-  pub add_digit_one : {w : List ℕ} {l : Lattice} → ((m || ltb c 48) || ltb 57 c) ≡ false → (es : List Edge) → Holds w l (add es (regular p (p + 1) num_type (c ∷ []))) → Holds w l (add_all es (digit_edge c p m))
-  unfolding add_all
-  add_digit_one t es q = rw (is_digit_lem t) q
+      go : (n a : Bool) → (n || not a) ≡ false → (a && not n) ≡ true
+      go true a t = absurd (true≢false t)
+      go false true t = refl
+      go false false t = absurd (true≢false t)
 
 -- ---- edges added to a lattice that is full
 pub full_add_all : {w : List ℕ} {l : Lattice} (es cs : List Edge) → l.len ≡ 0 → Holds w l es → Holds w l (add_all es cs)

@@ -13,7 +13,6 @@ ghost use Rattle.numbers.specs.Fallback.{fallback};
 ghost use Rattle.fallback.specs.Marks.{digit_edge, unmarked, any_digit};
 
 use lattice::Lattice;
-use marks::Asked;
 use text::Place;
 use text::check::PLACES;
 
@@ -24,7 +23,7 @@ fn add_digit(work: &mut [u8], lattice: Lattice, byte: u8, place: Place, marked: 
         × ((es : List Edge) → Holds work.old lattice es
         → Holds work.new result (add_all es (digit_edge byte place.0 marked))) }
 {
-    if marked | (byte < 48) | (57 < byte) {
+    if marked | !byte.is_ascii_digit() {
         return lattice;
     }
     let txt = [byte];
@@ -47,11 +46,9 @@ fn add_unmarked(
         → Holds work.new result (add_all es (unmarked marks.now 0 (chars line.now)))) }
 {
     let mut grown = lattice;
-    let mut place = 0;
-    while place < places {
+    for place in 0..places {
         let at = offs[place];
         grown = add_digit(work, grown, line[at], Place(place), marks[place]);
-        place += 1;
     }
     grown
 }
@@ -61,11 +58,8 @@ pub fn any_digit(line: &[u8]) -> bool
     ensures { result ≡ any_digit line.now }
 {
     let mut found = false;
-    let mut i = 0;
-    while i < line.len() {
-        let b = line[i];
-        found = found | ((48 <= b) & (b <= 57));
-        i += 1;
+    for b in line {
+        found |= b.is_ascii_digit();
     }
     found
 }
@@ -91,6 +85,6 @@ pub fn fallback(
         return lattice;
     }
     let mut marks = [false; PLACES];
-    marks::mark_places(work, lattice, Asked::OnePlace, &mut marks);
+    marks::mark_places(work, lattice, |at| marks::one_place(work, at), &mut marks);
     add_unmarked(work, lattice, line, offs, places, &marks)
 }

@@ -2,28 +2,23 @@
 // `tools/model/numerals.py vectors S-4` writes the fields, and with the word `answers` the expected answers.
 #![tactic(auto)]
 
-use numeral::Field;
-use vectors::ROWS;
+use numeral::FieldRefusal;
+use text::LineRefusal;
 
 fn main() {
-    let mut input = io::large_buffer();
-    let mut ends = [0usize; ROWS];
-    let rows = vectors::read_rows(&mut input, &mut ends);
-    for i in 0..rows {
-        show(vectors::row(&input, &ends, i));
-    }
+    vectors::each_row(|row| show(row));
 }
 
 fn show(field: &[u8]) {
     let answer = numeral::read::one_number(field);
     match answer {
-        Field::Number(v) => say(b"yes ", v),
-        Field::NotANumber => {
+        Ok(Some(v)) => say(b"yes ", v),
+        Ok(None) => {
             io::write_all(1, b"no\n");
         }
-        Field::AboveTop => say(b"refused 7 ", 0),
-        Field::IllFormed(at) => say(b"refused 2 ", at.0 as u64),
-        Field::TooLong(at) => say(b"refused 3 ", at.0 as u64),
+        Err(FieldRefusal::AboveTop) => say(b"refused 7 ", 0),
+        Err(FieldRefusal::Line(LineRefusal::IllFormed(at))) => say(b"refused 2 ", at.0 as u64),
+        Err(FieldRefusal::Line(LineRefusal::TooLong(at))) => say(b"refused 3 ", at.0 as u64),
     }
 }
 

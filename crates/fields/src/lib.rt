@@ -17,6 +17,7 @@ pub struct Part {
     pub len: usize,
 }
 
+// Kept as three: each is two of the next narrower, and std's `from_le_bytes` takes an array, which here is each byte written out.
 pub fn u16_at(s: &[u8], at: usize) -> u16
     requires { at + 2 ≤ length s.now }
     ensures { result ≡ le_at s.now at 2 }

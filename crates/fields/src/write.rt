@@ -4,6 +4,7 @@ ghost use Rattle.std.proofs.lemmas.List.Edits.{sets};
 ghost use Rattle.fields.specs.Fields.{bytes_of};
 ghost use Rattle.fields.specs.Flag.{flag};
 
+// Kept as three: each is two of the next narrower; one for all widths would need a trait with a law for each.
 pub fn put_u16(out: &mut [u8], at: usize, v: u16)
     requires { at + 2 ≤ length out.old }
     ensures { out.new ≡ sets out.old at (bytes_of 2 v) }

@@ -15,7 +15,6 @@ use mathlib.Core.Option.{Option}
 use native.Mathlib.Omega.{arith}
 use lib.ListN.{length}
 use borrow.Author.Tests.{le-leb}
-use Rattle.text.specs.declared.LineCheck.TheVariants.{Chars}
 use Rattle.text.specs.Text.{chars, well_formed}
 use Rattle.text.specs.Line.{line_check, max_chars}
 use Rattle.text.proofs.TextLaws.{chars_scalars}
@@ -29,12 +28,12 @@ use Rattle.numbers.specs.Call.{listing, after_checks, answer_by, add_numbers, ad
 use Rattle.numbers.specs.CallEdge.{Legals}
 use Rattle.numbers.proofs.Passed.{Passed, call_passed, decimal_passed}
 use Rattle.paths.specs.Reading.{read_check}
-use Rattle.paths.specs.declared.ReadCheck.TheVariants.{Readable}
 use Rattle.paths.proofs.theorems.Theorems.{read_edges}
 use Rattle.finished.specs.Finished.{Bytes, decimal_edges_of, FinishedAs, FinishedBy, Finished}
 use Rattle.finished.proofs.LatticeLaws.{lattice_legals, decimal_legals, finished_ends, all_legal}
+use Rattle.std.specs.Prelude.{Ok}
 
-line_fine : (line : List ℕ) → well_formed line ≡ true → length (chars line) ≤ 256 → line_check line ≡ Chars (length (chars line))
+line_fine : (line : List ℕ) → well_formed line ≡ true → length (chars line) ≤ 256 → line_check line ≡ Ok (length (chars line))
 line_fine line a b = rw (a, le-leb (length (chars line)) max_chars b)
 
 passed_read : {above : Table → List ℕ → Option ℕ} {lattice : Table → List ℕ → List Edge → List Edge} (line table given : List ℕ) (out : ℕ) (bytes : List ℕ)
@@ -47,7 +46,7 @@ passed_read {lattice = lattice} line table given out bytes p legal =
     let k : length es < 2 ^ 16 = omega (arith, ends.few) in
     let accepted = rw ends.bytes_are at (listing_accepted false n es (all_legal es legal) k) in
     let edges = rw ends.bytes_are at (listing_read_back false n es (all_legal es legal) k) in
-    let readable : read_check line bytes ≡ Readable n (length es) = rw (line_fine line p.is_well_formed p.few, accepted) in
+    let readable : read_check line bytes ≡ Ok (n, length es) = rw (line_fine line p.is_well_formed p.few, accepted) in
     record {
       bytes_are = sym ends.bytes_are;
       accepted = accepted;

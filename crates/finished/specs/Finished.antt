@@ -5,16 +5,14 @@
 --     FinishedBy b t line given bytes   the same of the lattice of the table t, the line and the given edges; b says whether some singles may not stand; Finished: in the first call
 --     decimal_edges_of t line given   the lattice of the call with decimals
 --     Assumes nothing.
-use Rattle.std.specs.Prelude.{◌≡◌, Bool, false, List, map, ℕ, ◌≤◌, ◌<◌, length, get_or}
+use Rattle.std.specs.Prelude.{◌≡◌, Bool, false, List, map, ℕ, ◌≤◌, ◌<◌, length, get_or, Ok}
 use Rattle.text.specs.Text.{chars}
 use Rattle.table.specs.Table.{Table}
 use Rattle.edge.specs.Edge.{Edge, listing_bytes}
 use Rattle.edge.specs.Layout.{listed}
 use Rattle.edge.specs.Check.{check_listing}
-use Rattle.edge.specs.declared.ListingCheck.TheVariants.{Edges}
 use Rattle.paths.specs.Best.{with_offsets}
 use Rattle.paths.specs.Reading.{read_check}
-use Rattle.paths.specs.declared.ReadCheck.TheVariants.{Readable}
 use Rattle.numbers.specs.CallEdge.{Legals}
 use Rattle.numbers.specs.Call.{lattice_by, decimal_lattice}
 
@@ -34,10 +32,10 @@ decimal_edges_of t line given = decimal_lattice t (chars line) (listed given)
 
 pub record FinishedAs (es : List Edge) (line bytes : List ℕ) : Type 0 where
   pub bytes_are : bytes ≡ listing_bytes es
-  pub accepted : check_listing false (length (chars line)) bytes ≡ Edges (length es)
+  pub accepted : check_listing false (length (chars line)) bytes ≡ Ok (length es)
   pub edges : listed bytes ≡ es
   -- checks 2, 3 and 6 of a reading call
-  pub readable : read_check line bytes ≡ Readable (length (chars line)) (length es)
+  pub readable : read_check line bytes ≡ Ok (length (chars line), length es)
   -- the edges that a reading call looks at, each with its offset
   pub looked_at : map (λ (x : ℕ × Edge). x.1) (with_offsets (length es) bytes 2) ≡ es
   -- "over 1,024 edges, over 32,768 bytes" it would have been refused 8

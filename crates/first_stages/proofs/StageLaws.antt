@@ -18,7 +18,6 @@ use Rattle.pass_list.specs.InTurn.{added_by}
 use Rattle.edge.specs.Edge.{Edge}
 use Rattle.edge.specs.Layout.{listed}
 use Rattle.edge.specs.Check.{check_listing}
-use Rattle.edge.specs.declared.ListingCheck.TheVariants.{Edges}
 use Rattle.lattice.specs.declared.Lattice.{Lattice}
 use Rattle.lattice.specs.Lattice.{add_all}
 use Rattle.lattice.specs.Kept.{Holds, END}
@@ -29,14 +28,13 @@ use Rattle.characters.specs.Initial.{Initial}
 use Rattle.characters.proofs.Theorems.{initial_five}
 use Rattle.first_stages.proofs.given.GivenLaws.{given_call}
 use Rattle.first_stages.proofs.PassedLaws.{with_edges_call}
-use Rattle.first_stages.specs.declared.five_passes.PassesAnswer.{PassesAnswer}
-use Rattle.first_stages.specs.declared.five_passes.PassesAnswer.TheVariants.{Added, Above}
 use Rattle.first_stages.specs.Five.{listed_stored, behind, FivePasses}
 use Rattle.numbers.specs.Call.{passes_by}
 use Rattle.first_stages.specs.declared.chars.CharsAnswer.{CharsAnswer}
 use Rattle.first_stages.specs.Stages.{CallPassed}
+use Rattle.std.specs.Prelude.{Result, Ok, Err}
 
-module _ (d : Bool) (line t : List ℕ) (h : Shape) (given : List ℕ) {n count : ℕ} (ready : Ready line t h n) (legal : check_listing true n given ≡ Edges count) (bytes : (j : ℕ) → get_or given j 0 < 256) (s : List ℕ) (r : CharsAnswer) (i : Initial d line t h (drop END s) r.count) where
+module _ (d : Bool) (line t : List ℕ) (h : Shape) (given : List ℕ) {n count : ℕ} (ready : Ready line t h n) (legal : check_listing true n given ≡ Ok count) (bytes : (j : ℕ) → get_or given j 0 < 256) (s : List ℕ) (r : CharsAnswer) (i : Initial d line t h (drop END s) r.count) where
   abbrev w : List ℕ
   w = chars line
 
@@ -49,7 +47,7 @@ module _ (d : Bool) (line t : List ℕ) (h : Shape) (given : List ℕ) {n count 
   few_chars : length w ≤ 256
   few_chars = omega (arith, ready.few, ready.count)
 
-  pub call_above : (u : List ℕ) (p : Place) → FivePasses w t s r.lattice r.count u (Above p) → CallPassed d line t h given u (Above p)
+  pub call_above : (u : List ℕ) (p : Place) → FivePasses w t s r.lattice r.count u (Err p) → CallPassed d line t h given u (Err p)
   unfolding FivePasses CallPassed
   call_above u p f = sym (initial_five d line t h (drop END s) r.count i).above ∙ f
 
@@ -62,7 +60,7 @@ module _ (d : Bool) (line t : List ℕ) (h : Shape) (given : List ℕ) {n count 
   given_edges_lem = rw ready.count (given_call n given bytes count legal)
 
   pub call_done : (u : List ℕ) (m : Lattice) (k : ℕ) → Holds s r.lattice (add_all (add_all [] (listed given)) (listed_stored w t first))
-      → FivePasses w t s r.lattice r.count u (Added m k) → CallPassed d line t h given u (Added m k)
+      → FivePasses w t s r.lattice r.count u (Ok (m, k)) → CallPassed d line t h given u (Ok (m, k))
   unfolding FivePasses CallPassed
   call_done u m k q f =
       let a = initial_five d line t h (drop END s) r.count i in
@@ -77,7 +75,7 @@ module _ (d : Bool) (line t : List ℕ) (h : Shape) (given : List ℕ) {n count 
         few = f.few;
       }
 
-  pub call_passed : (u : List ℕ) (x : PassesAnswer) → Holds s r.lattice (add_all (add_all [] (listed given)) (listed_stored w t first))
+  pub call_passed : (u : List ℕ) (x : Result (Lattice × ℕ) Place) → Holds s r.lattice (add_all (add_all [] (listed given)) (listed_stored w t first))
       → FivePasses w t s r.lattice r.count u x → CallPassed d line t h given u x
-  call_passed u (Above p) q f = call_above u p f
-  call_passed u (Added m k) q f = call_done u m k q f
+  call_passed u (Err p) q f = call_above u p f
+  call_passed u (Ok (m, k)) q f = call_done u m k q f

@@ -3,7 +3,7 @@
 --     PassList w t k s n              s begins with a pass list of n stored edges, all sound and of kinds before k
 --     OnePass .. r, FivePasses .. r   the i-th pass, and all five, answered r: the start of the first joined edge above TOP, or the lattice with the joined edges
 --     Assumes nothing.
-use Rattle.std.specs.Prelude.{◌≡◌, List, map, ℕ, suc, ◌+◌, ◌≤◌, ◌<◌, length, drop}
+use Rattle.std.specs.Prelude.{◌≡◌, List, map, ℕ, suc, ◌+◌, ◌≤◌, ◌<◌, length, drop, Result, Ok, Err}
 use Rattle.std.proofs.Math.Option.{none, some}
 use Rattle.passes.specs.Passes.{five}
 use Rattle.pass_list.specs.StoredEdge.{StoredEdge, Every}
@@ -18,9 +18,8 @@ use Rattle.lattice.specs.Lattice.{add_all}
 use Rattle.lattice.specs.Kept.{Holds, END}
 use Rattle.pass_edge.specs.Grounded.{AllGrounded}
 use Rattle.pass_edge.specs.Adding.{listed_of}
-use Rattle.first_stages.specs.declared.five_passes.PassesAnswer.{PassesAnswer}
-use Rattle.first_stages.specs.declared.five_passes.PassesAnswer.TheVariants.{Added, Above}
 use Rattle.text.specs.Line.{max_chars}
+use Rattle.text.specs.declared.Place.{Place}
 
 abbrev pub listed_stored : List ℕ → List ℕ → List StoredEdge → List Edge
 listed_stored w t l = map (listed_of w t) l
@@ -40,9 +39,9 @@ pub record OneDone (w t : List ℕ) (i : ℕ) (s : List ℕ) (l : Lattice) (n : 
   pub next : PassList w t (suc (suc i)) u k
   pub holds : (es : List Edge) → Holds s l es → Holds u m (add_all es (listed_stored w t (added (nth i) (behind s n))))
 
-unfoldable pub OnePass : List ℕ → List ℕ → ℕ → List ℕ → Lattice → ℕ → List ℕ → PassesAnswer → Type 0
-OnePass w t i s l n u (Above p) = first_above (added (nth i) (behind s n)) ≡ some p.0
-OnePass w t i s l n u (Added m k) = OneDone w t i s l n u m k
+unfoldable pub OnePass : List ℕ → List ℕ → ℕ → List ℕ → Lattice → ℕ → List ℕ → Result (Lattice × ℕ) Place → Type 0
+OnePass w t i s l n u (Err p) = first_above (added (nth i) (behind s n)) ≡ some p.0
+OnePass w t i s l n u (Ok (m, k)) = OneDone w t i s l n u m k
 
 pub record FiveDone (w t s : List ℕ) (l : Lattice) (n : ℕ) (u : List ℕ) (m : Lattice) (k : ℕ) : Type 0 where
   pub below : first_above (added_by five (behind s n)) ≡ none
@@ -51,6 +50,6 @@ pub record FiveDone (w t s : List ℕ) (l : Lattice) (n : ℕ) (u : List ℕ) (m
   pub few : k ≤ max_chars
   pub holds : (es : List Edge) → Holds s l es → Holds u m (add_all es (listed_stored w t (added_by five (behind s n))))
 
-unfoldable pub FivePasses : List ℕ → List ℕ → List ℕ → Lattice → ℕ → List ℕ → PassesAnswer → Type 0
-FivePasses w t s l n u (Above p) = first_above (added_by five (behind s n)) ≡ some p.0
-FivePasses w t s l n u (Added m k) = FiveDone w t s l n u m k
+unfoldable pub FivePasses : List ℕ → List ℕ → List ℕ → Lattice → ℕ → List ℕ → Result (Lattice × ℕ) Place → Type 0
+FivePasses w t s l n u (Err p) = first_above (added_by five (behind s n)) ≡ some p.0
+FivePasses w t s l n u (Ok (m, k)) = FiveDone w t s l n u m k

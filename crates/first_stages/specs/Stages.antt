@@ -2,7 +2,7 @@
 --     CallDone d line t h given u m k  d: the call has decimals. The lattice m after the passes, and the list after G4 of k stored edges
 --     CallPassed d line t h given u r  the passes answered r: refusal 7's place, or the lattice after them with the list after G4
 --     Assumes nothing.
-use Rattle.std.specs.Prelude.{◌≡◌, Bool, List, map, ℕ, ◌≤◌, length}
+use Rattle.std.specs.Prelude.{◌≡◌, Bool, List, map, ℕ, ◌≤◌, length, Result, Ok, Err}
 use Rattle.std.proofs.Math.Option.{none, some}
 use Rattle.text.specs.Text.{chars}
 use Rattle.text.specs.Line.{max_chars}
@@ -14,10 +14,9 @@ use Rattle.lattice.specs.declared.Lattice.{Lattice}
 use Rattle.lattice.specs.Kept.{Holds}
 use Rattle.numbers.specs.CallEdge.{CallEdges}
 use Rattle.pass_edge.specs.Grounded.{AllGrounded}
-use Rattle.first_stages.specs.declared.five_passes.PassesAnswer.{PassesAnswer}
-use Rattle.first_stages.specs.declared.five_passes.PassesAnswer.TheVariants.{Added, Above}
 use Rattle.first_stages.specs.Five.{behind}
 use Rattle.numbers.specs.Call.{passes_by, with_edges}
+use Rattle.text.specs.declared.Place.{Place}
 
 pub record CallDone (d : Bool) (line t : List ℕ) (h : Shape) (given u : List ℕ) (m : Lattice) (k : ℕ) : Type 0 where
   pub above : (passes_by d (table_of t h) (chars line)).above ≡ none
@@ -27,6 +26,6 @@ pub record CallDone (d : Bool) (line t : List ℕ) (h : Shape) (given u : List �
   pub sounds : AllGrounded (chars line) t (behind u k)
   pub few : k ≤ max_chars
 
-unfoldable pub CallPassed : Bool → List ℕ → List ℕ → Shape → List ℕ → List ℕ → PassesAnswer → Type 0
-CallPassed d line t h given u (Above p) = (passes_by d (table_of t h) (chars line)).above ≡ some p.0
-CallPassed d line t h given u (Added m k) = CallDone d line t h given u m k
+unfoldable pub CallPassed : Bool → List ℕ → List ℕ → Shape → List ℕ → List ℕ → Result (Lattice × ℕ) Place → Type 0
+CallPassed d line t h given u (Err p) = (passes_by d (table_of t h) (chars line)).above ≡ some p.0
+CallPassed d line t h given u (Ok (m, k)) = CallDone d line t h given u m k

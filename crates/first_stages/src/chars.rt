@@ -23,7 +23,7 @@ use characters::char_edge;
 use lattice::Lattice;
 use pass_list::layout::SIZE;
 use pass_list::write::write_edge;
-use table::index::{CharRecord, INDEX_SIZE, RecordRun, find_char, is_absent};
+use table::index::{INDEX_SIZE, RecordRun, find_char, is_absent};
 use table::layout::NumProp;
 use table::shape::Shape;
 use text::check::PLACES;
@@ -86,6 +86,7 @@ fn put_and_add(
     characters::add::add_char(work, lattice, line, offs, table, e)
 }
 
+// The table, its records and the index stay separate parameters: `table::index::find_char` takes them so, and a struct would be split again at each call.
 // One character more: its edge behind those of the characters before it, if it has a record.
 fn add_char(
     work: &mut [u8],
@@ -112,7 +113,7 @@ fn add_char(
     let l = done.lattice;
     let n = done.count;
     match find_char(table, all, index, entries, code) {
-        CharRecord::At(p, at) => CharsAnswer {
+        Some((p, at)) => CharsAnswer {
             lattice: put_and_add(
                 work,
                 l,
@@ -128,7 +129,7 @@ fn add_char(
             ),
             count: n + 1,
         },
-        CharRecord::Nothing => done,
+        None => done,
     }
 }
 
@@ -154,6 +155,7 @@ fn add_chars(
         count: 0,
     };
     let mut place: usize = 0;
+    // Kept as a while loop: the step is the length of a character, which no iterator of std over bytes gives.
     let mut at: usize = 0;
     while at < line.len() {
         let c = text::known::char_at(line, Offset(at));

@@ -16,22 +16,12 @@ ghost use Rattle.pass_edge.specs.Adding.{Addable, Added, listed_of, add_if};
 ghost use Rattle.first_stages.specs.Five.{PassList, OnePass, FivePasses};
 
 use lattice::Lattice;
-use pass_edge::Fraction;
-use pass_list::kind::kind_number;
 use pass_list::layout::SIZE;
 use pass_list::read::kind_at;
 use pass_list::record::PassEdge;
-use pass_list::run::PassAnswer;
 use table::layout::MAX_STRING;
 use text::Place;
 use text::check::{MAX_CHARS, PLACES};
-
-// What the passes give: the lattice with the joined edges and how many edges the list has then; or the start of the first joined edge above TOP.
-#[derive(Clone, Copy)]
-pub enum PassesAnswer {
-    Added(Lattice, usize),
-    Above(Place),
-}
 
 // A joined stored edge is added: its type is the pass, its txt its digits or its value.
 fn add_joined(
@@ -58,16 +48,13 @@ fn add_joined(
         offs,
         table,
         edge,
-        Fraction {
-            there: false,
-            numerator: 0,
-            denominator: 0,
-        },
+        None,
         &ty[..ty_len],
         &txt[..len],
     )
 }
 
+// Kept with the kind as its number: the i-th pass has the number i + 1, and the definition `of_kind` picks by it.
 // The i-th stored edge of the list behind the lattice is added, if it is of this kind. The others are told by their kind alone: most are of another.
 fn add_if(
     work: &mut [u8],
@@ -89,7 +76,7 @@ fn add_if(
         (stored_at (drop END work.old) (i * SIZE)))) }
 {
     let at = lattice::END + i * SIZE;
-    let found = kind_number(kind_at(work, at));
+    let found = u16::from(kind_at(work, at));
     if found != kind {
         return lattice;
     }
@@ -120,12 +107,10 @@ fn add_of_kind(
     // two words, not a structure: one that is handed back in two pieces and copied as a whole makes the processor wait
     let mut count = lattice.count;
     let mut len = lattice.len;
-    let mut i = 0;
-    while i < stored {
+    for i in 0..stored {
         let done = add_if(work, Lattice { count, len }, line, offs, table, i, kind);
         count = done.count;
         len = done.len;
-        i += 1;
     }
     Lattice { count, len }
 }
@@ -139,24 +124,20 @@ fn one_pass(
     table: &[u8],
     stored: usize,
     i: usize,
-) -> PassesAnswer
+) -> Result<(Lattice, usize), Place>
     requires { ((es : List Edge) × Holds work.old lattice es) × Offsets line.now offs.now
         × (length (chars line.now) ≤ max_chars) × (work_size ≤ length work.old)
         × PassList (chars line.now) table.now (suc i) work.old stored × (i < 5) }
     ensures { OnePass (chars line.now) table.now i work.old lattice stored
         work.new result }
 {
-    match pass_run::nth::pass_behind(work, lattice::END, stored, i) {
-        PassAnswer::Above(p) => PassesAnswer::Above(p),
-        PassAnswer::Edges(k) => {
-            // as many edges as before: none is joined
-            if k == stored {
-                return PassesAnswer::Added(lattice, k);
-            }
-            let m = add_of_kind(work, lattice, line, offs, table, k, (i + 1) as u16);
-            PassesAnswer::Added(m, k)
-        }
+    let k = pass_run::nth::pass_behind(work, lattice::END, stored, i)?;
+    // as many edges as before: none is joined
+    if k == stored {
+        return Ok((lattice, k));
     }
+    let m = add_of_kind(work, lattice, line, offs, table, k, (i + 1) as u16);
+    Ok((m, k))
 }
 
 // The five passes in turn over the stored edges behind the lattice.
@@ -167,7 +148,7 @@ pub fn five_passes(
     offs: &[usize; PLACES],
     table: &[u8],
     stored: usize,
-) -> PassesAnswer
+) -> Result<(Lattice, usize), Place>
     requires { ((es : List Edge) × Holds work.old lattice es) × Offsets line.now offs.now
         × (length (chars line.now) ≤ max_chars) × (work_size ≤ length work.old)
         × PassList (chars line.now) table.now 1 work.old stored }
@@ -176,18 +157,8 @@ pub fn five_passes(
 {
     let mut grown = lattice;
     let mut count = stored;
-    let mut i = 0;
-    while i < 5 {
-        match one_pass(work, grown, line, offs, table, count, i) {
-            PassesAnswer::Above(p) => {
-                return PassesAnswer::Above(p);
-            }
-            PassesAnswer::Added(m, k) => {
-                grown = m;
-                count = k;
-                i += 1;
-            }
-        }
+    for i in 0..5 {
+        (grown, count) = one_pass(work, grown, line, offs, table, count, i)?;
     }
-    PassesAnswer::Added(grown, count)
+    Ok((grown, count))
 }

@@ -6,16 +6,16 @@ pub mod five_passes; // five_passes.rt: the five passes, and their joined edges
 pub mod chars; // chars.rt: the characters of the line
 pub mod bare; // bare.rt: whether a line has a character that a stage adds an edge for
 
-ghost use Rattle.std.specs.Prelude.{◌≡◌, true, ℕ, ◌≤◌, length};
+ghost use Rattle.std.specs.Prelude.{◌≡◌, true, ℕ, ◌≤◌, length, Ok};
 ghost use Rattle.edge.specs.Check.{check_listing};
-ghost use Rattle.edge.specs.declared.ListingCheck.TheVariants.{Edges};
 ghost use Rattle.table_check.specs.Indexed.{RecordIndex};
 ghost use Rattle.numbers.specs.Ready.{Ready, Offsets, work_size};
 ghost use Rattle.first_stages.specs.Stages.{CallPassed};
 
-use crate::five_passes::PassesAnswer;
+use lattice::Lattice;
 use table::index::INDEX_SIZE;
 use table::shape::Shape;
+use text::Place;
 use text::check::PLACES;
 
 // The given edges, those of the characters, and those that the five passes join: with decimals, where the call has them (02, S-13).
@@ -30,9 +30,9 @@ pub fn run_first_stages(
     index: &[u32; INDEX_SIZE],
     entries: usize,
     decimals: bool,
-) -> PassesAnswer
+) -> Result<(Lattice, usize), Place>
     requires { Offsets line.now offs.now × (work_size ≤ length work.old)
-        × ((n : ℕ) × Ready line.now table.now shape n × (check_listing true n edges.now ≡ Edges count))
+        × ((n : ℕ) × Ready line.now table.now shape n × (check_listing true n edges.now ≡ Ok count))
         × RecordIndex table.now shape index.now entries }
     ensures { CallPassed decimals line.now table.now shape edges.now
         work.new result }

@@ -2,7 +2,7 @@
 -- are those of `numbers`. In order: agreeing; markers; signs; the lattice; the answer; by `stands_at`. Assumes nothing.
 use mathlib.Core.Path.{◌≡◌, refl, ap}
 use mathlib.Core.List.{List, [], ◌∷◌}
-use mathlib.Core.Bool.{true, false, cond}
+use mathlib.Core.Bool.{false}
 use Prim.Native.Nat.{ℕ, zero, suc, ◌-◌}
 use lib.ListN.{length}
 use Rattle.text.specs.Text.{chars}

@@ -7,7 +7,7 @@
 --     lattice_with st t w given                       the finished lattice
 --     answer_with st ..                               the answer of the whole call: its checks are those of the call
 --     Assumes nothing.
-use Rattle.std.specs.Prelude.{ℕ, zero, suc, ◌-◌, Bool, true, cond, ◌&&◌, List, [], ◌∷◌, ◌++◌, length, take, drop, leb}
+use Rattle.std.specs.Prelude.{ℕ, zero, suc, ◌-◌, Bool, cond, ◌&&◌, List, [], ◌∷◌, ◌++◌, length, take, drop, leb}
 use Rattle.text.specs.Bytes.{same}
 use Rattle.text.specs.Text.{chars}
 use Rattle.table.specs.Table.{Text, Table}

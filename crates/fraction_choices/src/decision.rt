@@ -6,9 +6,9 @@ ghost use Rattle.lattice.specs.Kept.{no_edge};
 ghost use Rattle.numbers.specs.Listed.{whole_value};
 ghost use Rattle.numbers.specs.Fractions.{is_numeric, marked, by_marker};
 ghost use Rattle.markers.specs.Marks.{marker_of};
-ghost use Rattle.fraction_choices.specs.Choice.{outcome_of, Valid, code_of, form_of};
+ghost use Rattle.fraction_choices.specs.Choice.{outcome_of, Valid};
 ghost use Rattle.fraction_choices.specs.Around.{HoldsLine, HoldsNeighbors};
-ghost use Rattle.fraction_choices.specs.Decision.{size_of, choice, option_of, WholeValued, otherwise_of, both_of, with_values_of, between_of};
+ghost use Rattle.fraction_choices.specs.Decision.{size_of, option_of, WholeValued, otherwise_of, both_of, with_values_of, between_of};
 ghost use Rattle.text.specs.Line.{max_chars};
 
 use edge::bits;
@@ -17,16 +17,15 @@ use markers::Marker;
 use text::Place;
 use text::check::PLACES;
 
-// What the marker at a place leads to: nothing; "right%" from the values; "right/left"; the right neighbour's txt and "%", from the marker on.
+// What is made of the edges beside a marker: "right%" from the values; "right/left"; the right neighbour's txt and "%", from the marker on.
 #[derive(Clone, Copy)]
 pub enum Form {
-    Nothing,
     Percent,
     Fraction,
     TxtPercent,
 }
 
-// The decision at one place. left and right are indices of edges in the lattice, 0 where they are not used.
+// The decision at one place where something is made. left and right are indices of edges in the lattice; `TxtPercent` uses no left one, which is 0 there.
 #[derive(Clone, Copy)]
 pub struct Choice {
     pub form: Form,
@@ -34,66 +33,27 @@ pub struct Choice {
     pub right: usize,
 }
 
-// The number by which an array keeps a form: a reference to an array of enums is not covered by the toolchain.
-pub fn code_of(form: Form) -> usize
-    ensures { result ≡ code_of form }
-{
-    match form {
-        Form::Nothing => 0,
-        Form::Percent => 1,
-        Form::Fraction => 2,
-        Form::TxtPercent => 3,
-    }
-}
-
-// The form that a number says.
-fn form_of(code: usize) -> Form
-    ensures { result ≡ form_of code }
-{
-    match code {
-        1 => Form::Percent,
-        2 => Form::Fraction,
-        3 => Form::TxtPercent,
-        _ => Form::Nothing,
-    }
-}
-
-// The choice whose parts arrays keep.
-pub fn choice_of(code: usize, left: usize, right: usize) -> Choice
-    ensures { result ≡ choice (form_of code) left right }
-{
-    let form = form_of(code);
-    Choice { form, left, right }
-}
-
-// The value of an edge as a whole number, where it has one.
-#[derive(Clone, Copy)]
-pub enum WholeValue {
-    Whole(u64),
-    Nothing,
-}
-
 // The value of the edge at an offset.
-fn whole_value_at(work: &[u8], at: usize) -> WholeValue
+fn whole_value_at(work: &[u8], at: usize) -> Option<u64>
     requires { (next_at work.now at ≤ length work.now) × WholeValued (edge_at work.now at) }
     ensures { option_of result ≡ whole_value (edge_at work.now at) }
 {
     let e = edge::head::edge_at(work, at);
     if !edge::bit(e.map, bits::NUMERIC) {
-        return WholeValue::Nothing;
+        return None;
     }
     if !edge::bit(e.map, bits::VALUE) {
-        return WholeValue::Nothing;
+        return None;
     }
     if edge::bit(e.map, bits::DECIMALS) {
-        return WholeValue::Nothing;
+        return None;
     }
     let d = edge::numeric::fields_at(e.map, work, e.fields.0);
-    WholeValue::Whole(whole::whole_part(f64::from_bits(d.value)))
+    Some(whole::whole_part(f64::from_bits(d.value)))
 }
 
 // The value of the i-th edge.
-fn whole_value(work: &[u8], lattice: Lattice, i: usize) -> WholeValue
+fn whole_value(work: &[u8], lattice: Lattice, i: usize) -> Option<u64>
     requires { ((es : List Edge) × HoldsLine work.now lattice es) × (i < lattice.count) }
     ensures { (es : List Edge) → HoldsLine work.now lattice es
         → option_of result ≡ whole_value (get_or es i no_edge) }
@@ -113,82 +73,67 @@ fn is_numeric(work: &[u8], lattice: Lattice, i: usize) -> bool
 }
 
 // "Otherwise a percentage marker with a numeric right neighbour": right is one more than its index, 0 for none.
-fn otherwise(work: &[u8], lattice: Lattice, percent: bool, right: usize) -> Choice
+fn otherwise(work: &[u8], lattice: Lattice, percent: bool, right: usize) -> Option<Choice>
     requires { ((es : List Edge) × HoldsLine work.now lattice es) × (right ≤ lattice.count) }
     ensures { (es : List Edge) → HoldsLine work.now lattice es
         → result ≡ otherwise_of percent es right }
 {
-    if !percent {
-        return Choice {
-            form: Form::Nothing,
-            left: 0,
-            right: 0,
-        };
-    }
-    if right == 0 {
-        return Choice {
-            form: Form::Nothing,
-            left: 0,
-            right: 0,
-        };
+    if !percent || right == 0 {
+        return None;
     }
     let index = right - 1;
     if !is_numeric(work, lattice, index) {
-        return Choice {
-            form: Form::Nothing,
-            left: 0,
-            right: 0,
-        };
+        return None;
     }
-    Choice {
+    Some(Choice {
         form: Form::TxtPercent,
         left: 0,
         right: index,
-    }
+    })
 }
 
 // Both neighbours have values: the left one decides.
-fn both(percent: bool, other: Choice, left: usize, value: u64, right: usize) -> Choice
+fn both(
+    percent: bool,
+    other: Option<Choice>,
+    left: usize,
+    value: u64,
+    right: usize,
+) -> Option<Choice>
     ensures { result ≡ both_of percent other left value right }
 {
     if value == 100 {
-        return Choice {
+        return Some(Choice {
             form: Form::Percent,
             left,
             right,
-        };
+        });
     }
-    if percent {
+    if percent || value == 0 {
         return other;
     }
-    if value == 0 {
-        return other;
-    }
-    Choice {
+    Some(Choice {
         form: Form::Fraction,
         left,
         right,
-    }
+    })
 }
 
 // Both neighbours are there, with these values.
 fn with_values(
     percent: bool,
-    other: Choice,
+    other: Option<Choice>,
     left: usize,
-    left_value: WholeValue,
+    left_value: Option<u64>,
     right: usize,
-    right_value: WholeValue,
-) -> Choice
+    right_value: Option<u64>,
+) -> Option<Choice>
     ensures { result ≡ with_values_of percent other left (option_of left_value) right (option_of right_value) }
 {
-    match left_value {
-        WholeValue::Nothing => other,
-        WholeValue::Whole(v) => match right_value {
-            WholeValue::Nothing => other,
-            WholeValue::Whole(_) => both(percent, other, left, v, right),
-        },
-    }
+    let (Some(value), Some(_)) = (left_value, right_value) else {
+        return other;
+    };
+    both(percent, other, left, value, right)
 }
 
 // The choice between two neighbours, each one more than its index, 0 for none.
@@ -196,19 +141,17 @@ fn between(
     work: &[u8],
     lattice: Lattice,
     percent: bool,
-    other: Choice,
+    other: Option<Choice>,
     left: usize,
     right: usize,
-) -> Choice
+) -> Option<Choice>
     requires { ((es : List Edge) × HoldsLine work.now lattice es) × (left ≤ lattice.count)
         × (right ≤ lattice.count) }
     ensures { (es : List Edge) → HoldsLine work.now lattice es
         → result ≡ between_of percent other es left right }
 {
-    if left == 0 {
-        return other;
-    }
-    if right == 0 {
+    // Kept as numbers, 0 for none: `paths::best::keep` fills the tables, for `queries` too.
+    if left == 0 || right == 0 {
         return other;
     }
     let i = left - 1;
@@ -227,7 +170,7 @@ fn marked(
     percent: bool,
     place: Place,
     size: usize,
-) -> Choice
+) -> Option<Choice>
     requires { ((es : List Edge) × HoldsNeighbors work.now lattice lefts.now rights.now es)
         × (place.0 + size ≤ max_chars) }
     ensures { (es : List Edge)
@@ -247,22 +190,18 @@ pub fn outcome_at(
     lattice: Lattice,
     lefts: &[usize; PLACES],
     rights: &[usize; PLACES],
-    marker: Marker,
+    marker: Option<Marker>,
     place: Place,
-) -> Choice
+) -> Option<Choice>
     requires { ((es : List Edge) × HoldsNeighbors work.now lattice lefts.now rights.now es)
         × (place.0 + size_of (marker_of marker) ≤ max_chars) }
     ensures { (es : List Edge)
         → HoldsNeighbors work.now lattice lefts.now rights.now es
         → (outcome_of es place.0 result ≡ by_marker es place.0 (marker_of marker)) × Valid es result }
 {
-    match marker {
+    // Kept as a flag: the rules of `numbers` (`marked`, `otherwise`, `both`) are one for both kinds of marker, with the flag in them.
+    match marker? {
         Marker::Percentage(n) => marked(work, lattice, lefts, rights, true, place, n),
         Marker::Connector(n) => marked(work, lattice, lefts, rights, false, place, n),
-        Marker::NoMarker => Choice {
-            form: Form::Nothing,
-            left: 0,
-            right: 0,
-        },
     }
 }

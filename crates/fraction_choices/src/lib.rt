@@ -32,7 +32,7 @@ fn choice_at(
     before: &[usize; PLACES],
     behind: &[usize; PLACES],
     place: Place,
-) -> Choice
+) -> Option<Choice>
     requires { ((n : ℕ) × Ready line.now table.now shape n) × Offsets line.now offs.now
         × ((es : List Edge) × HoldsNeighbors work.now lattice before.now behind.now es)
         × (place.0 < length (chars line.now)) }
@@ -56,21 +56,17 @@ fn choose_all(
     places: usize,
     before: &[usize; PLACES],
     behind: &[usize; PLACES],
-    forms: &mut [usize; MAX_CHARS],
-    lefts: &mut [usize; MAX_CHARS],
-    rights: &mut [usize; MAX_CHARS],
+    choices: &mut [Option<Choice>; MAX_CHARS],
 )
     requires { Ready line.now table.now shape places × Offsets line.now offs.now
         × ((es : List Edge) × HoldsNeighbors work.now lattice before.now behind.now es)
-        × (length forms.old ≡ max_chars) × (length lefts.old ≡ max_chars) × (length rights.old ≡ max_chars) }
+        × (length choices.old ≡ max_chars) }
     ensures { (es : List Edge)
         → HoldsNeighbors work.now lattice before.now behind.now es
-        → Decided (table_of table.now shape) (chars line.now) es forms.new
-        lefts.new rights.new places }
+        → Decided (table_of table.now shape) (chars line.now) es choices.new places }
 {
-    let mut p = 0;
-    while p < places {
-        let c = choice_at(
+    for p in 0..places {
+        choices[p] = choice_at(
             work,
             lattice,
             line,
@@ -81,11 +77,6 @@ fn choose_all(
             behind,
             Place(p),
         );
-        let form = c.form;
-        forms[p] = crate::decision::code_of(form);
-        lefts[p] = c.left;
-        rights[p] = c.right;
-        p += 1;
     }
 }
 
@@ -98,22 +89,19 @@ pub fn choose(
     table: &[u8],
     shape: Shape,
     places: usize,
-    forms: &mut [usize; MAX_CHARS],
-    lefts: &mut [usize; MAX_CHARS],
-    rights: &mut [usize; MAX_CHARS],
+    choices: &mut [Option<Choice>; MAX_CHARS],
 )
     requires { Ready line.now table.now shape places × Offsets line.now offs.now
-        × ((es : List Edge) × HoldsLine work.now lattice es) × (length forms.old ≡ max_chars)
-        × (length lefts.old ≡ max_chars) × (length rights.old ≡ max_chars) }
+        × ((es : List Edge) × HoldsLine work.now lattice es)
+        × (length choices.old ≡ max_chars) }
     ensures { (es : List Edge) → HoldsLine work.now lattice es
-        → Decided (table_of table.now shape) (chars line.now) es forms.new
-        lefts.new rights.new places }
+        → Decided (table_of table.now shape) (chars line.now) es choices.new places }
 {
     let mut before = [0usize; PLACES];
     let mut behind = [0usize; PLACES];
     crate::neighbors::neighbors(work, lattice, false, &mut before);
     crate::neighbors::neighbors(work, lattice, true, &mut behind);
     choose_all(
-        work, lattice, line, offs, table, shape, places, &before, &behind, forms, lefts, rights,
+        work, lattice, line, offs, table, shape, places, &before, &behind, choices,
     );
 }

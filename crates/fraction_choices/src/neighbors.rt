@@ -10,7 +10,7 @@ use paths::Query;
 use text::Place;
 use text::check::PLACES;
 
-// What is asked for at a place: its right or its left neighbour.
+// What is asked for at a place: its right or its left neighbour. Kept as a flag: each contract here says which side (`Neighbors right`), and a closure would need a clause for it.
 fn side(right: bool, place: Place) -> Query
     ensures { result ≡ side_of right place.0 }
 {
@@ -47,13 +47,11 @@ fn scored_neighbors(
         → Neighbors right es table.new }
 {
     let mut at = 2;
-    let mut i = 0;
-    while i < lattice.count {
+    for i in 0..lattice.count {
         let place = place_at(work, at, right);
         let score = paths::score::score_at(work, at, side(right, place), false);
         paths::best::keep(tops, table, place, score, i + 1);
         at = edge::next::next_at(work, at);
-        i += 1;
     }
 }
 

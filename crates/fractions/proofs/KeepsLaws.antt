@@ -3,16 +3,17 @@
 use mathlib.Core.Path.{◌≡◌, refl, sym, ap, ◌∙◌}
 use mathlib.Core.Bool.{Bool, true, false, cond}
 use mathlib.Core.List.{List, [], ◌∷◌, ◌++◌, append-nil, append_assoc}
-use Prim.Native.Nat.{ℕ, ◌+◌}
+use Prim.Native.Nat.{ℕ}
 use native.Mathlib.Omega.{arith}
 use lib.ListN.{get_or, length-append, get_or-append}
+use Rattle.std.specs.Prelude.{Option, Some, None}
 use Rattle.whole.specs.Decimal.{decimal}
 use Rattle.edge.specs.Edge.{Text, Edge}
 use Rattle.lattice.specs.Lattice.{has, add, add_all}
 use Rattle.lattice.specs.Kept.{no_edge}
 use Rattle.numbers.specs.Fractions.{made, fraction_edge, percent_edge}
 use Rattle.fraction_choices.specs.declared.decision.Form.{Form}
-use Rattle.fraction_choices.specs.declared.decision.Form.TheVariants.{Nothing, Percent, Fraction, TxtPercent}
+use Rattle.fraction_choices.specs.declared.decision.Form.TheVariants.{Percent, Fraction, TxtPercent}
 use Rattle.fraction_choices.specs.declared.decision.Choice.{Choice}
 use Rattle.fractions.proofs.new_edge.FractionLaws.{fraction_is}
 use Rattle.fractions.proofs.deactivate.KeepsLaws.{Same, same_refl, Keeps}
@@ -52,19 +53,13 @@ fraction_same i j {l} {r} {m} {s} a b =
 txt_same : (p j : ℕ) {r s : Edge} → Same r s → made (percent_edge p s.end s.txt) (j ∷ []) ≡ made (percent_edge p r.end r.txt) (j ∷ [])
 txt_same p j b = txt_parts p (j ∷ []) b.end b.txt
 
-module _ {es fs : List Edge} (k : Keeps es fs) (p : ℕ) {c : Choice} (v : Valid es c) where
-  pub made_keeps : outcome_of fs p c ≡ outcome_of es p c
+module _ {es fs : List Edge} (k : Keeps es fs) (p : ℕ) where
+  formed_keeps : (f : Form) (i j : ℕ) → Uses f es i j → formed f p i (get_or fs i no_edge) j (get_or fs j no_edge) ≡ formed f p i (get_or es i no_edge) j (get_or es j no_edge)
+  formed_keeps Percent i j u = percent_same p i j (k.same i u.left) (k.same j u.right)
+  formed_keeps Fraction i j u = fraction_same i j (k.same i u.two.left) (k.same j u.two.right)
+  formed_keeps TxtPercent i j u = txt_same p j (k.same j u.right)
+
+  pub made_keeps : {m : Option Choice} → Valid es m → outcome_of fs p m ≡ outcome_of es p m
   unfolding outcome_of
-  made_keeps = go c.form v.uses
-    where
-      i : ℕ
-      i = c.left
-
-      j : ℕ
-      j = c.right
-
-      go : (f : Form) → Uses f es i j → formed f p i (get_or fs i no_edge) j (get_or fs j no_edge) ≡ formed f p i (get_or es i no_edge) j (get_or es j no_edge)
-      go Nothing u = refl
-      go Percent u = percent_same p i j (k.same i u.left) (k.same j u.right)
-      go Fraction u = fraction_same i j (k.same i u.two.left) (k.same j u.two.right)
-      go TxtPercent u = txt_same p j (k.same j u.right)
+  made_keeps {m = None} v = refl
+  made_keeps {m = Some c} v = formed_keeps c.form c.left c.right v.uses

@@ -1,15 +1,15 @@
 -- The edges that are made are edges of the call, and so are those of the lattice after the stage. No contract cites this file.
 -- In order: texts; a percentage; a fraction; the neighbours of a place; what a marker leads to; the stage. Assumes nothing.
 use mathlib.Core.Path.{◌≡◌, refl, sym, ap, ◌∙◌, subst}
-use mathlib.Core.Bool.{Bool, true, false, cond, ◌&&◌, not, true≢false}
-use mathlib.Core.List.{List, [], ◌∷◌, ◌++◌}
+use mathlib.Core.Bool.{Bool, true, false, ◌&&◌, not, true≢false}
+use mathlib.Core.List.{List, [], ◌∷◌}
 use mathlib.Core.Option.{Option, none, some}
 use Prim.Native.Nat.{ℕ, zero, suc, ◌+◌, ◌/◌, ◌%◌, ◌^◌, ◌≤◌, ◌<◌}
 use native.Mathlib.Nat.{le_trans}
 use native.Mathlib.Omega.{arith}
 use lib.ListN.{length, length-append}
-use lib.Dec.{eqb, leb, ltb}
-use borrow.Author.Tests.{lt-ltb, le-leb, ltb-true, eqb-true, eqb-false}
+use lib.Dec.{eqb, ltb}
+use borrow.Author.Tests.{lt-ltb, le-leb, ltb-true, eqb-true}
 use Rattle.text.specs.declared.Place.{Place}
 use Rattle.text.specs.Sequence.{encode, scalar}
 use Rattle.text.specs.Text.{well_formed, encodes, is_nil}
@@ -24,9 +24,8 @@ use Rattle.passes.proofs.ratio.RatioLaws.{lowest_at_most, lowest_positive}
 use Rattle.edge.specs.Edge.{Text, Edge, Numeric, NumericFits}
 use Rattle.edge.specs.Check.{each, sound_fraction, sound_numbers, sound_numeric, sound}
 use Rattle.paths.specs.declared.Query.TheVariants.{Right, Left}
-use Rattle.paths.specs.Best.{Best, asked, score, best, numbered, left_neighbor, right_neighbor}
+use Rattle.paths.specs.Best.{Best, asked, score, numbered, left_neighbor, right_neighbor}
 use Rattle.paths.proofs.BestLaws.{Each, OfBest, hold_more, best_holds, best_positive, score_asks, right_start}
-use Rattle.lattice.specs.Lattice.{add_all, turn_off}
 use Rattle.pass_list.specs.StoredEdge.{Every, nil, cons}
 use Rattle.numbers.specs.CallEdge.{Short, CallEdge, CallEdges}
 use Rattle.numbers.proofs.stages.SoundLaws.{Sound, sound_of, formed_append}

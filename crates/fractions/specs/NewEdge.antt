@@ -1,9 +1,9 @@
 -- What the code says of the edge that a choice makes. Definitions only.
 --     percent_of, fraction_of    the edges that the forms Percent and Fraction make
 --     add_outcome es m          es with the edge that was made, if one was
---     HoldsChoice n w l es c   w and l hold the edges es of a call over a line of n characters, and the choice c may stand over es
+--     HoldsChoice n w l es m   w and l hold the edges es of a call over a line of n characters, and the choice m may stand over es
 --     Assumes nothing.
-use Rattle.std.specs.Prelude.{List, ℕ, get_or}
+use Rattle.std.specs.Prelude.{List, ℕ, get_or, Option}
 use Rattle.whole.specs.Decimal.{decimal}
 use Rattle.edge.specs.Edge.{Edge}
 use Rattle.lattice.specs.declared.Lattice.{Lattice}
@@ -22,9 +22,9 @@ abbrev pub fraction_of : List Edge → ℕ → ℕ → Edge
 fraction_of es i j = fraction_edge (get_or es i no_edge) (value_or (get_or es i no_edge)) (get_or es j no_edge) (value_or (get_or es j no_edge))
 
 -- ---- the lattice
-pub record HoldsChoice (n : ℕ) (w : List ℕ) (l : Lattice) (es : List Edge) (c : Choice) : Type 0 where
+pub record HoldsChoice (n : ℕ) (w : List ℕ) (l : Lattice) (es : List Edge) (m : Option Choice) : Type 0 where
   pub has : HoldsCall n w l es
-  pub valid : Valid es c
+  pub valid : Valid es m
 
 abbrev pub add_outcome : List Edge → Outcome → List Edge
 add_outcome es (made e is) = add es e

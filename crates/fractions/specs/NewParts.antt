@@ -6,7 +6,7 @@
 --     txt_percent_of es p j   the edge that the form TxtPercent makes: the txt of the edge j of es and "%", from place p on
 --     HoldsCall n w l es    w and l hold the edges es of a call over a line of n characters
 --     Assumes nothing.
-use Rattle.std.specs.Prelude.{◌≡◌, true, false, List, ℕ, ◌+◌, ◌≤◌, length, get_or}
+use Rattle.std.specs.Prelude.{◌≡◌, true, false, List, ℕ, ◌+◌, ◌≤◌, length, get_or, Some, None}
 use Rattle.std.proofs.Math.Option.{Option, none, some}
 use Rattle.fields.specs.Part.{part, part_of}
 use Rattle.edge.specs.Edge.{Text, Edge, Numeric, map_of}
@@ -18,8 +18,7 @@ use Rattle.lattice.specs.declared.Lattice.{Lattice}
 use Rattle.lattice.specs.Kept.{no_edge, Holds}
 use Rattle.numbers.specs.CallEdge.{CallEdges}
 use Rattle.numbers.specs.Fractions.{fraction_type, percent_edge}
-use Rattle.fractions.specs.declared.parts.Script.{Script}
-use Rattle.fractions.specs.declared.parts.Script.TheVariants.{Absent, Bytes}
+use Rattle.std.specs.Prelude as std
 
 pub record HeadIs (w : List ℕ) (e : Edge) (v : EdgeView) : Type 0 where
   pub map : v.map ≡ map_of e.num
@@ -31,16 +30,16 @@ pub record HeadIs (w : List ℕ) (e : Edge) (v : EdgeView) : Type 0 where
   pub numeric : (x : Numeric) → e.num ≡ some x → (fields_end v.map w v.fields.0 ≤ length w) × (numeric_at v.map w v.fields.0 ≡ x)
 
 -- ---- the fields of a fraction
-unfoldable pub script_from : List ℕ → Script → Option Text
-script_from c Absent = none
-script_from c (Bytes k) = some (part c 0 k)
+unfoldable pub script_from : List ℕ → std.Option ℕ → Option Text
+script_from c None = none
+script_from c (Some k) = some (part c 0 k)
 
-abbrev pub script_len : Script → ℕ
-script_len Absent = 0
-script_len (Bytes k) = k
+abbrev pub script_len : std.Option ℕ → ℕ
+script_len None = 0
+script_len (Some k) = k
 
-unfoldable pub fraction_fields : ℕ → ℕ → ℕ → Script → NumFields
-fraction_fields n a b Absent = record {
+unfoldable pub fraction_fields : ℕ → ℕ → ℕ → std.Option ℕ → NumFields
+fraction_fields n a b None = record {
   map = 133;
   value = 0;
   numerator = a;
@@ -52,7 +51,7 @@ fraction_fields n a b Absent = record {
   value_s = no_part;
   decimals = 0;
 }
-fraction_fields n a b (Bytes k) = record {
+fraction_fields n a b (Some k) = record {
   map = 165;
   value = 0;
   numerator = a;

@@ -25,20 +25,18 @@ fn turn_off_both(work: &mut [u8], lattice: Lattice, left: usize, right: usize)
 }
 
 // The edges that a choice uses turn inactive.
-fn turn_off_used(work: &mut [u8], lattice: Lattice, choice: Choice)
+fn turn_off_used(work: &mut [u8], lattice: Lattice, choice: Option<Choice>)
     requires { ((es : List Edge) × Holds work.old lattice es × Valid es choice) × (lattice.len ≡ 0 → ⊥) }
     ensures { SameBehind work.old work.new
         × ((es : List Edge) → Holds work.old lattice es
         → Holds work.new lattice (turn_off es (used_by choice))) }
 {
-    let left = choice.left;
-    let right = choice.right;
-    let form = choice.form;
-    match form {
-        Form::Nothing => {}
-        Form::Percent => turn_off_both(work, lattice, left, right),
-        Form::Fraction => turn_off_both(work, lattice, left, right),
-        Form::TxtPercent => lattice::turn_off(work, lattice, right),
+    let Some(c) = choice else {
+        return;
+    };
+    match c.form {
+        Form::Percent | Form::Fraction => turn_off_both(work, lattice, c.left, c.right),
+        Form::TxtPercent => lattice::turn_off(work, lattice, c.right),
     }
 }
 
@@ -46,21 +44,19 @@ fn turn_off_used(work: &mut [u8], lattice: Lattice, choice: Choice)
 pub fn turn_off_all(
     work: &mut [u8],
     lattice: Lattice,
-    forms: &[usize; MAX_CHARS],
-    lefts: &[usize; MAX_CHARS],
-    rights: &[usize; MAX_CHARS],
+    choices: &[Option<Choice>; MAX_CHARS],
     places: usize,
 )
     requires { ((es : List Edge) × Holds work.old lattice es
-        × AllValid es forms.now lefts.now rights.now places) × (lattice.len ≡ 0 → ⊥) × (places ≤ max_chars) }
+        × AllValid es choices.now places) × (lattice.len ≡ 0 → ⊥) × (places ≤ max_chars) }
     ensures { SameBehind work.old work.new
         × ((es : List Edge) → Holds work.old lattice es
-        → AllValid es forms.now lefts.now rights.now places
+        → AllValid es choices.now places
         → Holds work.new lattice (turn_off es
-        (used_edges (outcomes_of es forms.now lefts.now rights.now 0 places)))) }
+        (used_edges (outcomes_of es choices.now 0 places)))) }
 {
+    // Kept beside `add_all`: what the two have alike is the `for` alone, and a step handed over would be longer than its line.
     for p in 0..places {
-        let c = fraction_choices::decision::choice_of(forms[p], lefts[p], rights[p]);
-        turn_off_used(work, lattice, c);
+        turn_off_used(work, lattice, choices[p]);
     }
 }

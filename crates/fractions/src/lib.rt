@@ -20,6 +20,7 @@ ghost use Rattle.numbers.specs.Fractions.{new_edges, fractions};
 ghost use Rattle.fractions.specs.Outcomes.{outcomes_of};
 ghost use Rattle.fractions.specs.Planned.{Planned};
 
+use fraction_choices::decision::Choice;
 use lattice::Lattice;
 use table::shape::Shape;
 use text::Place;
@@ -29,23 +30,20 @@ use text::check::{MAX_CHARS, PLACES};
 fn add_all(
     work: &mut [u8],
     lattice: Lattice,
-    forms: &[usize; MAX_CHARS],
-    lefts: &[usize; MAX_CHARS],
-    rights: &[usize; MAX_CHARS],
+    choices: &[Option<Choice>; MAX_CHARS],
     places: usize,
 ) -> Lattice
-    requires { ((es : List Edge) × Planned places work.old lattice es forms.now lefts.now rights.now)
+    requires { ((es : List Edge) × Planned places work.old lattice es choices.now)
         × (places ≤ max_chars) }
     ensures { SameBehind work.old work.new
         × ((es : List Edge)
-        → Planned places work.old lattice es forms.now lefts.now rights.now
+        → Planned places work.old lattice es choices.now
         → Holds work.new result (add_all es
-        (new_edges (outcomes_of es forms.now lefts.now rights.now 0 places)))) }
+        (new_edges (outcomes_of es choices.now 0 places)))) }
 {
     let mut grown = lattice;
     for p in 0..places {
-        let c = fraction_choices::decision::choice_of(forms[p], lefts[p], rights[p]);
-        grown = crate::new_edge::add_choice(work, grown, Place(p), c);
+        grown = crate::new_edge::add_choice(work, grown, Place(p), choices[p]);
     }
     grown
 }
@@ -73,9 +71,7 @@ pub fn fractions(
     if !markers::any::any_marker(line, offs, table, shape, places) {
         return lattice;
     }
-    let mut forms = [0usize; MAX_CHARS];
-    let mut lefts = [0usize; MAX_CHARS];
-    let mut rights = [0usize; MAX_CHARS];
+    let mut choices = [None; MAX_CHARS];
     fraction_choices::choose(
         work,
         lattice,
@@ -84,10 +80,8 @@ pub fn fractions(
         table,
         shape,
         places,
-        &mut forms,
-        &mut lefts,
-        &mut rights,
+        &mut choices,
     );
-    crate::deactivate::turn_off_all(work, lattice, &forms, &lefts, &rights, places);
-    add_all(work, lattice, &forms, &lefts, &rights, places)
+    crate::deactivate::turn_off_all(work, lattice, &choices, places);
+    add_all(work, lattice, &choices, places)
 }

@@ -50,7 +50,12 @@ fn add_fraction(work: &mut [u8], lattice: Lattice, left: usize, right: usize) ->
 }
 
 // The edge that the choice at a place makes is added; a lattice that is full stays as it is.
-pub fn add_choice(work: &mut [u8], lattice: Lattice, place: Place, choice: Choice) -> Lattice
+pub fn add_choice(
+    work: &mut [u8],
+    lattice: Lattice,
+    place: Place,
+    choice: Option<Choice>,
+) -> Lattice
     requires { ((n : ℕ) × ((es : List Edge) × HoldsChoice n work.old lattice es choice)) × (place.0 < u16_limit) }
     ensures { SameBehind work.old work.new
         × ((n : ℕ) (es : List Edge) → HoldsChoice n work.old lattice es choice
@@ -59,13 +64,12 @@ pub fn add_choice(work: &mut [u8], lattice: Lattice, place: Place, choice: Choic
     if lattice.len == 0 {
         return lattice;
     }
-    let left = choice.left;
-    let right = choice.right;
-    let form = choice.form;
-    match form {
-        Form::Nothing => lattice,
-        Form::Percent => add_percent(work, lattice, left, right),
-        Form::Fraction => add_fraction(work, lattice, left, right),
-        Form::TxtPercent => crate::parts::add_txt_percent(work, lattice, place, right),
+    let Some(c) = choice else {
+        return lattice;
+    };
+    match c.form {
+        Form::Percent => add_percent(work, lattice, c.left, c.right),
+        Form::Fraction => add_fraction(work, lattice, c.left, c.right),
+        Form::TxtPercent => crate::parts::add_txt_percent(work, lattice, place, c.right),
     }
 }

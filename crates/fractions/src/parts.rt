@@ -20,17 +20,10 @@ use lattice::Lattice;
 use passes::ratio::Ratio;
 use text::{Offset, Place};
 
-// The script of an edge: none, or so many bytes at the front of a buffer.
-#[derive(Clone, Copy)]
-pub enum Script {
-    Absent,
-    Bytes(usize),
-}
-
 // ---- fields
 
 // The script of a numeric edge with this map, whose fields stand at an offset.
-pub fn copy_script(buf: &mut [u8; TEXT_ROOM], work: &[u8], map: u16, at: usize) -> Script
+pub fn copy_script(buf: &mut [u8; TEXT_ROOM], work: &[u8], map: u16, at: usize) -> Option<usize>
     requires { (fields_end map work.now at ≤ length work.now)
         × ((t : Text) → (numeric_at map work.now at).script ≡ some t → length t ≤ max_string) }
     ensures { (script_from buf.new result ≡ (numeric_at map work.now at).script)
@@ -38,17 +31,17 @@ pub fn copy_script(buf: &mut [u8; TEXT_ROOM], work: &[u8], map: u16, at: usize) 
 {
     let d = edge::numeric::fields_at(map, work, at);
     if !edge::bit(map, bits::SCRIPT) {
-        return Script::Absent;
+        return None;
     }
     let from = d.script.at.0;
     let n = d.script.len;
     let to = from + n;
     fields::copy::copy_in(buf, 0, &work[from..to]);
-    Script::Bytes(n)
+    Some(n)
 }
 
 // The fields of a fraction.
-fn fraction_fields(size: usize, ratio: Ratio, copied: Script) -> NumFields
+fn fraction_fields(size: usize, ratio: Ratio, copied: Option<usize>) -> NumFields
     ensures { result ≡ fraction_fields size ratio.numerator ratio.denominator copied }
 {
     let none = Part {
@@ -59,34 +52,21 @@ fn fraction_fields(size: usize, ratio: Ratio, copied: Script) -> NumFields
         at: Offset(0),
         len: size,
     };
-    match copied {
-        Script::Absent => NumFields {
-            map: 133,
-            value: 0,
-            numerator: ratio.numerator,
-            denominator: ratio.denominator,
-            base: 0,
-            base_multiplier: 0,
-            orig,
-            script: none,
-            value_s: none,
-            decimals: 0,
-        },
-        Script::Bytes(k) => NumFields {
-            map: 165,
-            value: 0,
-            numerator: ratio.numerator,
-            denominator: ratio.denominator,
-            base: 0,
-            base_multiplier: 0,
-            orig,
-            script: Part {
-                at: Offset(0),
-                len: k,
-            },
-            value_s: none,
-            decimals: 0,
-        },
+    let (bit, script) = match copied {
+        None => (0, none),
+        Some(len) => (bits::SCRIPT, Part { at: Offset(0), len }),
+    };
+    NumFields {
+        map: bits::NUMERIC + bits::FRACTION + bits::ACTIVE + bit,
+        value: 0,
+        numerator: ratio.numerator,
+        denominator: ratio.denominator,
+        base: 0,
+        base_multiplier: 0,
+        orig,
+        script,
+        value_s: none,
+        decimals: 0,
     }
 }
 
@@ -139,7 +119,7 @@ pub fn add_composed(
     end: Place,
     txt: &[u8],
     ratio: Ratio,
-    copied: Script,
+    copied: Option<usize>,
     script: &[u8; TEXT_ROOM],
 ) -> Lattice
     requires { ((es : List Edge) × Holds work.old lattice es) × (start.0 < u16_limit) × (end.0 < u16_limit)

@@ -15,7 +15,7 @@ pub fn put_percent(buf: &mut [u8; TEXT_ROOM], value: u64) -> usize
     ensures { TextIs buf.new result (decimal value ++ (37 ∷ [])) }
 {
     let end = whole::decimal::put_decimal(buf, 0, value);
-    buf[end] = 37;
+    buf[end] = b'%';
     end + 1
 }
 
@@ -24,7 +24,7 @@ pub fn put_fraction(buf: &mut [u8; TEXT_ROOM], right: u64, left: u64) -> usize
     ensures { TextIs buf.new result (decimal right ++ (47 ∷ decimal left)) }
 {
     let n = whole::decimal::put_decimal(buf, 0, right);
-    buf[n] = 47;
+    buf[n] = b'/';
     whole::decimal::put_decimal(buf, n + 1, left)
 }
 
@@ -37,6 +37,6 @@ pub fn put_txt_percent(buf: &mut [u8; TEXT_ROOM], work: &[u8], txt: Part) -> usi
     let n = txt.len;
     let to = from + n;
     fields::copy::copy_in(buf, 0, &work[from..to]);
-    buf[n] = 37;
+    buf[n] = b'%';
     n + 1
 }

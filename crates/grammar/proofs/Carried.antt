@@ -6,7 +6,6 @@ use Prim.Native.Nat.{ℕ}
 use mathlib.Core.Path.{◌≡◌, refl, sym, ap, ◌∙◌}
 use mathlib.Core.List.{List, [], ◌∷◌, map}
 use mathlib.Core.Option.{none}
-use native.Mathlib.Omega.{arith}
 use lib.ListN.{length, length-map}
 use Rattle.table.specs.Table.{Table}
 use Rattle.text.specs.Text.{chars, encodes}
@@ -21,10 +20,10 @@ use Rattle.grammar.proofs.OtherTable.{twin_plain, none_remaining}
 
 -- a list that is the same as one edge but for orig_txt is one edge
 one_but_text : (l l' : List NumEdge) (e : NumEdge) → but_text l ≡ but_text l' → l ≡ e ∷ [] → (e' : NumEdge) × (l' ≡ e' ∷ []) × (with_text [] e' ≡ with_text [] e)
-one_but_text l [] e h k = let q : with_text [] e ∷ [] ≡ [] = sym (ap but_text k) ∙ h in let z : ◌≡◌ {A = ℕ} 0 1 = cc in absurd (omega arith)
+one_but_text l [] e h k = let q : with_text [] e ∷ [] ≡ [] = sym (ap but_text k) ∙ h in absurd cc
 one_but_text l (e' ∷ []) e h k = let q : with_text [] e ∷ [] ≡ with_text [] e' ∷ [] = sym (ap but_text k) ∙ h in (e', refl, cc)
 one_but_text l (e' ∷ e'' ∷ l') e h k =
-    let q : with_text [] e ∷ [] ≡ with_text [] e' ∷ with_text [] e'' ∷ but_text l' = sym (ap but_text k) ∙ h in let z : ◌≡◌ {A = ℕ} 0 1 = cc in absurd (omega arith)
+    let q : with_text [] e ∷ [] ≡ with_text [] e' ∷ with_text [] e'' ∷ but_text l' = sym (ap but_text k) ∙ h in absurd cc
 
 module _ (f : ℕ → ℕ) (u : Table) (R : Renaming f plain u) where
   -- the character that stands for one of the sixteen

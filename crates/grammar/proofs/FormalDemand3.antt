@@ -1,7 +1,7 @@
 -- S-11 of 02 for the formal table: it differs from the plain one by a renaming; a line and its formal twin get the same five lists but for orig_txt; demand 3 (00) for lines of
 -- its sixteen characters. Each is one instance of what `passes` (proofs/Twins.antt) and `proofs/Carried.antt` show of any renaming. Assumes nothing.
 use Prim.Native.Nat.{ℕ}
-use mathlib.Core.Path.{◌≡◌, refl, sym, ◌∙◌}
+use mathlib.Core.Path.{◌≡◌, refl, ◌∙◌}
 use mathlib.Core.Bool.{true}
 use mathlib.Core.List.{List, [], ◌∷◌, map}
 use mathlib.Core.Option.{none, some}

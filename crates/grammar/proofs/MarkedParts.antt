@@ -1,6 +1,5 @@
 -- S-7 at some lines of the plain table, with a space between: a theorem by computation.
 --     read a b         the answer for the line of the plain characters a, a space, and b
-use Prim.Native.Nat.{ℕ}
 use mathlib.Core.Path.{◌≡◌, refl}
 use mathlib.Core.List.{List, [], ◌∷◌, ◌++◌, map}
 use mathlib.Core.Option.{some}

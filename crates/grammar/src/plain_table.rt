@@ -3,6 +3,7 @@ ghost use Rattle.std.specs.Prelude.{◌≡◌, length};
 ghost use Rattle.grammar.specs.PlainBytes.{plain_bytes};
 
 // The length is what lending the array as a slice asks for. One record to a line, behind the counts and the four lists; `tools/table` makes the same bytes of data/plain.table.
+// Kept beside `formal_table`: each is one array of bytes, and nothing else is in either that they could share.
 pub fn plain_table() -> [u8; 582]
     ensures bytes { result ≡ plain_bytes }
     ensures lent { 582 ≡ length result }

@@ -1,6 +1,6 @@
 -- Laws of `Holds`: stores and edges that leave a lattice as it is. No contract cites this file.
 -- In order: what lies behind the lattice; stores beside the listing and the cells; a list that is over stays so; edges added in a row; an edge that is not added. Assumes nothing.
-use mathlib.Core.Path.{◌≡◌, refl, sym, ◌∙◌}
+use mathlib.Core.Path.{◌≡◌, refl, ◌∙◌}
 use mathlib.Core.Logic.{◌⊎◌, inl, inr}
 use mathlib.Core.Bool.{Bool, true, false, cond, ◌||◌}
 use mathlib.Core.List.{List, [], ◌∷◌, ◌++◌}

@@ -2,7 +2,6 @@
 -- In order: the bytes of edges; cells; the listing; the i-th edge. Assumes nothing.
 use mathlib.Core.Path.{◌≡◌, refl, sym, ap, ◌∙◌}
 use mathlib.Core.Logic.{◌⊎◌}
-use mathlib.Core.Bool.{Bool, true, false}
 use mathlib.Core.List.{List, [], ◌∷◌, ◌++◌, append_assoc, append-nil}
 use mathlib.Core.Option.{Option, none, some}
 use Prim.Native.Nat.{ℕ, suc, ◌+◌, ◌*◌, ◌≤◌, ◌<◌}
@@ -13,7 +12,7 @@ use Rattle.fields.specs.Fields.{le, le_at, bytes_of}
 use Rattle.fields.specs.Part.{part}
 use Rattle.fields.proofs.FieldsLaws.{length-bytes_of, le-bytes_of, le_at-sets, le_at-sets_other}
 use Rattle.fields.proofs.PartLaws.{part_add, part_take, drop_part}
-use Rattle.fields.specs.Flag.{there, flag, bytes_if}
+use Rattle.fields.specs.Flag.{bytes_if}
 use Rattle.fields.proofs.FlagLaws.{there_le, flag_le}
 use Rattle.edge.specs.Edge.{Edge, Numeric, numeric_map, map_of, str, numeric_bytes, head_bytes, edge_bytes, edges_bytes, listing_bytes}
 use Rattle.lattice.specs.Kept.{cell, key, no_edge, offset, Kept}

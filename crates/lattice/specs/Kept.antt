@@ -20,7 +20,7 @@
 --     Holds w l es      what a `Lattice` and the work space say of the edges es: they are kept, or they are too many or too long to be
 --     finished, finished_out    the answer of `finish`, and the output after it
 --     Assumes nothing.
-use Rattle.std.specs.Prelude.{◌≡◌, ◌⊎◌, Bool, true, false, cond, ◌||◌, List, [], ◌∷◌, ◌++◌, ℕ, zero, suc, ◌+◌, ◌*◌, ◌/◌, ◌%◌, ◌-◌, ◌≤◌, ◌<◌, length, take, drop, get_or, eqb, ltb}
+use Rattle.std.specs.Prelude.{◌≡◌, ◌⊎◌, Bool, true, false, cond, ◌||◌, List, [], ◌∷◌, ◌++◌, ℕ, zero, suc, ◌+◌, ◌*◌, ◌/◌, ◌%◌, ◌-◌, ◌≤◌, ◌<◌, length, take, drop, get_or, eqb, ltb, Option, Some, None}
 use Rattle.std.proofs.Math.Option.{none}
 use Rattle.std.proofs.lemmas.List.Edits.{sets}
 use Rattle.fields.specs.Fields.{le_at, bytes_of, u16_limit}
@@ -28,8 +28,6 @@ use Rattle.fields.specs.Part.{part}
 use Rattle.edge.specs.Edge.{Edge, str, edge_bytes, edges_bytes, listing_bytes}
 use Rattle.edge.specs.Layout.{stands}
 use Rattle.lattice.specs.declared.Lattice.{Lattice}
-use Rattle.lattice.specs.declared.Finished.{Finished}
-use Rattle.lattice.specs.declared.Finished.TheVariants.{Listing, TooLong}
 use Rattle.lattice.specs.declared.Adding.{Adding}
 use Rattle.lattice.specs.declared.Adding.TheVariants.{Nothing, TooMuch, Into}
 use Rattle.lattice.specs.Lattice.{has, overfull, most_edges, most_bytes}
@@ -155,8 +153,8 @@ AddingIs l es e (Into b) = (l.len ≡ 0 → ⊥) × (has es e ≡ false) × (l.c
 unfoldable pub too_long : ℕ → List Edge → Bool
 too_long room es = overfull es || ltb room (length (listing_bytes es))
 
-unfoldable pub finished : ℕ → List Edge → Finished
-finished room es = cond (too_long room es) TooLong (Listing (length (listing_bytes es)))
+unfoldable pub finished : ℕ → List Edge → Option ℕ
+finished room es = cond (too_long room es) None (Some (length (listing_bytes es)))
 
 -- refused: the output is as it was
 unfoldable pub finished_out : List ℕ → List Edge → List ℕ

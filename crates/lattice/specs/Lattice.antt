@@ -7,8 +7,8 @@
 --     most_edges, most_bytes    what a finished listing may hold
 --     overfull es      es is more than a finished listing may hold: 1,024 edges or 32,768 bytes
 --     Assumes nothing.
-use Rattle.std.specs.Prelude.{ℕ, zero, suc, Bool, true, false, cond, ◌&&◌, ◌||◌, List, [], ◌∷◌, ◌++◌, length, eqb, ltb}
-use Rattle.std.proofs.Math.Option.{Option, none, some, map}
+use Rattle.std.specs.Prelude.{ℕ, zero, suc, Bool, false, cond, ◌&&◌, ◌||◌, List, [], ◌∷◌, ◌++◌, length, eqb, ltb}
+use Rattle.std.proofs.Math.Option.{map}
 use Rattle.text.specs.Bytes.{same}
 use Rattle.edge.specs.Edge.{Edge, Numeric, listing_bytes}
 

@@ -3,7 +3,7 @@ ghost use Rattle.std.specs.Prelude.{◌≡◌, List, [], ◌≤◌, length};
 ghost use Rattle.edge.specs.Edge.{Edge};
 ghost use Rattle.lattice.specs.Kept.{Holds, finished, finished_out, END, SameBehind};
 
-use crate::{BUCKETS, Finished, HEADS, Lattice};
+use crate::{END, HEADS, Lattice};
 
 // A lattice without edges.
 pub fn empty(work: &mut [u8]) -> Lattice
@@ -11,16 +11,12 @@ pub fn empty(work: &mut [u8]) -> Lattice
     ensures { SameBehind work.old work.new × Holds work.new result [] }
 {
     fields::write::put_u16(work, 0, 0);
-    let mut b = 0;
-    while b < BUCKETS {
-        fields::write::put_u16(work, HEADS + 2 * b, 0);
-        b += 1;
-    }
+    work[HEADS..END].fill(0);
     Lattice { count: 0, len: 2 }
 }
 
 // The listing goes to the output, or is refused: the output is then as it was.
-pub fn finish(work: &[u8], lattice: Lattice, out: &mut [u8]) -> Finished
+pub fn finish(work: &[u8], lattice: Lattice, out: &mut [u8]) -> Option<usize>
     requires { (es : List Edge) × Holds work.now lattice es }
     ensures answer { (es : List Edge) → Holds work.now lattice es
         → result ≡ finished (length out.old) es }
@@ -29,11 +25,11 @@ pub fn finish(work: &[u8], lattice: Lattice, out: &mut [u8]) -> Finished
 {
     let len = lattice.len;
     if lattice.len == 0 {
-        return Finished::TooLong;
+        return None;
     }
     if out.len() < len {
-        return Finished::TooLong;
+        return None;
     }
     fields::copy::copy_in(out, 0, &work[..len]);
-    Finished::Listing(len)
+    Some(len)
 }

@@ -45,6 +45,7 @@ fn has_key(work: &[u8], source: &[u8], at: usize, size: usize, bucket: usize) ->
     ensures { (q : Search work.now source.now at size bucket)
         → result ≡ has q.es q.e }
 {
+    // Kept as a loop: each turn goes to the edge that the one before it names, and how many there are is stored nowhere.
     let mut edge = fields::u16_at(work, HEADS + 2 * bucket) as usize;
     while 0 < edge {
         let i = edge - 1;

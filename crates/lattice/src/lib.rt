@@ -23,28 +23,21 @@ const HEADS: usize = 38912;
 
 pub const END: usize = 39424;
 
-const BUCKETS: usize = 256;
-
 // What a listing may hold.
 const MOST_EDGES: usize = 1024;
 
 pub const MOST_BYTES: usize = 32768;
 
 // A lattice: how many edges, and the length of their listing; 0, which no listing has, where they became too many or too long.
+// Kept as a length of 0, and not as an Option: `Holds` and the clauses of every crate that passes a lattice on say the full one by it, and a full one is passed on like any other.
 #[derive(Clone, Copy)]
 pub struct Lattice {
     pub count: usize,
     pub len: usize,
 }
 
-// What the end finds: the length of the listing written, or refusal 8.
-#[derive(Clone, Copy)]
-pub enum Finished {
-    Listing(usize),
-    TooLong,
-}
-
 // What is to be done with an edge: nothing, as it is there or the lattice is full; the lattice becomes full; it goes into a bucket.
+// Kept as an enum of its own: it has three kinds (nothing to add, no room, the bucket), one more than Option or Result has.
 #[derive(Clone, Copy)]
 pub enum Adding {
     Nothing,

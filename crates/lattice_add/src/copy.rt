@@ -11,68 +11,13 @@ ghost use Rattle.lattice_add.specs.Copy.{prefixed, prefixed_bytes, Source};
 
 use lattice::Lattice;
 
-// Copies eight bytes of the work space from one offset to another.
-fn copy_word(work: &mut [u8], from: usize, to: usize)
-    requires { (from + 8 ≤ length work.old) × (to + 8 ≤ length work.old) }
-    ensures { work.new ≡ sets work.old to (part work.old from 8) }
-{
-    let v = fields::u64_at(work, from);
-    fields::write::put_u64(work, to, v);
-}
-
-// The same of sixteen bytes. Both words are read before one is written: then the two are one move.
-fn copy_pair(work: &mut [u8], from: usize, to: usize)
-    requires { (from + 16 ≤ length work.old) × (to + 16 ≤ length work.old) }
-    ensures { work.new ≡ sets work.old to (part work.old from 16) }
-{
-    let v = fields::u64_at(work, from);
-    let u = fields::u64_at(work, from + 8);
-    fields::write::put_u64(work, to, v);
-    fields::write::put_u64(work, to + 8, u);
-}
-
-// The same of so many bytes to an offset behind them, one by one.
-fn copy_bytes(work: &mut [u8], from: usize, to: usize, size: usize)
-    requires { (from + size ≤ to) × (to + size ≤ length work.old) }
-    ensures { work.new ≡ sets work.old to (part work.old from size) }
-{
-    let mut i = 0;
-    while i < size {
-        work[to + i] = work[from + i];
-        i += 1;
-    }
-}
-
-// The same, for sixteen bytes and more by sixteen. The last sixteen end with the last byte, and may begin in those before them.
-fn copy_long(work: &mut [u8], from: usize, to: usize, size: usize)
-    requires { (16 ≤ size) × (from + size ≤ to) × (to + size ≤ length work.old) }
-    ensures { work.new ≡ sets work.old to (part work.old from size) }
-{
-    let last = size - 16;
-    let mut i = 0;
-    while i < last {
-        copy_pair(work, from + i, to + i);
-        i += 16;
-    }
-    copy_pair(work, from + last, to + last);
-}
-
-// The same, in the fewest moves: of eight bytes and more, a part from the front and one up to the last byte.
+// Copies so many bytes of the work space to an offset behind them.
 fn copy_inside(work: &mut [u8], from: usize, to: usize, size: usize)
     requires { (from + size ≤ to) × (to + size ≤ length work.old) }
     ensures { work.new ≡ sets work.old to (part work.old from size) }
 {
-    if size < 8 {
-        copy_bytes(work, from, to, size);
-        return;
-    }
-    if size < 16 {
-        let last = size - 8;
-        copy_word(work, from, to);
-        copy_word(work, from + last, to + last);
-        return;
-    }
-    copy_long(work, from, to, size);
+    let (before, behind) = work.split_at_mut(to);
+    behind[..size].copy_from_slice(&before[from..from + size]);
 }
 
 // Composes from len on the bytes from at to the offset to, with sep before the string of so many bytes at txt. The string's length stands before it.

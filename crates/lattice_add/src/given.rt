@@ -15,18 +15,10 @@ pub fn add_given(work: &mut [u8], lattice: Lattice, given: &[u8], at: usize, to:
         × ((es : List Edge) → Holds work.old lattice es
         → Holds work.new result (add es (edge_at given.now at))) }
 {
-    let count = lattice.count;
     let len = lattice.len;
-    match lattice::find::plan_add(work, lattice, given, at, to - at - 2, to) {
-        Adding::Nothing => lattice,
-        Adding::TooMuch => Lattice { count, len: 0 },
-        Adding::Into(bucket) => {
-            fields::copy::copy_in(work, len, &given[at..to]);
-            lattice::link::link(work, count, len, bucket);
-            Lattice {
-                count: count + 1,
-                len: len + (to - at),
-            }
-        }
+    let plan = lattice::find::plan_add(work, lattice, given, at, to - at - 2, to);
+    if let Adding::Into(_) = plan {
+        fields::copy::copy_in(work, len, &given[at..to]);
     }
+    crate::add_planned(work, lattice, plan, len + (to - at))
 }

@@ -6,7 +6,7 @@ ghost use Rattle.lattice.specs.Lattice.{add};
 ghost use Rattle.lattice.specs.Kept.{Holds, SameBehind};
 ghost use Rattle.fields.specs.Fields.{u16_limit};
 
-use edge::{NumFields, Written};
+use edge::NumFields;
 use lattice::Lattice;
 use text::Place;
 
@@ -31,11 +31,17 @@ pub fn add_numeric(
         → Holds work.new result (add es (numeric start.0 end.0 ty.now txt.now
         orig.now script.now value.now num))) }
 {
-    let len = lattice.len;
-    match edge_write::numeric::write_numeric(
-        work, len, start, end, ty, txt, num, orig, script, value,
-    ) {
-        Written::To(to) => crate::add_edge(work, lattice, 8 + ty.len() + txt.len(), to),
-        Written::NoRoom => lattice,
-    }
+    let written = edge_write::numeric::write_numeric(
+        work,
+        lattice.len,
+        start,
+        end,
+        ty,
+        txt,
+        num,
+        orig,
+        script,
+        value,
+    );
+    crate::add_written(work, lattice, 8 + ty.len() + txt.len(), written)
 }

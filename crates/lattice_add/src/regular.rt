@@ -6,7 +6,6 @@ ghost use Rattle.lattice.specs.Lattice.{add};
 ghost use Rattle.lattice.specs.Kept.{Holds, SameBehind};
 ghost use Rattle.fields.specs.Fields.{u16_limit};
 
-use edge::Written;
 use lattice::Lattice;
 use text::Place;
 
@@ -25,9 +24,6 @@ pub fn add_regular(
         × ((es : List Edge) → Holds work.old lattice es
         → Holds work.new result (add es (regular start.0 end.0 ty.now txt.now))) }
 {
-    let len = lattice.len;
-    match edge_write::regular::write_regular(work, len, start, end, ty, txt) {
-        Written::To(to) => crate::add_edge(work, lattice, 8 + ty.len() + txt.len(), to),
-        Written::NoRoom => lattice,
-    }
+    let written = edge_write::regular::write_regular(work, lattice.len, start, end, ty, txt);
+    crate::add_written(work, lattice, 8 + ty.len() + txt.len(), written)
 }

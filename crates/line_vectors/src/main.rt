@@ -15,6 +15,7 @@ fn head(k: u64) {
 fn print_all<R: Print>(rt: &R, s: &[u8]) -> std::io::Result<()> {
     let mut from = 0;
     let mut k = 1;
+    // Kept as a while: a line has a length of its own, and a `?` is in the loop, which a closure of `rows_of` cannot leave by.
     while from < s.len() {
         let end = print_line::read::line_end(s, from);
         head(k);

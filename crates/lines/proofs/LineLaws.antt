@@ -6,7 +6,6 @@ use mathlib.Core.Bool.{Bool, true, false, cond, not, ◌&&◌}
 use mathlib.Core.List.{List, [], ◌∷◌, ◌++◌}
 use native.Mathlib.Omega.{arith}
 use native.Mathlib.Decide.{dec_lt}
-use native.Mathlib.Numerals.{add-one}
 use lib.Dec.{eqb}
 use lib.ListN.{length, take, drop, get_or, drop_of_length-le, length-drop}
 use lib.Seq.{take-suc, get_or-drop}
@@ -15,7 +14,6 @@ use Rattle.text.proofs.RowLaws.{and-true}
 use Rattle.text.proofs.SequenceLaws.{drop_at}
 use Rattle.fields.specs.Part.{part}
 use Rattle.fields.proofs.PartLaws.{length_part}
-use Rattle.lines.specs.declared.next_line.LineEnd.{LineEnd}
 use Rattle.lines.specs.Lines.{newline, Line, line, longer, lines_of, NoNewline, LineAt}
 
 -- ---- bytes without a newline before lines

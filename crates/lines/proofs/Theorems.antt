@@ -10,7 +10,6 @@
 use Prim.Native.Nat.{ℕ, ◌≤◌}
 use mathlib.Core.Path.{◌≡◌, refl, sym, ap, ◌∙◌}
 use mathlib.Core.List.{List, [], ◌∷◌, ◌++◌, append_assoc, append-nil}
-use native.Mathlib.Omega.{arith}
 use lib.ListN.{length, drop}
 use borrow.Author.Tests.{le-ltb}
 use Rattle.table.specs.Table.{Table}
@@ -19,7 +18,7 @@ use Rattle.lattice.specs.Lattice.{most_bytes}
 use Rattle.numbers.specs.Call.{answer_by, add_numbers, no_edges}
 use Rattle.numbers.specs.Ready.{work_size}
 use Rattle.lines.specs.Lines.{Line, line, lines_of}
-use Rattle.lines.specs.Pages.{entry_bytes, entry_of, entries_of, fitting, bytes_of_all, taken, page_of, add_numbers_to_lines, page_bytes, next_of, called, left_by}
+use Rattle.lines.specs.Pages.{entry_bytes, entry_of, entries_of, fitting, bytes_of_all, taken, page_of, add_numbers_to_lines, page_bytes, called, left_by}
 use Rattle.lines.proofs.RowLaws.{page_part, all_taken, entry_short, page_takes, bytes_none}
 
 -- "no bytes are no line, a newline alone is one empty line, `a` newline `b` are two"

@@ -14,7 +14,7 @@ use Rattle.std.specs.Prelude.{ℕ, ◌+◌, ◌-◌, cond, List, [], ◌∷◌, 
 use Rattle.std.proofs.lemmas.List.Edits.{sets}
 use Rattle.fields.specs.Fields.{bytes_of}
 use Rattle.table.specs.Table.{Table}
-use Rattle.table.specs.Check.{Checked, Fine, Refused, read_table}
+use Rattle.table.specs.Check.{Checked, Fine, Refused, read_table, cause_number}
 use Rattle.lattice.specs.Lattice.{most_bytes}
 use Rattle.numbers.specs.Call as numbers
 use Rattle.numbers.specs.Ready.{work_size}
@@ -77,7 +77,7 @@ page_of es = page (bytes_of_all es) (taken es)
 
 -- "4 or 5 with the table's offset"
 abbrev pub after_table : List ℕ → List ℕ → ℕ → Checked Table → Answer
-after_table lines table out (Refused number at) = refused number at
+after_table lines table out (Refused cause at) = refused (cause_number cause) at
 after_table lines table out (Fine t at) = page_of (fitting out (entries_of table lines))
 
 -- "The whole is refused 1, then 4 or 5"

@@ -12,21 +12,20 @@ ghost use Rattle.numbers.specs.Call.{finished, after_checks, no_edges};
 ghost use Rattle.lines.specs.Pages.{answer_for};
 ghost use Rattle.lines.specs.Steps.{TableReady, Left};
 
-use answers::{Answer, Refusal};
-use call::stages::{CallKind, StagesAnswer};
+use answers::Refusal;
+use call::stages::CallKind;
 use lattice::Lattice;
 use table::index::INDEX_SIZE;
 use table::shape::Shape;
-use text::LineCheck;
 
 // The answer for a finished lattice.
-fn finished_answer(lattice: Lattice) -> Answer
+fn finished_answer(lattice: Lattice) -> Result<usize, Refusal>
     ensures { (u : List ℕ) (es : List Edge) → Holds u lattice es → Left u result (finished most_bytes es) }
 {
     if lattice.len == 0 {
-        return Answer::Refused(Refusal::TooLong);
+        return Err(Refusal::TooLong);
     }
-    Answer::Listing(lattice.len)
+    Ok(lattice.len)
 }
 
 // The stages of the call, for a line of so many characters.
@@ -38,14 +37,14 @@ fn stages_answer(
     shape: Shape,
     index: &[u32; INDEX_SIZE],
     entries: usize,
-) -> Answer
+) -> Result<usize, Refusal>
     requires { (work_size ≤ length work.old) × Ready line.now table.now shape places
         × RecordIndex table.now shape index.now entries }
     ensures { Left work.new result (after_checks false (table_of table.now shape)
         (chars line.now) most_bytes (listed no_edges)) }
 {
     let none = [0u8; 2];
-    match call::stages::run_stages(
+    let lattice = call::stages::run_stages(
         work,
         line,
         table,
@@ -56,10 +55,9 @@ fn stages_answer(
         index,
         entries,
         CallKind::First,
-    ) {
-        StagesAnswer::Above(p) => Answer::Refused(Refusal::AboveTop(p)),
-        StagesAnswer::Made(l) => finished_answer(l),
-    }
+    )
+    .map_err(Refusal::AboveTop)?;
+    finished_answer(lattice)
 }
 
 // The answer for any line.
@@ -70,13 +68,10 @@ pub fn answer_line(
     shape: Shape,
     index: &[u32; INDEX_SIZE],
     entries: usize,
-) -> Answer
+) -> Result<usize, Refusal>
     requires { (work_size ≤ length work.old) × TableReady table.now shape index.now entries }
     ensures { Left work.new result (answer_for table.now line.now) }
 {
-    match text::check::check_line(line) {
-        LineCheck::IllFormed(at) => Answer::Refused(Refusal::NotUtf8(at)),
-        LineCheck::TooLong(at) => Answer::Refused(Refusal::OverLong(at)),
-        LineCheck::Chars(n) => stages_answer(work, line, n, table, shape, index, entries),
-    }
+    let places = text::check::check_line(line)?;
+    stages_answer(work, line, places, table, shape, index, entries)
 }

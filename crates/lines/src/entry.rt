@@ -2,33 +2,15 @@
 ghost use Rattle.std.specs.Prelude.{◌≡◌, ◌+◌, ◌≤◌, length};
 ghost use Rattle.std.proofs.lemmas.List.Edits.{sets};
 ghost use Rattle.numbers.specs.Ready.{work_size};
-ghost use Rattle.answers.specs.Answers.{answer_of};
 ghost use Rattle.lines.specs.Pages.{answer_for, status_bytes, entry_bytes};
-ghost use Rattle.lines.specs.Steps.{TableReady, brief_length, EntryIs};
+ghost use Rattle.lines.specs.Steps.{TableReady, EntryIs};
 
-use answers::{Answer, CStatus};
+use answers::CStatus;
 use table::index::INDEX_SIZE;
 use table::shape::Shape;
 
 // The bytes of an entry before its listing.
 const HEAD: usize = 12;
-
-// What putting an entry answers: the offset behind it, or that it does not fit.
-#[derive(Clone, Copy)]
-pub enum EntryPut {
-    To(usize),
-    NoRoom,
-}
-
-// The bytes of an answer's listing.
-fn listing_len(answer: Answer) -> usize
-    ensures { result ≡ brief_length (answer_of answer) }
-{
-    match answer {
-        Answer::Listing(n) => n,
-        Answer::Refused(_) => 0,
-    }
-}
 
 // Status and number.
 fn put_status(out: &mut [u8], at: usize, told: CStatus)
@@ -51,18 +33,18 @@ pub fn add_entry(
     shape: Shape,
     index: &[u32; INDEX_SIZE],
     entries: usize,
-) -> EntryPut
+) -> Option<usize>
     requires { (at ≤ length out.old) × (work_size ≤ length work.old)
         × TableReady table.now shape index.now entries }
     ensures { EntryIs out.old out.new at
         (entry_bytes (answer_for table.now line.now)) result }
 {
     let answer = crate::answer::answer_line(work, line, table, shape, index, entries);
-    let len = listing_len(answer);
+    let len = answer.unwrap_or(0);
     if out.len() - at < HEAD + len {
-        return EntryPut::NoRoom;
+        return None;
     }
     put_status(out, at, answers::answer_told(answer));
     fields::copy::copy_in(out, at + HEAD, &work[..len]);
-    EntryPut::To(at + HEAD + len)
+    Some(at + HEAD + len)
 }

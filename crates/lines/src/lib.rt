@@ -12,25 +12,19 @@ ghost use Rattle.lines.specs.Pages.{entries_of, add_numbers_to_lines, out_after}
 ghost use Rattle.lines.specs.Steps.{TableReady, Fills};
 ghost use Rattle.lines.specs.Told.{lines_told, answer_told};
 
-use crate::entry::{EntryPut, add_entry};
+use crate::entry::add_entry;
 use crate::next_line::line_at;
 use answers::Refusal;
 use call::WORK_SIZE;
+use call::checks::table_refusal;
 use table::index::INDEX_SIZE;
-use table::shape::{Shape, TableCheck};
+use table::shape::Shape;
 
 // A page: how many bytes were written, and the offset behind the last line answered.
 #[derive(Clone, Copy)]
 pub struct Page {
     pub bytes: usize,
     pub next: usize,
-}
-
-// What the call answers: a page at the front of the output, or a refusal.
-#[derive(Clone, Copy)]
-pub enum LinesAnswer {
-    Page(Page),
-    Refused(Refusal),
 }
 
 // Entries of the lines, from the first on, as many as fit.
@@ -49,27 +43,15 @@ fn fill(
 {
     let mut at = 0;
     let mut next = 0;
+    // Kept as a while loop: the step is the length of the line, which no iterator of std gives.
     while next < lines.len() {
         let l = line_at(lines, next);
-        let end = l.end;
-        match add_entry(
-            out,
-            at,
-            work,
-            &lines[next..end],
-            table,
-            shape,
-            index,
-            entries,
-        ) {
-            EntryPut::To(to) => {
-                at = to;
-                next = l.next;
-            }
-            EntryPut::NoRoom => {
-                return Page { bytes: at, next };
-            }
-        }
+        let line = &lines[next..l.end];
+        let Some(to) = add_entry(out, at, work, line, table, shape, index, entries) else {
+            break;
+        };
+        at = to;
+        next = l.next;
     }
     Page { bytes: at, next }
 }
@@ -80,7 +62,7 @@ pub fn add_numbers_to_lines(
     table: &[u8],
     work: &mut [u8],
     out: &mut [u8],
-) -> LinesAnswer
+) -> Result<Page, Refusal>
     ensures answer { answer_told result ≡ lines_told (add_numbers_to_lines lines.now table.now
         (length work.old) (length out.old)) }
     ensures output { out.new
@@ -88,16 +70,10 @@ pub fn add_numbers_to_lines(
         (length work.old) (length out.old)) }
 {
     if work.len() < WORK_SIZE {
-        return LinesAnswer::Refused(Refusal::ShortWork);
+        return Err(Refusal::ShortWork);
     }
     let mut index = [0u32; INDEX_SIZE];
     let mut entries: usize = 0;
-    match table_check::check_table(table, &mut index, &mut entries) {
-        TableCheck::Refused(number, at) => {
-            LinesAnswer::Refused(call::checks::table_refusal(number, at))
-        }
-        TableCheck::Table(h) => {
-            LinesAnswer::Page(fill(out, work, lines, table, h, &index, entries))
-        }
-    }
+    let shape = table_check::check_table(table, &mut index, &mut entries).map_err(table_refusal)?;
+    Ok(fill(out, work, lines, table, shape, &index, entries))
 }

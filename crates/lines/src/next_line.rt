@@ -35,6 +35,7 @@ fn skip(lines: &[u8], at: usize) -> usize
     ensures { (at ≤ result) × (result ≤ length lines.now) × NoNewline lines.now at result }
 {
     let mut i = at;
+    // Kept as an index loop: it goes by eights to an offset, and `chunks_exact` would give the bytes without it.
     while none_in_eight(lines, i) {
         i += 8;
     }
@@ -46,15 +47,16 @@ pub fn line_at(lines: &[u8], at: usize) -> LineEnd
     requires { at < length lines.now }
     ensures { LineAt lines.now at result }
 {
-    let mut i = skip(lines, at);
-    while i < lines.len() {
+    for i in skip(lines, at)..lines.len() {
         if lines[i] == NEWLINE {
             return LineEnd {
                 end: i,
                 next: i + 1,
             };
         }
-        i += 1;
     }
-    LineEnd { end: i, next: i }
+    LineEnd {
+        end: lines.len(),
+        next: lines.len(),
+    }
 }

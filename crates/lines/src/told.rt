@@ -2,8 +2,10 @@
 ghost use Rattle.std.specs.Prelude.{◌≡◌};
 ghost use Rattle.lines.specs.Told.{answer_told};
 
-use crate::LinesAnswer;
+use crate::Page;
+use answers::Refusal;
 
+// An answer for C.
 #[derive(Clone, Copy)]
 pub struct CPage {
     pub status: u32,
@@ -12,16 +14,16 @@ pub struct CPage {
 }
 
 // A page: its bytes, and the offset behind the last line answered. A refusal: its offset, and 0.
-pub fn page_told(answer: LinesAnswer) -> CPage
+pub fn page_told(answer: Result<Page, Refusal>) -> CPage
     ensures { result ≡ answer_told answer }
 {
     match answer {
-        LinesAnswer::Page(p) => CPage {
+        Ok(p) => CPage {
             status: 0,
             at: p.bytes as u64,
             next: p.next as u64,
         },
-        LinesAnswer::Refused(r) => {
+        Err(r) => {
             let told = answers::refusal_told(r);
             CPage {
                 status: told.status,

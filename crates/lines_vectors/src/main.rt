@@ -5,8 +5,6 @@
 
 ghost use Rattle.std.specs.Prelude.{◌≤◌};
 
-use vectors::ROWS;
-
 // The digit of the lower four bits.
 fn hex_digit(n: u8) -> u8 {
     let d = n % 16;
@@ -14,24 +12,15 @@ fn hex_digit(n: u8) -> u8 {
 }
 
 fn show_bytes(s: &[u8]) {
-    let mut i = 0;
-    while i < s.len() {
-        let two = [hex_digit(s[i] / 16), hex_digit(s[i] % 16)];
+    for b in s {
+        let two = [hex_digit(*b / 16), hex_digit(*b % 16)];
         io::write_all(1, &two);
-        i += 1;
     }
 }
 
 // Whether every byte is a dot, as before the call.
 fn only_dots(s: &[u8]) -> bool {
-    let mut i = 0;
-    while i < s.len() {
-        if s[i] != b'.' {
-            return false;
-        }
-        i += 1;
-    }
-    true
+    s.iter().all(|b| *b == b'.')
 }
 
 fn show_page(out: &[u8], at: usize) {
@@ -87,29 +76,13 @@ fn after_table(lines: &[u8], table: &[u8], row: &[u8]) {
     io::write_all(1, b"\n");
 }
 
-// Takes a table's digits apart into its buffer, and goes on behind them.
-fn after_lines(lines: &[u8], row: &[u8]) {
-    let mut table = io::buffer();
-    let n = vectors::unhex(vectors::word(row), &mut table);
-    after_table(lines, &table[0..n], vectors::rest(row));
-}
-
-// Takes the lines' digits apart into their buffer, and goes on behind them.
+// A row: the lines and a table, then what is behind them.
 fn answer(row: &[u8]) {
-    let mut lines = io::buffer();
-    let n = vectors::unhex(vectors::word(row), &mut lines);
-    after_lines(&lines[0..n], vectors::rest(row));
-}
-
-fn replay(input: &[u8], ends: &[usize; ROWS], rows: usize) {
-    for i in 0..rows {
-        answer(vectors::row(input, ends, i));
-    }
+    vectors::with_bytes(row, |lines, rest| {
+        vectors::with_bytes(rest, |table, rest| after_table(lines, table, rest))
+    })
 }
 
 fn main() {
-    let mut input = io::large_buffer();
-    let mut ends = [0usize; ROWS];
-    let rows = vectors::read_rows(&mut input, &mut ends);
-    replay(&input, &ends, rows);
+    vectors::each_row(|row| answer(row));
 }

@@ -2,3 +2,4 @@
 pub mod FoldedBytesLaws
 pub mod MarkLaws
 pub mod AnyLaws
+pub mod TextsLaws

@@ -1,7 +1,7 @@
 -- Laws of markers and signs by their bytes (`specs/Marks.antt`), for this crate's proofs and its callers'.
 -- In order: a well-formed text stands at an offset as at its place; the longest of a list; the lists of a checked table are legal; a list's walk.
 use mathlib.Core.Path.{◌≡◌, refl, sym, ap, ◌∙◌}
-use mathlib.Core.Bool.{Bool, true, false, cond, true≢false}
+use mathlib.Core.Bool.{Bool, true, false, cond}
 use mathlib.Core.List.{List, [], ◌∷◌, ◌++◌, append_assoc}
 use Prim.Native.Nat.{ℕ, zero, suc, ◌+◌, ◌-◌, ◌%◌, ◌≤◌, ◌<◌}
 use native.Mathlib.Omega.{arith}
@@ -9,7 +9,9 @@ use native.Mathlib.Decide.{dec_le}
 use lib.ListN.{length, take, drop, get_or, take-append-drop, length-append, length-map}
 use lib.Seq.{take-append_seam, drop-append_seam, get_or-drop, get_or-take}
 use lib.Dec.{leb, ltb, eqb}
-use borrow.Author.Tests.{le-leb, lt-leb, eq-eqb, ne_eqb, leb-true, ltb-true}
+use Rattle.std.specs.Ordering.{nat_cmp, ord_max}
+use Rattle.std.proofs.lemmas.Bool.Decides.{nat_tests}
+use borrow.Author.Tests.{le-leb, lt-leb, leb-true, ltb-true}
 use Rattle.fields.specs.Part.{part}
 use Rattle.text.specs.Bytes.{same}
 use Rattle.text.specs.Line.{walked}
@@ -23,22 +25,20 @@ use Rattle.text.proofs.RowLaws.{and-true}
 use Rattle.text.proofs.TextLaws.{text_split, well_formed_split, chars_append, chars_scalars, encodes_append, encodes_chars, encodes_well_formed, scalars_drop}
 use Rattle.text.proofs.PlaceLaws.{offset_part, part_bytes}
 use Rattle.table.specs.Table.{Text, Table}
-use Rattle.table.specs.Layout.{Field, Is, Fault, number, text, texts_at, list_at}
-use Rattle.table.specs.Check.{Fine, Refused, item, legal_mark, read_texts, read_list, read_records, read_table}
+use Rattle.table.specs.Layout.{Field, Is, Fault, number, text, list_at}
+use Rattle.table.specs.Check.{Fine, Refused, item, legal_mark, read_texts, read_list, read_records, read_table, bad_layout, bad_content}
 use Rattle.table.proofs.LookupLaws.{then_fine}
 use Rattle.pass_list.specs.StoredEdge.{Every, nil, cons}
 use Rattle.table.specs.Answers.{table_of}
 use Rattle.table.specs.declared.shape.Shape.{Shape}
-use Rattle.table.proofs.LayoutLaws.{many_nil, many_fault, many_cons, list_texts, number_cut}
 use Rattle.numbers.specs.Ready.{Ready}
 use Rattle.numbers.specs.Fractions.{stands_at, larger, longest, longer, marker_at}
-use Rattle.numbers.specs.Fractions as numbers
 use Rattle.numbers.specs.Signs.{ends_at}
 use Rattle.numbers.specs.Folded.{fold, folded}
 use Rattle.numbers.proofs.FoldLaws.{folded_scalars, folded_drop, stands_counts}
 use Rattle.markers.specs.Marks.{folded_bytes, bytes_at, LastDiffers, size_at, longest_at, sign_of, Formed}
 use Rattle.markers.proofs.FoldedBytesLaws.{folded_encodes, last_of, last_at, low_counts}
-use Rattle.markers.specs.declared.Sign.TheVariants as Sign
+use Rattle.std.specs.Prelude.{Some, None}
 
 -- ---- a test and another that say the same
 both_ways : (a b : Bool) → (a ≡ true → b ≡ true) → (b ≡ true → a ≡ true) → a ≡ b
@@ -105,6 +105,10 @@ module _ (a b : ℕ) where
   pub larger_lt : b < a → larger a b ≡ a
   larger_lt h = simp (lt-leb a b h)
 
+-- as std's `max` says it
+pub max_larger : (a b : ℕ) → ord_max nat_cmp a b ≡ larger a b
+max_larger a b = grind (arith, nat_tests)
+
 larger_zero : (a : ℕ) → larger a 0 ≡ a
 larger_zero zero = refl
 larger_zero (suc a) = larger_lt (suc a) 0 (omega arith)
@@ -134,41 +138,24 @@ module _ (s : List ℕ) (at : ℕ) (m : Text) {x : Text} (p : x ≡ m) {b : Bool
   unfolding size_at
   size_none t = rw (ap (bytes_at s at) (sym p) ∙ sym e ∙ t)
 
--- ---- a walk over the texts of the table s: best of those passed, and left of them from next on
-module _ (line : List ℕ) (at : ℕ) (s : List ℕ) where
+-- ---- a walk over the texts of a list: best of those passed, and those that are left
+module _ (line : List ℕ) (at : ℕ) (all : List Text) where
   -- the longest of those passed and those that are left is the longest of all
-  abbrev pub SoFar : ℕ → ℕ → ℕ → ℕ → ℕ → Type 0
-  SoFar from n best next left = larger best (longest_at line at (texts_at left s next)) ≡ longest_at line at (texts_at n s from)
+  abbrev pub SoFar : ℕ → List Text → Type 0
+  SoFar best left = larger best (longest_at line at left) ≡ longest_at line at all
 
-  module _ (from n : ℕ) where
-    pub longest_starts : SoFar from n 0 from n
-    longest_starts = larger_le 0 (longest_at line at (texts_at n s from)) (omega arith)
+  module _ (best : ℕ) {left : List Text} (inv : SoFar best left) where
+    pub longest_turn : {m : Text} {more : List Text} {size next : ℕ} → left ≡ m ∷ more → size ≡ size_at line at m → next ≡ ord_max nat_cmp best size → SoFar next more
+    unfolding longest_at
+    longest_turn {m} {more} {size} {next} e d g =
+        ap (λ (x : ℕ). larger x (longest_at line at more)) (g ∙ max_larger best size ∙ ap (larger best) d)
+        ∙ larger_assoc best (size_at line at m) (longest_at line at more)
+        ∙ ap (λ (ts : List Text). larger best (longest_at line at ts)) (sym e)
+        ∙ inv
 
-    module _ (best next left : ℕ) (inv : SoFar from n best next left) where
-      pub longest_turn : {m : Text} {behind size more : ℕ} → 0 < left → text s next ≡ Is m behind → size ≡ size_at line at m → more ≡ larger best size → SoFar from n more behind (left - 1)
-      unfolding longest_at
-      longest_turn {m} {behind} {size} {more} h e d g =
-          ap (λ (x : ℕ). larger x (longest_at line at (texts_at (left - 1) s behind))) (g ∙ ap (larger best) d)
-          ∙ larger_assoc best (size_at line at m) (longest_at line at (texts_at (left - 1) s behind))
-          ∙ ap (λ (ts : List Text). larger best (longest_at line at ts)) (many_cons text s next left (λ z. omega arith) e)
-          ∙ inv
-
-      no_more : [] ≡ texts_at left s next → best ≡ longest_at line at (texts_at n s from)
-      unfolding longest_at
-      no_more e = sym (larger_zero best) ∙ ap (λ (ts : List Text). larger best (longest_at line at ts)) e ∙ inv
-
-      pub longest_fault : text s next ≡ Fault → best ≡ longest_at line at (texts_at n s from)
-      longest_fault e = no_more (many_fault text s next left e)
-
-      pub longest_ends : left ≤ 0 → best ≡ longest_at line at (texts_at n s from)
-      longest_ends h = no_more (many_nil text s next left (omega arith))
-
-  pub longest_missing : (list : ℕ) → length s ≤ list → 0 ≡ longest_at line at (list_at s list)
-  unfolding longest_at list_at
-  longest_missing list h = rw (number_cut s list 1 (omega arith))
-
-  pub longest_list : (list : ℕ) → list < length s → {r : ℕ} → r ≡ longest_at line at (texts_at (get_or s list 0) s (list + 1)) → r ≡ longest_at line at (list_at s list)
-  longest_list list h e = e ∙ ap (longest_at line at) (sym (list_texts s list h))
+    pub longest_ends : left ≡ [] → best ≡ longest_at line at all
+    unfolding longest_at
+    longest_ends e = sym (larger_zero best) ∙ ap (λ (ts : List Text). larger best (longest_at line at ts)) (sym e) ∙ inv
 
 -- ---- the texts of a checked table's lists are legal: well-formed, and not empty
 abbrev pub Legal : List Text → Type 0
@@ -198,7 +185,7 @@ unfolding item
 mark_legal at Fault e = let z : ◌≡◌ {A = ℕ} 0 1 = cc in absurd (omega arith)
 mark_legal at (Is b k) {m} {next} e = go (legal_mark b) refl e
   where
-    go : (t : Bool) → legal_mark b ≡ t → cond t (Fine b k) (Refused 5 at) ≡ Fine m next → legal_mark m ≡ true
+    go : (t : Bool) → legal_mark b ≡ t → cond t (Fine b k) (Refused bad_content at) ≡ Fine m next → legal_mark m ≡ true
     go true t f = let q : b ≡ m = cc in rw (← q) t
     go false t f = let z : ◌≡◌ {A = ℕ} 0 1 = cc in absurd (omega arith)
 
@@ -233,22 +220,11 @@ table_marks s {t} {end} e =
     go (record { percentage_markers = p.value; fraction_connectors = f.value; plus_signs = u.value; minus_signs = m.value; records = rs.value }) rs.next (eqb rs.next (length s)) rs.rest
     (record { percentages = list_legal s _ p.first; connectors = list_legal s _ f.first; plus = list_legal s _ u.first; minus = list_legal s _ m.first })
   where
-    go : (x : Table) (k : ℕ) (b : Bool) → cond b (Fine x k) (Refused 4 k) ≡ Fine t end → Marks x → Marks t
+    go : (x : Table) (k : ℕ) (b : Bool) → cond b (Fine x k) (Refused bad_layout k) ≡ Fine t end → Marks x → Marks t
     go x k true g h = let q : x ≡ t = cc in rw (← q) h
     go x k false g h = let z : ◌≡◌ {A = ℕ} 0 1 = cc in absurd (omega arith)
 
 -- ---- the marker at a place
-module _ (p c : ℕ) {l : ℕ} (e : l ≡ larger p c) where
-  pub longer_none : l ≡ 0 → numbers.no_marker ≡ longer p c
-  longer_none h = simp (eq-eqb (larger p c) 0 (sym e ∙ h))
-
-  module _ (h : l ≡ 0 → ⊥) where
-    pub longer_percentage : c ≤ p → numbers.percentage p ≡ longer p c
-    longer_percentage k = rw (ne_eqb (larger p c) 0 (λ q. h (e ∙ q))) (simp (le-leb c p k))
-
-    pub longer_connector : p < c → numbers.connector c ≡ longer p c
-    longer_connector k = rw (ne_eqb (larger p c) 0 (λ q. h (e ∙ q))) (simp (lt-leb c p k))
-
 pub marker_is : (line table : List ℕ) (h : Shape) {n : ℕ} → Ready line table h n → (p : ℕ) → p ≤ length (chars line) → {at a b : ℕ}
     → at ≡ offset_of line p → a ≡ longest_at line at (list_at table h.percentages) → b ≡ longest_at line at (list_at table h.connectors)
     → longer a b ≡ marker_at (table_of table h) (chars line) p
@@ -259,17 +235,14 @@ marker_is line table h r p k e f g =
 
 -- ---- a sign before a place
 module _ (w : List ℕ) (p : ℕ) (m : Text) {k : ℕ} (e : k ≡ length (chars m)) where
-  pub sign_far : p < k → Sign.NoSign ≡ sign_of w p m
-  sign_far h = rw (lt-leb (length (chars m)) p (omega arith))
-
   module _ (h : k ≤ p) {b : Bool} (s : b ≡ stands_at w (p - k) m) where
     is_there : ends_at w p m ≡ b
     is_there = rw (le-leb (length (chars m)) p (omega arith), ← e) (sym s)
 
-    pub sign_there : b ≡ true → Sign.Before k ≡ sign_of w p m
+    pub sign_there : b ≡ true → Some k ≡ sign_of w p m
     sign_there t = rw (is_there, t) (rw e)
 
-    pub sign_other : b ≡ false → Sign.NoSign ≡ sign_of w p m
+    pub sign_other : b ≡ false → None ≡ sign_of w p m
     sign_other t = rw (is_there, t)
 
 -- it is none, where its last byte and the last before the place differ in their lowest five bits
@@ -304,10 +277,10 @@ module _ (s : List ℕ) (p : ℕ) (m : Text) (f : well_formed m ≡ true) where
       let mark : get_or m (length m - 1) 0 ≡ last_of 0 (encodes (chars m)) = last_at m ∙ ap (last_of 0) (well_formed_split m f) in
       rw (last, last_at part, mark) (low_counts (take (p - a) (drop a (chars s))) (chars m) same-counts 0 0 refl)
 
-  pub sign_not_before : {end : ℕ} → end ≡ offset_of s p → LastDiffers s end m → Sign.NoSign ≡ sign_of (chars s) p m
+  pub sign_not_before : {end : ℕ} → end ≡ offset_of s p → LastDiffers s end m → None ≡ sign_of (chars s) p m
   sign_not_before {end} e n = go (ends_at (chars s) p m) refl
     where
-      go : (b : Bool) → ends_at (chars s) p m ≡ b → Sign.NoSign ≡ sign_of (chars s) p m
+      go : (b : Bool) → ends_at (chars s) p m ≡ b → None ≡ sign_of (chars s) p m
       go false t = rw t
       go true t =
           let k = and-true (leb (length (chars m)) p) (stands_at (chars s) (p - length (chars m)) m) t in

@@ -12,7 +12,7 @@
 --     sign_of w p m          what `sign_before` answers: the sign m stands directly before place p of the line's characters w, or it does not
 --     Formed ms             each of the texts ms is well-formed
 --     Assumes nothing.
-use Rattle.std.specs.Prelude.{ℕ, zero, suc, ◌+◌, ◌*◌, ◌-◌, ◌%◌, ◌<◌, ◌≡◌, Bool, true, false, cond, ◌&&◌, ◌||◌, List, [], ◌∷◌, length, take, drop, get_or, eqb, leb}
+use Rattle.std.specs.Prelude.{ℕ, zero, suc, ◌+◌, ◌*◌, ◌-◌, ◌%◌, ◌<◌, ◌≡◌, Bool, true, false, cond, ◌&&◌, ◌||◌, List, [], ◌∷◌, length, take, drop, get_or, eqb, leb, Option, Some, None}
 use Rattle.text.specs.Bytes.{same}
 use Rattle.text.specs.Text.{chars, well_formed}
 use Rattle.table.specs.Table.{Text, Table}
@@ -21,9 +21,6 @@ use Rattle.numbers.specs.Fractions.{larger, stands_at}
 use Rattle.numbers.specs.Fractions as numbers
 use Rattle.numbers.specs.Signs.{ends_at}
 use Rattle.markers.specs.declared.Marker.{Marker}
-use Rattle.markers.specs.declared.Marker.TheVariants as Marker
-use Rattle.markers.specs.declared.Sign.{Sign}
-use Rattle.markers.specs.declared.Sign.TheVariants as Sign
 
 -- U+FF01 is EF BC 81, U+FF5E is EF BD 9E; the last two bytes, the first of them times 64, count as the code point does, less 53120
 abbrev pub wide_bytes : ℕ → ℕ → ℕ → Bool
@@ -52,10 +49,10 @@ unfoldable pub longest_at : List ℕ → ℕ → List Text → ℕ
 longest_at s at [] = 0
 longest_at s at (m ∷ ms) = larger (size_at s at m) (longest_at s at ms)
 
-abbrev pub marker_of : Marker → numbers.Marker
-marker_of (Marker.Percentage n) = numbers.percentage n
-marker_of (Marker.Connector n) = numbers.connector n
-marker_of Marker.NoMarker = numbers.no_marker
+abbrev pub marker_of : Option Marker → numbers.Marker
+marker_of (Some (Marker.Percentage n)) = numbers.percentage n
+marker_of (Some (Marker.Connector n)) = numbers.connector n
+marker_of None = numbers.no_marker
 
 unfoldable pub stands_from : List ℕ → ℕ → ℕ → Text → Bool
 stands_from w p zero m = false
@@ -68,8 +65,8 @@ any_stands w p n (m ∷ ms) = stands_from w p n m || any_stands w p n ms
 abbrev pub marked : Table → List ℕ → Bool
 marked t w = any_stands w 0 (length w) t.percentage_markers || any_stands w 0 (length w) t.fraction_connectors
 
-abbrev pub sign_of : List ℕ → ℕ → Text → Sign
-sign_of w p m = cond (ends_at w p m) (Sign.Before (length (chars m))) Sign.NoSign
+abbrev pub sign_of : List ℕ → ℕ → Text → Option ℕ
+sign_of w p m = cond (ends_at w p m) (Some (length (chars m))) None
 
 abbrev pub Formed : List Text → Type 0
 Formed = Every (λ m. well_formed m ≡ true)

@@ -3,6 +3,7 @@
 
 pub mod find; // find.rt: the marker that counts at a place
 pub mod any; // any.rt: whether a line has a marker at all
+pub mod texts; // texts.rt: the texts of a list
 
 ghost use Rattle.std.specs.Prelude.{◌≡◌, true, ◌∷◌, ◌+◌, ◌≤◌, ◌<◌, length, drop};
 ghost use Rattle.text.specs.Text.{chars, well_formed};
@@ -18,14 +19,6 @@ use text::check::PLACES;
 pub enum Marker {
     Percentage(usize),
     Connector(usize),
-    NoMarker,
-}
-
-// Whether a sign stands directly before a place, with its length in characters.
-#[derive(Clone, Copy)]
-pub enum Sign {
-    Before(usize),
-    NoSign,
 }
 
 // The first byte of every wide character.
@@ -46,30 +39,16 @@ fn counted_at(text: &[u8], at: usize) -> Counted
         ≡ result.byte ∷ folded_bytes (drop (at + result.size) text.now)) }
 {
     let first = text[at];
-    if first != LEAD {
-        return Counted {
-            byte: first,
-            size: 1,
-        };
-    }
-    if text.len() - at < 3 {
-        return Counted {
-            byte: first,
-            size: 1,
-        };
+    let itself = Counted {
+        byte: first,
+        size: 1,
+    };
+    if first != LEAD || text.len() - at < 3 {
+        return itself;
     }
     let code = text[at + 1] as usize * 64 + text[at + 2] as usize;
-    if code < 12161 {
-        return Counted {
-            byte: first,
-            size: 1,
-        };
-    }
-    if 12254 < code {
-        return Counted {
-            byte: first,
-            size: 1,
-        };
+    if code < 12161 || 12254 < code {
+        return itself;
     }
     Counted {
         byte: (code - 12128) as u8,
@@ -84,6 +63,7 @@ pub fn stands(line: &[u8], at: usize, marker: &[u8]) -> bool
 {
     let mut here = at;
     let mut next = 0;
+    // Kept as an index loop: a character may have three bytes in one text and one in the other, so the two go on by sizes of their own, which no iterator of std gives.
     while next < marker.len() {
         if line.len() <= here {
             return false;
@@ -116,46 +96,35 @@ fn last_differs(line: &[u8], end: usize, marker: &[u8]) -> bool
     requires { end ≤ length line.now }
     ensures { result ≡ true → LastDiffers line.now end marker.now }
 {
-    let size = marker.len();
-    if size == 0 {
+    let (Some(found), Some(asked)) = (line[..end].last(), marker.last()) else {
         return false;
-    }
-    if end == 0 {
-        return false;
-    }
-    line[end - 1] % 32 != marker[size - 1] % 32
+    };
+    *found % 32 != *asked % 32
 }
 
 // By the sign's characters, counted back from the place.
-fn counted_back(line: &[u8], offs: &[usize; PLACES], here: Place, sign: &[u8]) -> Sign
+fn counted_back(line: &[u8], offs: &[usize; PLACES], here: Place, sign: &[u8]) -> Option<usize>
     requires { (length (chars line.now) ≤ max_chars) × Offsets line.now offs.now
         × (here.0 ≤ length (chars line.now)) × (well_formed sign.now ≡ true) }
     ensures { result ≡ sign_of (chars line.now) here.0 sign.now }
 {
-    let place = here.0;
-    let w = text::line::walk(sign, sign.len());
-    let size = w.count;
-    if place < size {
-        return Sign::NoSign;
+    let size = text::line::walk(sign, sign.len()).count;
+    let from = here.0.checked_sub(size)?;
+    if stands(line, offs[from], sign) {
+        Some(size)
+    } else {
+        None
     }
-    let from = place - size;
-    let at = offs[from];
-    if stands(line, at, sign) {
-        return Sign::Before(size);
-    }
-    Sign::NoSign
 }
 
 // The sign of the table directly before a place of the line. Its characters are counted only where its last byte may stand there.
-pub fn sign_before(line: &[u8], offs: &[usize; PLACES], here: Place, sign: &[u8]) -> Sign
+pub fn sign_before(line: &[u8], offs: &[usize; PLACES], here: Place, sign: &[u8]) -> Option<usize>
     requires { (length (chars line.now) ≤ max_chars) × Offsets line.now offs.now
         × (here.0 ≤ length (chars line.now)) × (well_formed sign.now ≡ true) }
     ensures { result ≡ sign_of (chars line.now) here.0 sign.now }
 {
-    let place = here.0;
-    let end = offs[place];
-    if last_differs(line, end, sign) {
-        return Sign::NoSign;
+    if last_differs(line, offs[here.0], sign) {
+        return None;
     }
     counted_back(line, offs, here, sign)
 }

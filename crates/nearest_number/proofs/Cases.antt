@@ -1,7 +1,7 @@
 -- Examples by computation: an edge that ends or starts at the place counts 0; distances on either side; each rule of the order. Assumes nothing.
 use Prim.Native.Nat.{ℕ}
 use mathlib.Core.Path.{◌≡◌, refl}
-use mathlib.Core.Bool.{Bool, true, false}
+use mathlib.Core.Bool.{true, false}
 use mathlib.Core.List.{[]}
 use mathlib.Core.Option.{none}
 use Rattle.edge.specs.Edge.{Edge}

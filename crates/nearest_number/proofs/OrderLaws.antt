@@ -1,6 +1,6 @@
 -- Laws of the order of numbers (`comes_first` of `specs/Nearest.antt`) and of the walk by it. In order: one comparison; the order; one edge of a list; what is held after
 -- some edges is what `Given` says of them; what `Given` says is held; none. No contract cites this file. Assumes nothing.
-use Prim.Native.Nat.{ℕ, ◌≤◌, ◌<◌}
+use Prim.Native.Nat.{ℕ, ◌<◌}
 use mathlib.Core.Path.{◌≡◌, refl, sym, ap, ◌∙◌}
 use mathlib.Core.Bool.{Bool, true, false, cond, ◌&&◌}
 use mathlib.Core.List.{List, [], ◌∷◌, ◌++◌, append_assoc, append-nil}

@@ -2,8 +2,8 @@
 -- The definitions are in `specs/Nearest.antt` and `proofs/Given.antt`. Assumes nothing.
 use Prim.Native.Nat.{ℕ, ◌≤◌}
 use mathlib.Core.Path.{◌≡◌, refl, sym, ap, ◌∙◌}
-use mathlib.Core.Bool.{Bool, true, false}
-use mathlib.Core.List.{List, [], ◌∷◌, ◌++◌}
+use mathlib.Core.Bool.{true, false}
+use mathlib.Core.List.{List, []}
 use mathlib.Core.Option.{none, some}
 use native.Mathlib.Omega.{arith}
 use Rattle.text.specs.declared.Place.{Place}
@@ -11,18 +11,15 @@ use Rattle.text.specs.Line.{max_chars}
 use Rattle.text.specs.declared.Offset.{Offset}
 use Rattle.edge.specs.Edge.{Edge}
 use Rattle.edge.specs.Layout.{edge_at}
-use Rattle.paths.specs.declared.Found.{Found}
-use Rattle.paths.specs.declared.Found.TheVariants.{At, Nothing}
-use Rattle.paths.specs.declared.ReadCheck.TheVariants as ReadCheck
-use Rattle.paths.specs.declared.EdgeAnswer.TheVariants as EdgeAnswer
 use Rattle.paths.specs.Best.{Best, with_offsets, found}
 use Rattle.paths.specs.Reading.{read_check}
 use Rattle.paths.proofs.BestLaws.{Each}
 use Rattle.paths.proofs.ReadingLaws.{Listed, spans_each}
-use Rattle.nearest_number.specs.Nearest.{is_number, comes_first, nearest, nearest_number}
+use Rattle.nearest_number.specs.Nearest.{comes_first, nearest, nearest_number}
 use Rattle.nearest_number.proofs.Given.{NoNumber, NotBefore, Given}
 use Rattle.nearest_number.proofs.NearestLaws.{nearest_spans, nearest_found}
 use Rattle.nearest_number.proofs.OrderLaws as Laws
+use Rattle.std.specs.Prelude.{Option, Some, None, Ok}
 
 -- ---- the order: two edges never come before each other, and an edge that comes before a second comes before every third that does not come before the second
 pub order_turns : (p : ℕ) (e f : Edge) → comes_first p e f ≡ true → comes_first p f e ≡ false
@@ -49,15 +46,15 @@ pub nearest_none : (p : ℕ) (xs : List (ℕ × Edge)) → (nearest p xs ≡ non
 nearest_none p xs = (held_given p xs none, Laws.no_number_nearest p xs)
 
 -- ---- the call: of a line of n characters and a listing of k edges that the checks do not refuse, and a place that is not above n
-module _ (line s : List ℕ) (p : Place) {n k : ℕ} (readable : read_check line s ≡ ReadCheck.Readable n k) (within : p.0 ≤ n) where
-  answered : (f : Found) → nearest_number line s p ≡ EdgeAnswer.Best f → found (nearest p.0 (with_offsets k s 2)) ≡ f
+module _ (line s : List ℕ) (p : Place) {n k : ℕ} (readable : read_check line s ≡ Ok (n, k)) (within : p.0 ≤ n) where
+  answered : (f : Option Offset) → nearest_number line s p ≡ Ok f → found (nearest p.0 (with_offsets k s 2)) ≡ f
   answered f e = let q = nearest_found line s p readable within refl ∙ e in cc
 
-  pub call_given : (o : Offset) → nearest_number line s p ≡ EdgeAnswer.Best (At o) → Given p.0 (with_offsets k s 2) (o.0, edge_at s o.0)
+  pub call_given : (o : Offset) → nearest_number line s p ≡ Ok (Some o) → Given p.0 (with_offsets k s 2) (o.0, edge_at s o.0)
   unfolding found
-  call_given o e = by (nearest p.0 (with_offsets k s 2)) refl (answered (At o) e)
+  call_given o e = by (nearest p.0 (with_offsets k s 2)) refl (answered (Some o) e)
     where
-      by : (b : Best) → nearest p.0 (with_offsets k s 2) ≡ b → found b ≡ At o → Given p.0 (with_offsets k s 2) (o.0, edge_at s o.0)
+      by : (b : Best) → nearest p.0 (with_offsets k s 2) ≡ b → found b ≡ Some o → Given p.0 (with_offsets k s 2) (o.0, edge_at s o.0)
       by none q f = let z : ◌≡◌ {A = ℕ} 0 1 = cc in absurd (omega arith)
       by (some (x, d)) q f =
           let g = nearest_given p.0 (with_offsets k s 2) (x, d) q in
@@ -66,13 +63,13 @@ module _ (line s : List ℕ) (p : Place) {n k : ℕ} (readable : read_check line
           let edge : d ≡ edge_at s x = (Laws.each_at (Listed max_chars s) g.front (x, d) g.back (rw g.split at listed)).edge in
           rw (← here, ← edge) g
 
-  pub call_none : (nearest_number line s p ≡ EdgeAnswer.Best Nothing → NoNumber (with_offsets k s 2))
-      × (NoNumber (with_offsets k s 2) → nearest_number line s p ≡ EdgeAnswer.Best Nothing)
+  pub call_none : (nearest_number line s p ≡ Ok None → NoNumber (with_offsets k s 2))
+      × (NoNumber (with_offsets k s 2) → nearest_number line s p ≡ Ok None)
   unfolding found
   call_none =
       let xs = with_offsets k s 2 in
-      ((λ e. by (nearest p.0 xs) refl (answered Nothing e)), (λ h. sym (nearest_found line s p readable within (sym (ap found ((nearest_none p.0 xs).1 h))))))
+      ((λ e. by (nearest p.0 xs) refl (answered None e)), (λ h. sym (nearest_found line s p readable within (sym (ap found ((nearest_none p.0 xs).1 h))))))
     where
-      by : (b : Best) → nearest p.0 (with_offsets k s 2) ≡ b → found b ≡ Nothing → NoNumber (with_offsets k s 2)
+      by : (b : Best) → nearest p.0 (with_offsets k s 2) ≡ b → found b ≡ None → NoNumber (with_offsets k s 2)
       by none q f = (nearest_none p.0 (with_offsets k s 2)).0 q
       by (some x) q f = let z : ◌≡◌ {A = ℕ} 0 1 = cc in absurd (omega arith)

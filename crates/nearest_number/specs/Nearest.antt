@@ -9,19 +9,18 @@
 --     nearest_number line s p    what the call answers: the offset of that edge in the listing s, none, or the refusal
 --     held_at s f, Held s f      what is held of the listing s, by its offset f; its span is one of a line
 -- Assumes nothing.
-use Rattle.std.specs.Prelude.{ℕ, ◌+◌, ◌-◌, min, Bool, true, false, cond, ◌&&◌, List, [], ◌∷◌, eqb, ltb, leb}
+use Rattle.std.specs.Prelude.{ℕ, ◌+◌, ◌-◌, min, Bool, true, false, cond, ◌&&◌, List, [], ◌∷◌, eqb, ltb, leb, Some, None, Result, Ok, Err}
 use Rattle.std.proofs.Math.Option.{Option, none, some}
 use Rattle.text.specs.declared.Place.{Place}
 use Rattle.text.specs.Line.{max_chars}
 use Rattle.edge.specs.Edge.{Numeric, Edge}
 use Rattle.edge.specs.Layout.{edge_at}
-use Rattle.paths.specs.declared.Found.{Found}
-use Rattle.paths.specs.declared.Found.TheVariants.{At, Nothing}
 use Rattle.paths.specs.declared.ReadRefusal.TheVariants.{BadPlace}
-use Rattle.paths.specs.declared.EdgeAnswer.{EdgeAnswer}
-use Rattle.paths.specs.declared.EdgeAnswer.TheVariants as EdgeAnswer
 use Rattle.paths.specs.Best.{Best, with_offsets, found}
 use Rattle.paths.specs.Reading.{Spanned, readable, read_check}
+use Rattle.std.specs.Prelude as std
+use Rattle.text.specs.declared.Offset.{Offset}
+use Rattle.paths.specs.declared.ReadRefusal.{ReadRefusal}
 
 -- "the active numeric edge"
 abbrev pub is_active : Option Numeric → Bool
@@ -69,17 +68,17 @@ abbrev pub nearest : ℕ → List (ℕ × Edge) → Best
 nearest p xs = nearest_from p none xs
 
 -- ---- the call: "A place above the line's length is 9, after 6."
-abbrev pub nearest_in : List ℕ → ℕ → ℕ → ℕ → EdgeAnswer
-nearest_in s p n k = cond (leb p n) (EdgeAnswer.Best (found (nearest p (with_offsets k s 2)))) (EdgeAnswer.Refused BadPlace)
+abbrev pub nearest_in : List ℕ → ℕ → ℕ → ℕ → Result (std.Option Offset) ReadRefusal
+nearest_in s p n k = cond (leb p n) (Ok (found (nearest p (with_offsets k s 2)))) (Err BadPlace)
 
-unfoldable pub nearest_number : List ℕ → List ℕ → Place → EdgeAnswer
-nearest_number line s p = readable EdgeAnswer.Refused (nearest_in s p.0) (read_check line s)
+unfoldable pub nearest_number : List ℕ → List ℕ → Place → Result (std.Option Offset) ReadRefusal
+nearest_number line s p = readable Err (nearest_in s p.0) (read_check line s)
 
 -- ---- for the code: an edge is held by its offset
-abbrev pub held_at : List ℕ → Found → Best
-held_at s (At o) = some (o.0, edge_at s o.0)
-held_at s Nothing = none
+abbrev pub held_at : List ℕ → std.Option Offset → Best
+held_at s (Some o) = some (o.0, edge_at s o.0)
+held_at s None = none
 
-abbrev pub Held : List ℕ → Found → Type 0
-Held s (At o) = Spanned max_chars s o.0
-Held s Nothing = Unit {0}
+abbrev pub Held : List ℕ → std.Option Offset → Type 0
+Held s (Some o) = Spanned max_chars s o.0
+Held s None = Unit {0}

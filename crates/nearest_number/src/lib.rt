@@ -8,7 +8,8 @@ ghost use Rattle.paths.specs.Best.{with_offsets, found};
 ghost use Rattle.paths.specs.Reading.{Spanned, Spans};
 ghost use Rattle.nearest_number.specs.Nearest.{is_number, between, comes_first, replaces_held, nearest, held_at, Held, nearest_number};
 
-use paths::{EdgeAnswer, Found, ReadCheck, ReadRefusal};
+use edge::bits;
+use paths::ReadRefusal;
 use text::{Offset, Place};
 
 // Whether the edge at an offset is numeric and active.
@@ -17,10 +18,7 @@ fn is_number(s: &[u8], at: usize) -> bool
     ensures { result ≡ is_number (edge_at s.now at) }
 {
     let map = fields::u16_at(s, at);
-    if !edge::bit(map, 1) {
-        return false;
-    }
-    edge::bit(map, 128)
+    edge::bit(map, bits::NUMERIC) && edge::bit(map, bits::ACTIVE)
 }
 
 // How many characters lie between a place and a span.
@@ -48,17 +46,11 @@ fn comes_first(s: &[u8], at: usize, held: usize, place: Place) -> bool
     let held_end = fields::u16_at(s, held + 4) as usize;
     let far = distance(place, Place(start), Place(end));
     let held_far = distance(place, Place(held_start), Place(held_end));
-    if far != held_far {
-        return far < held_far;
-    }
-    if start != held_start {
-        return start < held_start;
-    }
-    held_end < end
+    (far, start, held_end) < (held_far, held_start, end)
 }
 
 // Whether the edge at an offset is given instead of the one held, which stands before it in the listing.
-fn replaces_held(s: &[u8], at: usize, held: Found, place: Place) -> bool
+fn replaces_held(s: &[u8], at: usize, held: Option<Offset>, place: Place) -> bool
     requires { Spanned max_chars s.now at × Held s.now held }
     ensures { result ≡ replaces_held place.0 (edge_at s.now at) (held_at s.now held) }
 {
@@ -66,40 +58,39 @@ fn replaces_held(s: &[u8], at: usize, held: Found, place: Place) -> bool
         return false;
     }
     match held {
-        Found::Nothing => true,
-        Found::At(o) => comes_first(s, at, o.0, place),
+        None => true,
+        Some(o) => comes_first(s, at, o.0, place),
     }
 }
 
 // The nearest of so many edges. One walk over them.
-fn nearest_of(s: &[u8], count: usize, place: Place) -> Found
+fn nearest_of(s: &[u8], count: usize, place: Place) -> Option<Offset>
     requires { Spans max_chars count s.now 2 }
     ensures { result ≡ found (nearest place.0 (with_offsets count s.now 2)) }
 {
     let mut at = 2;
-    let mut left = count;
-    let mut held = Found::Nothing;
-    while 0 < left {
+    let mut held = None;
+    for _ in 0..count {
         if replaces_held(s, at, held, place) {
-            held = Found::At(Offset(at));
+            held = Some(Offset(at));
         }
         at = edge::next::next_at(s, at);
-        left -= 1;
     }
     held
 }
 
 // The offset of the active numeric edge nearest to a place.
-pub fn nearest_number(line: &[u8], listing: &[u8], place: Place) -> EdgeAnswer
+#[tactic(auto, unfolding(crate::specs::Nearest::nearest_number))]
+pub fn nearest_number(
+    line: &[u8],
+    listing: &[u8],
+    place: Place,
+) -> Result<Option<Offset>, ReadRefusal>
     ensures { result ≡ nearest_number line.now listing.now place }
 {
-    match paths::check::check(line, listing) {
-        ReadCheck::Refused(r) => EdgeAnswer::Refused(r),
-        ReadCheck::Readable(chars, count) => {
-            if chars < place.0 {
-                return EdgeAnswer::Refused(ReadRefusal::BadPlace);
-            }
-            EdgeAnswer::Best(nearest_of(listing, count, place))
-        }
+    let (chars, count) = paths::check::check(line, listing)?;
+    if chars < place.0 {
+        return Err(ReadRefusal::BadPlace);
     }
+    Ok(nearest_of(listing, count, place))
 }

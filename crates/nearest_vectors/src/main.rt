@@ -3,15 +3,9 @@
 #![tactic(auto)]
 
 use text::Place;
-use vectors::ROWS;
 
 fn main() {
-    let mut input = io::large_buffer();
-    let mut ends = [0usize; ROWS];
-    let rows = vectors::read_rows(&mut input, &mut ends);
-    for i in 0..rows {
-        answer(vectors::row(&input, &ends, i));
-    }
+    vectors::each_row(|row| answer(row));
 }
 
 fn report(line: &[u8], listing: &[u8], place: u64) {

@@ -3,7 +3,7 @@
 use Prim.Native.Nat.{ℕ, ◌≤◌}
 use mathlib.Core.Path.{◌≡◌, refl, subst}
 use mathlib.Core.Bool.{Bool, true, false, cond, ◌||◌}
-use mathlib.Core.List.{List, [], ◌∷◌}
+use mathlib.Core.List.{List, []}
 use mathlib.Core.Option.{Option, none, some}
 use lib.Dec.{ltb, eqb}
 use lib.ListN.{length}
@@ -17,11 +17,11 @@ use Rattle.table.specs.Check.{Fine, read_table}
 use Rattle.edge.specs.Edge.{Edge, listing_bytes}
 use Rattle.edge.specs.Layout.{listed, edges_at}
 use Rattle.edge.specs.Check.{check_listing, check_edges}
-use Rattle.edge.specs.declared.ListingCheck.TheVariants as ListingCheck
 use Rattle.passes.specs.Passes.{above_at}
 use Rattle.lattice.specs.Lattice.{overfull}
 use Rattle.numbers.specs.Call.{Answer, listing, refused, answer_by, add_numbers, after_checks, unless_above, finished, lattice_of, no_edges}
 use Rattle.numbers.proofs.Passed.{call_passed}
+use Rattle.std.specs.Prelude.{Ok}
 
 -- the answer is a listing
 abbrev pub Listed : Answer → Type 0
@@ -41,7 +41,7 @@ unless_above_lem none out es = go (overfull es || ltb out (length (listing_bytes
     go false = refl
 unless_above_lem (some p) out es = refl
 
-none_given : (n : ℕ) → check_listing true n no_edges ≡ ListingCheck.Edges 0
+none_given : (n : ℕ) → check_listing true n no_edges ≡ Ok 0
 unfolding check_listing check_edges le_at le part
 none_given n = refl
 

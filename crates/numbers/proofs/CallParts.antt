@@ -19,7 +19,7 @@ use Rattle.passes.specs.Characters.{first_list}
 use Rattle.passes.specs.Passes.{Pass, through, five, fifth_list, above_at}
 use Rattle.passes.specs.Moved.{moved}
 use Rattle.passes.proofs.Parts.{characters_parts, list_parts, above_in_first, above_in_second, parts_well_formed}
-use Rattle.numbers.specs.Call.{Answer, add_numbers, no_edges}
+use Rattle.numbers.specs.Call.{add_numbers, no_edges}
 use Rattle.numbers.proofs.Accepted.{Listed, accepted, seven_at, refused_seven}
 
 -- the table's bytes and the table that they say; the first part, the character between, the second part

@@ -1,7 +1,7 @@
 -- The definition of the call on examples, by computation: 01's example 百分之五; each of the checks 1 to 8 against the next; both sides of the output's length; a wide digit.
 use Prim.Native.Nat.{ℕ}
 use mathlib.Core.Path.{◌≡◌, refl}
-use mathlib.Core.Bool.{Bool, true, false}
+use mathlib.Core.Bool.{Bool, false}
 use mathlib.Core.List.{List, [], ◌∷◌, ◌++◌, map}
 use mathlib.Core.Option
 use mathlib.Core.Option.{Option, none, some}

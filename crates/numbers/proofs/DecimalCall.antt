@@ -1,14 +1,12 @@
 -- 02, S-13: "For lines without a point the call agrees with the first", and for lines with a point that has a record: the finished lattice, and the whole answer with every refusal.
 -- In order: the passes; the lattice; the answer. Assumes nothing.
 use Prim.Native.Nat.{ℕ}
-use mathlib.Core.Path.{◌≡◌, refl, sym, ap, ◌∙◌}
+use mathlib.Core.Path.{◌≡◌, refl, ap, ◌∙◌}
 use mathlib.Core.Bool.{true, false, cond}
 use mathlib.Core.List.{List, [], ◌∷◌, ◌++◌, map, map-append}
 use mathlib.Core.Option.{some}
 use lib.Dec.{eqb, ltb}
 use lib.ListN.{length}
-use Rattle.text.specs.declared.LineCheck.{LineCheck}
-use Rattle.text.specs.declared.LineCheck.TheVariants.{Chars, IllFormed, TooLong}
 use Rattle.text.specs.Text.{chars}
 use Rattle.text.specs.Line.{line_check}
 use Rattle.table.specs.Table.{Table, Record, find}
@@ -16,17 +14,18 @@ use Rattle.table.specs.Check.{Checked, Fine, Refused, read_table}
 use Rattle.edge.specs.Edge.{Edge}
 use Rattle.edge.specs.Layout.{listed}
 use Rattle.edge.specs.Check.{check_listing}
-use Rattle.edge.specs.declared.ListingCheck.{ListingCheck}
-use Rattle.edge.specs.declared.ListingCheck.TheVariants as ListingCheck
 use Rattle.passes.specs.NumEdge.{NumEdge}
 use Rattle.passes.specs.Characters.{first_list}
-use Rattle.passes.specs.Passes.{fifth_list, joined_edges, above_at}
-use Rattle.passes.specs.DecimalPasses.{DecimalEdge, whole_edge, point_character, bare_edges, decimal_first_list, decimal_fifth_list, decimal_joined_edges, decimal_above_at}
+use Rattle.passes.specs.Passes.{fifth_list, joined_edges}
+use Rattle.passes.specs.DecimalPasses.{DecimalEdge, whole_edge, point_character, bare_edges, decimal_joined_edges}
 use Rattle.passes.proofs.ChainsAlike.{Each}
 use Rattle.passes.proofs.DecimalAgrees.{NoPoint, without_point, with_record, fifth_agrees, joined_agrees, above_agrees, bare_whole}
 use Rattle.numbers.specs.Listed.{listed_edge, listed_decimal}
 use Rattle.numbers.specs.Ready.{work_size}
-use Rattle.numbers.specs.Call.{FivePasses, whole_passes, decimal_passes, lattice_from, lattice_by, lattice_of, after_passes, after_signs, decimal_lattice, Answer, listing, refused, finished, unless_above, after_checks, decimal_after_checks, after_edges_check, after_table_check, after_line_check, answer_by, add_numbers, add_numbers_with_decimals, out_after}
+use Rattle.numbers.specs.Call.{FivePasses, whole_passes, decimal_passes, lattice_from, lattice_by, lattice_of, after_passes, after_signs, decimal_lattice, refused, after_checks, decimal_after_checks, after_edges_check, after_table_check, after_line_check, answer_by, add_numbers, add_numbers_with_decimals, out_after}
+use Rattle.std.specs.Prelude.{Result, Ok, Err}
+use Rattle.text.specs.declared.LineRefusal.{LineRefusal}
+use Rattle.text.specs.declared.Offset.{Offset}
 
 -- ---- the passes
 listed_whole : (l : List NumEdge) → map listed_decimal (map whole_edge l) ≡ map listed_edge l
@@ -64,19 +63,19 @@ module _ (line table given : List ℕ) (work out : ℕ) where
   NoPointBy (Refused number at) = Unit {0}
   NoPointBy (Fine t at) = NoPoint t (chars line)
 
-  edges_agree : (t : Table) → NoPoint t (chars line) → (c : ListingCheck)
+  edges_agree : (t : Table) → NoPoint t (chars line) → (c : Result ℕ Offset)
       → after_edges_check decimal_after_checks t (chars line) out given c ≡ after_edges_check (after_checks false) t (chars line) out given c
-  edges_agree t h (ListingCheck.Refused at) = refl
-  edges_agree t h (ListingCheck.Edges n) = stages_agree t (chars line) h out (listed given)
+  edges_agree t h (Err at) = refl
+  edges_agree t h (Ok n) = stages_agree t (chars line) h out (listed given)
 
   table_agrees : (c : Checked Table) → NoPointBy c → after_table_check decimal_after_checks (chars line) out given c ≡ after_table_check (after_checks false) (chars line) out given c
   table_agrees (Refused number at) h = refl
   table_agrees (Fine t at) h = edges_agree t h (check_listing true (length (chars line)) given)
 
-  line_agrees : NoPointBy (read_table table) → (c : LineCheck) → after_line_check decimal_after_checks line table given out c ≡ after_line_check (after_checks false) line table given out c
-  line_agrees h (IllFormed at) = refl
-  line_agrees h (TooLong at) = refl
-  line_agrees h (Chars n) = table_agrees (read_table table) h
+  line_agrees : NoPointBy (read_table table) → (c : Result ℕ LineRefusal) → after_line_check decimal_after_checks line table given out c ≡ after_line_check (after_checks false) line table given out c
+  line_agrees h (Err (LineRefusal.IllFormed at)) = refl
+  line_agrees h (Err (LineRefusal.TooLong at)) = refl
+  line_agrees h (Ok n) = table_agrees (read_table table) h
 
   agrees : NoPointBy (read_table table) → add_numbers_with_decimals line table given work out ≡ add_numbers line table given work out
   unfolding answer_by

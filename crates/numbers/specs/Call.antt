@@ -11,14 +11,12 @@
 --     no_edges                 the edge list without an edge
 --     out_after out a          what the output holds after the answer a, where it held out before
 --     Assumes nothing.
-use Rattle.std.specs.Prelude.{ℕ, Bool, true, false, cond, ◌||◌, List, [], ◌∷◌, ◌++◌, map, length, drop, ltb}
+use Rattle.std.specs.Prelude.{ℕ, Bool, true, false, cond, ◌||◌, List, [], ◌∷◌, ◌++◌, map, length, drop, ltb, Result, Ok, Err}
 use Rattle.std.proofs.Math.Option.{Option, none, some}
-use Rattle.text.specs.declared.LineCheck.{LineCheck}
-use Rattle.text.specs.declared.LineCheck.TheVariants.{Chars, IllFormed, TooLong}
 use Rattle.text.specs.Text.{chars}
 use Rattle.text.specs.Line.{line_check, line_refusal, line_at}
 use Rattle.table.specs.Table.{Table}
-use Rattle.table.specs.Check.{Checked, Fine, Refused, read_table}
+use Rattle.table.specs.Check.{Checked, Fine, Refused, read_table, cause_number}
 use Rattle.passes.specs.NumEdge.{NumEdge}
 use Rattle.passes.specs.Characters.{first_list}
 use Rattle.passes.specs.Passes.{fifth_list, joined_edges, above_at}
@@ -26,8 +24,6 @@ use Rattle.passes.specs.DecimalPasses.{bare_edges, decimal_first_list, decimal_f
 use Rattle.edge.specs.Edge.{Edge, listing_bytes}
 use Rattle.edge.specs.Layout.{listed}
 use Rattle.edge.specs.Check.{check_listing, listing_refusal, listing_place}
-use Rattle.edge.specs.declared.ListingCheck.{ListingCheck}
-use Rattle.edge.specs.declared.ListingCheck.TheVariants as ListingCheck
 use Rattle.lattice.specs.Lattice.{add_all, overfull}
 use Rattle.numbers.specs.Listed.{listed_edge, listed_decimal}
 use Rattle.numbers.specs.Fractions.{fractions}
@@ -36,6 +32,8 @@ use Rattle.numbers.specs.Separators.{separate}
 use Rattle.numbers.specs.Singles.{without_singles}
 use Rattle.numbers.specs.Fallback.{fallback}
 use Rattle.numbers.specs.Ready.{work_size}
+use Rattle.text.specs.declared.LineRefusal.{LineRefusal}
+use Rattle.text.specs.declared.Offset.{Offset}
 
 pub record FivePasses : Type 0 where
   -- the characters, then the joined edges of D1 to G4, as they are listed
@@ -125,20 +123,19 @@ abbrev pub no_edges : List ℕ
 no_edges = 0 ∷ 0 ∷ []
 
 -- 6: the given edges
-abbrev pub after_edges_check : Stages → Table → List ℕ → ℕ → List ℕ → ListingCheck → Answer
-after_edges_check stages t w out given (ListingCheck.Refused at) = refused (listing_refusal (ListingCheck.Refused at)) (listing_place (ListingCheck.Refused at))
-after_edges_check stages t w out given (ListingCheck.Edges n) = stages t w out (listed given)
+abbrev pub after_edges_check : Stages → Table → List ℕ → ℕ → List ℕ → Result ℕ Offset → Answer
+after_edges_check stages t w out given (Err at) = refused (listing_refusal (Err at)) (listing_place (Err at))
+after_edges_check stages t w out given (Ok n) = stages t w out (listed given)
 
 -- 4 and 5: the table
 abbrev pub after_table_check : Stages → List ℕ → ℕ → List ℕ → Checked Table → Answer
-after_table_check stages w out given (Refused number at) = refused number at
+after_table_check stages w out given (Refused cause at) = refused (cause_number cause) at
 after_table_check stages w out given (Fine t at) = after_edges_check stages t w out given (check_listing true (length w) given)
 
 -- 2 and 3: the line
-abbrev pub after_line_check : Stages → List ℕ → List ℕ → List ℕ → ℕ → LineCheck → Answer
-after_line_check stages line table given out (IllFormed at) = refused (line_refusal (IllFormed at)) (line_at (IllFormed at))
-after_line_check stages line table given out (TooLong at) = refused (line_refusal (TooLong at)) (line_at (TooLong at))
-after_line_check stages line table given out (Chars n) = after_table_check stages (chars line) out given (read_table table)
+abbrev pub after_line_check : Stages → List ℕ → List ℕ → List ℕ → ℕ → Result ℕ LineRefusal → Answer
+after_line_check stages line table given out (Err r) = refused (line_refusal (Err r)) (line_at (Err r))
+after_line_check stages line table given out (Ok n) = after_table_check stages (chars line) out given (read_table table)
 
 -- 1: "work space under 65,536 bytes"
 unfoldable pub answer_by : Stages → List ℕ → List ℕ → List ℕ → ℕ → ℕ → Answer

@@ -2,7 +2,7 @@
 --     covered es p      a numeric edge of es has the one-place span from p
 --     fallback es p w   the edges of the ASCII digits among the characters w, the first of them at place p, that have no numeric edge on their place
 --     Assumes nothing.
-use Rattle.std.specs.Prelude.{ℕ, suc, Bool, true, false, cond, ◌&&◌, ◌||◌, not, List, [], ◌∷◌, eqb, leb}
+use Rattle.std.specs.Prelude.{ℕ, suc, Bool, false, cond, ◌&&◌, ◌||◌, not, List, [], ◌∷◌, eqb, leb}
 use Rattle.edge.specs.Edge.{Text, Edge}
 use Rattle.edge.specs.Write.{regular}
 use Rattle.numbers.specs.Fractions.{is_numeric}

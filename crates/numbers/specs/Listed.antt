@@ -3,7 +3,7 @@
 --     listed_decimal e   that of an edge of the passes with decimals (02, S-13)
 --     whole_value e      the value of a listed edge as a whole number, where it has one; an edge with decimals has none
 --     Assumes nothing.
-use Rattle.std.specs.Prelude.{ℕ, zero, suc, Bool}
+use Rattle.std.specs.Prelude.{ℕ, zero, suc}
 use Rattle.std.proofs.Math.Option.{Option, none, some, map}
 use Rattle.std.specs.Float.{binary64}
 use Rattle.std.specs.Float.Ieee.{to_bits, of_bits, to_unsigned}

@@ -4,7 +4,6 @@
 --     signs t w es        G6's edges for the list es after G4: minus then plus signs for each valued edge, in the table's order
 --     Assumes nothing.
 use Rattle.std.specs.Prelude.{ℕ, ◌-◌, Bool, cond, ◌&&◌, List, [], ◌∷◌, ◌++◌, length, leb}
-use Rattle.std.proofs.Math.Option.{Option, none, some}
 use Rattle.text.specs.Text.{chars}
 use Rattle.table.specs.Table.{Text, Table}
 use Rattle.passes.specs.NumEdge.{NumEdge, has}

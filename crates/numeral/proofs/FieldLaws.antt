@@ -12,29 +12,28 @@ use borrow.Author.Tests.{eqb-true, le-leb, leb-true}
 use Rattle.text.specs.Text.{chars, well_formed, encodes}
 use Rattle.text.specs.Line.{line_check}
 use Rattle.text.specs.declared.Offset.{Offset}
-use Rattle.text.specs.declared.LineCheck.{LineCheck}
 use Rattle.text.proofs.TextLaws.{well_formed_split}
 use Rattle.grammar.specs.Plain.{Char, code_point, sixteen, utf8}
 use Rattle.grammar.proofs.Sixteen.{each}
 use Rattle.grammar.proofs.PlainText.{utf8_length}
 use Rattle.grammar.proofs.Demand3.{IsLine, line_of}
-use Rattle.numeral.specs.declared.Value.{Value}
-use Rattle.numeral.specs.declared.Value.TheVariants.{Of, Nothing}
-use Rattle.numeral.specs.declared.Field.{Field}
-use Rattle.numeral.specs.declared.Field.TheVariants.{NotANumber}
 use Rattle.numeral.specs.Numeral.{reads, result, start, numeral_of}
 use Rattle.numeral.specs.Field.{plain_among, plain_char, behind, plain_line, answered, plain_field, checked, field_of}
 use Rattle.numeral.specs.Walk.{capped, plain_text, valued, value_on, value_from}
 use Rattle.numeral.proofs.Capped.{cap_numeral}
 use Rattle.numeral.proofs.WalkLaws.{text_of, of_text}
+use Rattle.std.specs.Prelude.{Some, None, Result, Ok, Err}
+use Rattle.std.specs.Prelude as std
+use Rattle.numeral.specs.declared.FieldRefusal.{FieldRefusal}
+use Rattle.text.specs.declared.LineRefusal.{LineRefusal}
 
 -- ---- values
-valued_none : (o : Option ℕ) → valued o ≡ Nothing → o ≡ none
+pub valued_none : (o : Option ℕ) → valued o ≡ None → o ≡ none
 valued_none none e = refl
-valued_none (some v) e = let z : ◌≡◌ {A = ℕ} 0 1 = cc in absurd (omega arith)
+valued_none (some v) e = absurd cc
 
-valued_some : (o : Option ℕ) (n : ℕ) → valued o ≡ Of n → o ≡ some n
-valued_some none n e = let z : ◌≡◌ {A = ℕ} 0 1 = cc in absurd (omega arith)
+pub valued_some : (o : Option ℕ) (n : ℕ) → valued o ≡ Some n → o ≡ some n
+valued_some none n e = absurd cc
 valued_some (some v) n e = let q : v ≡ n = cc in ap some q
 
 -- ---- characters and code points
@@ -90,43 +89,43 @@ module _ (line : List ℕ) where
   unfolding utf8
   well_formed_plain w f e = well_formed_split line f ∙ ap encodes e
 
-  pub no_numeral : ((w : List Char) → line ≡ utf8 w → length w ≤ 256 → answered (numeral_of w) ≡ NotANumber) → checked (line_check line) NotANumber ≡ field_of line
+  pub no_numeral : ((w : List Char) → line ≡ utf8 w → length w ≤ 256 → answered (numeral_of w) ≡ Ok None) → checked (line_check line) (Ok None) ≡ field_of line
   unfolding field_of
   no_numeral h = go (plain_line (chars line)) refl
     where
       in_turn : (w : List Char) → chars line ≡ map code_point w → (t : Bool) → well_formed line ≡ t → (s : Bool) → leb (length (chars line)) 256 ≡ s
-          → (x : LineCheck) (y z : Offset) → checked (cond t (cond s x (LineCheck.TooLong y)) (LineCheck.IllFormed z)) NotANumber ≡ checked (cond t (cond s x (LineCheck.TooLong y)) (LineCheck.IllFormed z)) (answered (numeral_of w))
+          → (x : Result ℕ LineRefusal) (y z : Offset) → checked (cond t (cond s x (Err (LineRefusal.TooLong y))) (Err (LineRefusal.IllFormed z))) (Ok None) ≡ checked (cond t (cond s x (Err (LineRefusal.TooLong y))) (Err (LineRefusal.IllFormed z))) (answered (numeral_of w))
       in_turn w e false f s k x y z = refl
       in_turn w e true f false k x y z = refl
       in_turn w e true f true k x y z = ap (checked x) (sym (h w (well_formed_plain w f e) (omega (arith, leb-true (length (chars line)) 256 k, ap length e ∙ length-map w code_point))))
 
-      go : (o : Option (List Char)) → plain_line (chars line) ≡ o → checked (line_check line) NotANumber ≡ checked (line_check line) (plain_field o)
+      go : (o : Option (List Char)) → plain_line (chars line) ≡ o → checked (line_check line) (Ok None) ≡ checked (line_check line) (plain_field o)
       go none e = refl
       go (some w) e = in_turn w (line_plain (chars line) w e) (well_formed line) refl (leb (length (chars line)) 256) refl _ _ _
 
   -- ---- what the code answers
-  pub checked_no : {c d : LineCheck} → c ≡ d → c ≡ line_check line → checked d NotANumber ≡ checked (line_check line) NotANumber
-  checked_no q e = ap (λ (x : LineCheck). checked x NotANumber) (sym q ∙ e)
+  pub checked_no : {c : Result ℕ LineRefusal} → c ≡ line_check line → checked c (Ok None) ≡ checked (line_check line) (Ok None)
+  checked_no e = ap (λ (c : Result ℕ LineRefusal). checked c (Ok None)) e
 
-  pub too_many_bytes : 768 < length line → {f : Field} → f ≡ checked (line_check line) NotANumber → f ≡ field_of line
+  pub too_many_bytes : 768 < length line → {f : Result (std.Option ℕ) FieldRefusal} → f ≡ checked (line_check line) (Ok None) → f ≡ field_of line
   too_many_bytes h q = q ∙ no_numeral (λ w e k. absurd (omega (arith, ap length e ∙ utf8_length w)))
 
-  pub no_value : {v : Value} → v ≡ value_from start (drop 0 line) → v ≡ Nothing → {f : Field} → f ≡ checked (line_check line) NotANumber → f ≡ field_of line
+  pub no_value : {v : std.Option ℕ} → v ≡ value_from start (drop 0 line) → v ≡ None → {f : Result (std.Option ℕ) FieldRefusal} → f ≡ checked (line_check line) (Ok None) → f ≡ field_of line
   unfolding value_from
   no_value {v} e n q = q ∙ no_numeral (λ w is k. sym (cap_numeral w) ∙ nothing w is)
     where
-      nothing : (w : List Char) → line ≡ utf8 w → answered (result capped (reads capped start w)) ≡ NotANumber
+      nothing : (w : List Char) → line ≡ utf8 w → answered (result capped (reads capped start w)) ≡ Ok None
       nothing w is = ap answered (valued_none (result capped (reads capped start w)) (sym e' ∙ n))
         where
           e' : v ≡ valued (result capped (reads capped start w))
           e' = e ∙ ap (value_on start) (ap plain_text is ∙ text_of w)
 
-  pub a_value : {v : Value} → length line ≤ 768 → v ≡ value_from start (drop 0 line) → (n : ℕ) → v ≡ Of n → {f : Field} → f ≡ answered (some n) → f ≡ field_of line
+  pub a_value : {v : std.Option ℕ} → length line ≤ 768 → v ≡ value_from start (drop 0 line) → (n : ℕ) → v ≡ Some n → {f : Result (std.Option ℕ) FieldRefusal} → f ≡ answered (some n) → f ≡ field_of line
   unfolding value_from
   a_value {v} h e n q {f} a = go (plain_text line) refl
     where
       go : (o : Option (List Char)) → plain_text line ≡ o → f ≡ field_of line
-      go none p = let z : Of n ≡ Nothing = sym q ∙ e ∙ ap (value_on start) p in let y : ◌≡◌ {A = ℕ} 0 1 = cc in absurd (omega arith)
+      go none p = let z : (Some n) ≡ None = sym q ∙ e ∙ ap (value_on start) p in let y : ◌≡◌ {A = ℕ} 0 1 = cc in absurd (omega arith)
       go (some w) p =
           let r : result capped (reads capped start w) ≡ some n = valued_some _ n (sym (ap (value_on start) p) ∙ sym e ∙ q) in
           let is = of_text line w p in

@@ -16,13 +16,14 @@ use Rattle.passes.specs.Passes.{above_at}
 use Rattle.grammar.specs.Plain.{Char, code_point, plain, utf8}
 use Rattle.grammar.specs.Grammar.{Reading, division_value}
 use Rattle.grammar.proofs.Demand3.{IsLine, OneEdge, Settled, demand3}
-use Rattle.numeral.specs.declared.Field.TheVariants.{Number, AboveTop, NotANumber}
 use Rattle.numeral.specs.Numeral.{numeral_of, Valued}
 use Rattle.numeral.specs.Field.{plain_line, answered, plain_field, field_of}
 use Rattle.numeral.proofs.Sound.{sound_numeral}
 use Rattle.numeral.proofs.Found.{found}
 use Rattle.numeral.proofs.AnswerLaws.{yes_of, above_of, no_of, none_of}
 use Rattle.numeral.proofs.FieldLaws.{accepted_field, plain_field_lem, utf8_field, line_plain}
+use Rattle.std.specs.Prelude.{Some, None, Ok, Err}
+use Rattle.numeral.specs.declared.FieldRefusal.TheVariants as FieldRefusal
 
 -- ---- what is said
 
@@ -33,9 +34,9 @@ pub record Accepted (line : List ℕ) : Type 0 where
 
 -- the answer for a line whose characters are w, all of the table; `Valued w v`: w has a reading of value v
 pub record Answers (line : List ℕ) (w : List Char) : Type 0 where
-  pub yes : (v : ℕ) → (field_of line ≡ Number v) ↔ (Valued w v × (v ≤ TOP))
-  pub above : (field_of line ≡ AboveTop) ↔ ((v : ℕ) × Valued w v × (TOP < v))
-  pub no : (field_of line ≡ NotANumber) ↔ (Reading w → ⊥)
+  pub yes : (v : ℕ) → (field_of line ≡ Ok (Some v)) ↔ (Valued w v × (v ≤ TOP))
+  pub above : (field_of line ≡ Err FieldRefusal.AboveTop) ↔ ((v : ℕ) × Valued w v × (TOP < v))
+  pub no : (field_of line ≡ Ok None) ↔ (Reading w → ⊥)
 
 -- ---- `numeral_of` is the grammar's
 pub reading_value : (w : List Char) (r : Reading w) → numeral_of w ≡ some (division_value r.division)
@@ -66,7 +67,7 @@ module _ (line : List ℕ) (w : List Char) (is : IsLine line w) (short : length 
   }
 
   -- "On every line of table characters that the five passes accept, its yes and its value are theirs."
-  pub as_the_passes : above_at plain (chars line) ≡ none → (v : ℕ) → (field_of line ≡ Number v) ↔ ((e : NumEdge) × OneEdge line e × (e.value ≡ some v))
+  pub as_the_passes : above_at plain (chars line) ≡ none → (v : ℕ) → (field_of line ≡ Ok (Some v)) ↔ ((e : NumEdge) × OneEdge line e × (e.value ≡ some v))
   as_the_passes fine v = (
     λ h. let (r, q) = ((answers.yes v).0 h).0 in let (e, o) = s.one_edge.1 r in (e, o, (s.same_value e o r).value ∙ ap some q),
     λ h.
@@ -80,13 +81,13 @@ module _ (line : List ℕ) (w : List Char) (is : IsLine line w) (short : length 
       s = demand3 line w is fine
 
 -- "one with a character outside the table"
-pub outside : (line : List ℕ) → Accepted line → ((w : List Char) → chars line ≡ map code_point w → ⊥) → field_of line ≡ NotANumber
+pub outside : (line : List ℕ) → Accepted line → ((w : List Char) → chars line ≡ map code_point w → ⊥) → field_of line ≡ Ok None
 outside line a n = accepted_field line a.is_well_formed a.not_long ∙ go (plain_line (chars line)) refl
   where
-    go : (o : Option (List Char)) → plain_line (chars line) ≡ o → plain_field o ≡ NotANumber
+    go : (o : Option (List Char)) → plain_line (chars line) ≡ o → plain_field o ≡ Ok None
     go none e = refl
     go (some w) e = absurd (n w (line_plain (chars line) w e))
 
 -- the bytes of a numeral up to TOP are answered with its value
-pub field_of_reading : (w : List Char) → length w ≤ 256 → (r : Reading w) (v : ℕ) → division_value r.division ≡ v → v ≤ TOP → field_of (utf8 w) ≡ Number v
+pub field_of_reading : (w : List Char) → length w ≤ 256 → (r : Reading w) (v : ℕ) → division_value r.division ≡ v → v ≤ TOP → field_of (utf8 w) ≡ Ok (Some v)
 field_of_reading w h r v e l = utf8_field w h ∙ (yes_of (numeral_of w) v).1 (reading_value w r ∙ ap some e, l)

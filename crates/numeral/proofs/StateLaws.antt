@@ -9,12 +9,11 @@ use borrow.Author.Tests.{le-leb, lt-leb, eq-eqb, ne_eqb}
 use Rattle.whole.specs.Whole.{TOP}
 use Rattle.numeral.specs.declared.Blocks.{Blocks}
 use Rattle.numeral.specs.declared.Atoms.{Atoms}
-use Rattle.numeral.specs.declared.Value.{Value}
-use Rattle.numeral.specs.declared.Value.TheVariants.{Of, Nothing}
-use Rattle.numeral.specs.declared.Field.TheVariants.{Number, AboveTop}
 use Rattle.numeral.specs.Numeral.{in_numeral, in_small, grown, another, with_digit, with_ten, total, fits, retagged, result}
 use Rattle.numeral.specs.Field.{answered}
 use Rattle.numeral.specs.Walk.{capped, valued}
+use Rattle.std.specs.Prelude.{Option, Some, None, Ok, Err}
+use Rattle.numeral.specs.declared.FieldRefusal.TheVariants as FieldRefusal
 
 -- ---- a test's two sides
 pub passed : {A : Type 0} {t : Bool} (x y : A) → t ≡ true → x ≡ cond t x y
@@ -23,10 +22,10 @@ passed x y e = rw e
 pub not_passed : {A : Type 0} {t : Bool} (x y : A) → t ≡ false → y ≡ cond t x y
 not_passed x y e = rw e
 
-pub answer_within : (v : ℕ) → v ≤ TOP → Number v ≡ answered (some v)
+pub answer_within : (v : ℕ) → v ≤ TOP → Ok (Some v) ≡ answered (some v)
 answer_within v h = passed _ _ (le-leb v TOP h)
 
-pub answer_above : (v : ℕ) → TOP < v → AboveTop ≡ answered (some v)
+pub answer_above : (v : ℕ) → TOP < v → Err FieldRefusal.AboveTop ≡ answered (some v)
 answer_above v h = not_passed _ _ (lt-leb v TOP h)
 
 -- ---- atoms
@@ -44,21 +43,21 @@ module _ (s : Atoms) (d : ℕ) where
   ten_begins r h er = er ∙ not_passed _ _ h
 
 -- ---- the line's end
-pub empty_ends : (b : Blocks) → b.base ≡ 0 → Nothing ≡ valued (result capped (in_numeral b))
+pub empty_ends : (b : Blocks) → b.base ≡ 0 → None ≡ valued (result capped (in_numeral b))
 empty_ends b h = rw (eq-eqb b.base 0 h)
 
-pub blocks_end : (b : Blocks) → (b.base ≡ 0 → ⊥) → Of b.sum ≡ valued (result capped (in_numeral b))
+pub blocks_end : (b : Blocks) → (b.base ≡ 0 → ⊥) → Some b.sum ≡ valued (result capped (in_numeral b))
 blocks_end b h = rw (ne_eqb b.base 0 h)
 
 -- a last small that counts as v and n
 module _ (b : Blocks) (v n : ℕ) where
-  pub last_fits : {t : Bool} (p : ℕ) → t ≡ fits b v n → t ≡ true → p ≡ capped (b.sum + v) → Of p ≡ valued (cond (fits b v n) (some (capped (b.sum + v))) none)
+  pub last_fits : {t : Bool} (p : ℕ) → t ≡ fits b v n → t ≡ true → p ≡ capped (b.sum + v) → Some p ≡ valued (cond (fits b v n) (some (capped (b.sum + v))) none)
   last_fits p e h ep = rw (← e, h, ep)
 
-  pub last_too_large : {t : Bool} → t ≡ fits b v n → t ≡ false → Nothing ≡ valued (cond (fits b v n) (some (capped (b.sum + v))) none)
+  pub last_too_large : {t : Bool} → t ≡ fits b v n → t ≡ false → None ≡ valued (cond (fits b v n) (some (capped (b.sum + v))) none)
   last_too_large e h = rw (← e, h)
 
-module _ (b : Blocks) (s : Atoms) (r : Value) where
+module _ (b : Blocks) (s : Atoms) (r : Option ℕ) where
   pub single_ends : (t : ℕ) → retagged b s ≡ true → t ≡ capped (s.value * (b.base / 10)) → r ≡ valued (cond (fits b t (b.base / 10)) (some (capped (b.sum + t))) none) → r ≡ valued (result capped (in_small b s))
   single_ends t h et er = er ∙ rw (h, et)
 

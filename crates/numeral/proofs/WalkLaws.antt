@@ -15,11 +15,11 @@ use Rattle.grammar.proofs.Sixteen.{each}
 use Rattle.table_grammar.proofs.Tests.{and_left, and_right}
 use Rattle.grammar.proofs.PlainText.{utf8_nil, utf8_append, char_three}
 use Rattle.numeral.specs.declared.Glyph.{Glyph}
-use Rattle.numeral.specs.declared.Value.TheVariants.{Nothing}
 use Rattle.numeral.specs.Numeral.{State, failed, step, take_digit, take_ten, take_large, result}
 use Rattle.numeral.specs.Field.{behind}
 use Rattle.numeral.specs.Walk.{capped, glyph, three, first, second, third, number, by_number, glyph_if, glyph_of, ThreeAt, by_bytes, glyph_at, onto, plain_text, valued, value_on, value_from}
 use Rattle.numeral.proofs.Sound.{reads_failed}
+use Rattle.std.specs.Prelude.{None}
 
 -- ---- three bytes as one number
 byte_char : (k : Char) → (first (code_point k) < 256) × (second (code_point k) < 256) × (third (code_point k) < 256)
@@ -189,7 +189,7 @@ module _ (line : List ℕ) (at : ℕ) (a : State) where
   Goes (Glyph.Digit v) = Taken (take_digit capped a v)
   Goes (Glyph.Ten v) = Taken (take_ten capped a v)
   Goes (Glyph.Large v) = Taken (take_large capped a v)
-  Goes Glyph.Other = Nothing ≡ value_from a (drop at line)
+  Goes Glyph.Other = None ≡ value_from a (drop at line)
   Goes Glyph.End = valued (result capped a) ≡ value_from a (drop at line)
 
   goes : (g : Glyph) → Starts (drop at line) g → Goes g
@@ -204,10 +204,10 @@ module _ (line : List ℕ) (at : ℕ) (a : State) where
   at_glyph e = rw e (goes (glyph_at (drop at line)) (starts (drop at line)))
 
 -- a line that is none any more stays so
-pub from_failed : (s : List ℕ) → Nothing ≡ value_from failed s
+pub from_failed : (s : List ℕ) → None ≡ value_from failed s
 unfolding value_from
 from_failed s = go (plain_text s)
   where
-    go : (o : Option (List Char)) → Nothing ≡ value_on failed o
+    go : (o : Option (List Char)) → None ≡ value_on failed o
     go none = refl
     go (some w) = sym (ap (λ (x : State). valued (result capped x)) (reads_failed capped w))

@@ -4,16 +4,16 @@
 --     answered o       the answer for a line whose value, as a numeral, is o
 --     field_of line     the answer for the line, as bytes
 --     Assumes nothing.
-use Rattle.std.specs.Prelude.{ℕ, cond, List, [], ◌∷◌, leb, eqb}
+use Rattle.std.specs.Prelude.{ℕ, cond, List, [], ◌∷◌, leb, eqb, Some, None, Result, Ok, Err}
 use Rattle.std.proofs.Math.Option.{Option, none, some}
 use Rattle.text.specs.Text.{chars}
 use Rattle.text.specs.Line.{line_check}
-use Rattle.text.specs.declared.LineCheck.{LineCheck}
 use Rattle.whole.specs.Whole.{TOP}
 use Rattle.grammar.specs.Plain.{Char, code_point, sixteen}
-use Rattle.numeral.specs.declared.Field.{Field}
-use Rattle.numeral.specs.declared.Field.TheVariants.{Number, AboveTop, NotANumber, IllFormed, TooLong}
 use Rattle.numeral.specs.Numeral.{numeral_of}
+use Rattle.std.specs.Prelude as std
+use Rattle.numeral.specs.declared.FieldRefusal.{FieldRefusal}
+use Rattle.text.specs.declared.LineRefusal.{LineRefusal}
 
 unfoldable pub plain_among : List Char → ℕ → Option Char
 plain_among [] c = none
@@ -32,20 +32,19 @@ plain_line [] = some []
 plain_line (c ∷ cs) = elim (plain_char c) [ some k ↦ behind k (plain_line cs) | none ↦ none ]
 
 -- "It says yes with the value exactly for a numeral whose value is at most TOP, refuses with 7 at place 0 exactly for a numeral whose value is above TOP"
-abbrev pub answered : Option ℕ → Field
-answered none = NotANumber
-answered (some v) = cond (leb v TOP) (Number v) AboveTop
+abbrev pub answered : Option ℕ → Result (std.Option ℕ) FieldRefusal
+answered none = Ok None
+answered (some v) = cond (leb v TOP) (Ok (Some v)) (Err FieldRefusal.AboveTop)
 
 -- "and says no to every other line, the empty one and one with a character outside the table among them."
-abbrev pub plain_field : Option (List Char) → Field
-plain_field none = NotANumber
+abbrev pub plain_field : Option (List Char) → Result (std.Option ℕ) FieldRefusal
+plain_field none = Ok None
 plain_field (some w) = answered (numeral_of w)
 
 -- "The refusals 2 and 3 come first, as in 01."
-abbrev pub checked : LineCheck → Field → Field
-checked (LineCheck.Chars n) f = f
-checked (LineCheck.IllFormed at) f = IllFormed at
-checked (LineCheck.TooLong at) f = TooLong at
+abbrev pub checked : Result ℕ LineRefusal → Result (std.Option ℕ) FieldRefusal → Result (std.Option ℕ) FieldRefusal
+checked (Ok n) f = f
+checked (Err r) f = Err (FieldRefusal.Line r)
 
-unfoldable pub field_of : List ℕ → Field
+unfoldable pub field_of : List ℕ → Result (std.Option ℕ) FieldRefusal
 field_of line = checked (line_check line) (plain_field (plain_line (chars line)))

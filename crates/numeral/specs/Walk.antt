@@ -8,15 +8,14 @@
 --     valued o          the value o
 --     value_from a s     the value of a line that is read to the state a and goes on with the bytes s
 --     Assumes nothing.
-use Rattle.std.specs.Prelude.{ℕ, ◌+◌, ◌*◌, ◌/◌, ◌%◌, ◌<◌, min, ◌≡◌, cond, ◌&&◌, List, [], ◌∷◌, eqb, get_or}
+use Rattle.std.specs.Prelude.{ℕ, ◌+◌, ◌*◌, ◌/◌, ◌%◌, ◌<◌, min, ◌≡◌, cond, ◌&&◌, List, [], ◌∷◌, eqb, get_or, Some, None}
 use Rattle.std.proofs.Math.Option.{Option, none, some}
 use Rattle.whole.specs.Whole.{TOP}
 use Rattle.grammar.specs.Plain.{Char, digit, ten, large, digit_value, ten_value, large_value, code_point, sixteen}
 use Rattle.numeral.specs.declared.Glyph.{Glyph}
-use Rattle.numeral.specs.declared.Value.{Value}
-use Rattle.numeral.specs.declared.Value.TheVariants.{Of, Nothing}
 use Rattle.numeral.specs.Numeral.{State, reads, result}
 use Rattle.numeral.specs.Field.{behind}
+use Rattle.std.specs.Prelude as std
 
 abbrev pub capped : ℕ → ℕ
 capped n = min n (TOP + 1)
@@ -83,13 +82,13 @@ plain_text (a ∷ b ∷ []) = none
 plain_text (a ∷ b ∷ c ∷ s) = onto (by_bytes sixteen a b c) (plain_text s)
 
 -- ---- values
-abbrev pub valued : Option ℕ → Value
-valued none = Nothing
-valued (some v) = Of v
+abbrev pub valued : Option ℕ → std.Option ℕ
+valued none = None
+valued (some v) = Some v
 
-abbrev pub value_on : State → Option (List Char) → Value
-value_on a none = Nothing
+abbrev pub value_on : State → Option (List Char) → std.Option ℕ
+value_on a none = None
 value_on a (some w) = valued (result capped (reads capped a w))
 
-unfoldable pub value_from : State → List ℕ → Value
+unfoldable pub value_from : State → List ℕ → std.Option ℕ
 value_from a s = value_on a (plain_text s)

@@ -7,7 +7,10 @@ pub mod plain; // plain.rt: the plain table's character at an offset
 pub mod state; // state.rt: how the blocks and the small that are read take the next character
 pub mod read; // read.rt: numeral, block and small, which call each other; the answer
 
-use text::Offset;
+ghost use Rattle.std.specs.Prelude.{◌≡◌};
+ghost use Rattle.numeral.specs.declared.FieldRefusal.TheVariants as FieldRefusal;
+
+use text::LineRefusal;
 
 // What stands at an offset: a digit, 十百千 or 万億兆 by its value; anything else; the end.
 #[derive(Clone, Copy)]
@@ -20,6 +23,7 @@ pub enum Glyph {
 }
 
 // The blocks before a member: the sum of their values, and the last one's base; base 0 where there is none.
+// Kept with 0 for no base: 01's table of forms names a chain state with sum and last base.
 #[derive(Clone, Copy)]
 pub struct Blocks {
     pub sum: u64,
@@ -28,6 +32,7 @@ pub struct Blocks {
 
 // A small as far as it is read. Of its last atom: value and base (a run has base 1), whether it is a run of one character, whether it is the small's first.
 // Of the atoms before the last: the sum, and the base of the nearest one that isn't a lone 零, 0 where there is none.
+// Kept with `first` beside `near`: a small's first atom and one behind lone 零 alone both have no such base, and only the first may stand.
 #[derive(Clone, Copy)]
 pub struct Atoms {
     pub sum: u64,
@@ -38,19 +43,17 @@ pub struct Atoms {
     pub lone: bool,
 }
 
-// The value of a numeral, or TOP + 1 where it is more; nothing where the line is none.
+// Why a field is refused: a numeral above TOP (7); not UTF-8, or over 256 characters (2, 3), with the offset.
 #[derive(Clone, Copy)]
-pub enum Value {
-    Of(u64),
-    Nothing,
+pub enum FieldRefusal {
+    AboveTop,
+    Line(LineRefusal),
 }
 
-// What a field is: a numeral of this value, at most TOP; a numeral above TOP; no numeral; not UTF-8, or over 256 characters, with the offset.
-#[derive(Clone, Copy)]
-pub enum Field {
-    Number(u64),
-    AboveTop,
-    NotANumber,
-    IllFormed(Offset),
-    TooLong(Offset),
+impl From<LineRefusal> for FieldRefusal {
+    ghost from_gives = { λ e r. r ≡ FieldRefusal.Line e };
+
+    fn from(e: LineRefusal) -> FieldRefusal {
+        FieldRefusal::Line(e)
+    }
 }

@@ -31,18 +31,13 @@ fn glyph_of(bytes: u32) -> Glyph
     }
 }
 
-fn wide(b: u8) -> u32
-    ensures { (result ≡ b) × (result < 256) }
-{
-    b as u32
-}
-
 // Three bytes as one number.
 fn three(line: &[u8], at: usize) -> u32
     requires { at + 3 ≤ length line.now }
     ensures { ThreeAt line.now at result }
 {
-    wide(line[at]) * 65536 + wide(line[at + 1]) * 256 + wide(line[at + 2])
+    // Kept as a sum: u32::from_be_bytes takes four bytes, and a character has three.
+    u32::from(line[at]) * 65536 + u32::from(line[at + 1]) * 256 + u32::from(line[at + 2])
 }
 
 // What stands at an offset.

@@ -7,7 +7,7 @@ ghost use Rattle.numeral.specs.Field.{answered};
 ghost use Rattle.numeral.specs.Walk.{capped, valued};
 
 use crate::sums::{longer, plus, times};
-use crate::{Atoms, Blocks, Field, Value};
+use crate::{Atoms, Blocks, FieldRefusal};
 use whole::TOP;
 
 // A small's first atom, as its first character has it.
@@ -25,13 +25,13 @@ pub fn first_atom(value: u64, base: u64, lone: bool) -> Atoms
 }
 
 // The answer for a numeral of this value.
-pub fn answer(value: u64) -> Field
+pub fn answer(value: u64) -> Result<Option<u64>, FieldRefusal>
     ensures { result ≡ answered (some value) }
 {
     if value <= TOP {
-        return Field::Number(value);
+        return Ok(Some(value));
     }
-    Field::AboveTop
+    Err(FieldRefusal::AboveTop)
 }
 
 impl Atoms {
@@ -123,27 +123,27 @@ impl Blocks {
     }
 
     // The line ends behind a block, or is empty.
-    pub fn ended(self) -> Value
+    pub fn ended(self) -> Option<u64>
         ensures { result ≡ valued (Numeral.result capped (in_numeral self)) }
     {
         if self.base == 0 {
-            return Value::Nothing;
+            return None;
         }
-        Value::Of(self.sum)
+        Some(self.sum)
     }
 
     // The line ends with a small that counts as this value and base.
-    fn with_last(self, value: u64, base: u64) -> Value
+    fn with_last(self, value: u64, base: u64) -> Option<u64>
         ensures { result ≡ valued (cond (fits self value base) (some (capped (self.sum + value))) none) }
     {
         if self.fits(value, base) {
-            return Value::Of(plus(self.sum, value));
+            return Some(plus(self.sum, value));
         }
-        Value::Nothing
+        None
     }
 
     // The line ends behind a small. "A last small that is a single 一 to 九 after a block counts as digit times base/10, with base/10."
-    pub fn ended_small(self, s: Atoms) -> Value
+    pub fn ended_small(self, s: Atoms) -> Option<u64>
         ensures { result ≡ valued (Numeral.result capped (in_small self s)) }
     {
         if (self.base != 0) & (s.first & (s.lone & (s.value >= 1))) {

@@ -22,7 +22,7 @@ fn put_name(buf: &mut [u8], letter: u8, digit: u8) -> usize
     2
 }
 
-// The name of a pass.
+// The name of a pass. Kept as bytes put into a buffer, not as Display: they become a part of the listing, and a formatter over the buffer would come on top.
 fn put_pass(buf: &mut [u8], pass: Pass) -> usize
     requires { 2 ≤ length buf.old }
     ensures { Front buf.old buf.new result (kind_name (kind_number (Joined pass))) }

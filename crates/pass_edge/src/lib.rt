@@ -61,11 +61,3 @@ pub fn put_text(buf: &mut [u8], txt: &[u8]) -> usize
     fields::copy::copy_in(buf, 0, txt);
     txt.len()
 }
-
-// The fraction of a stored edge, where it has one.
-#[derive(Clone, Copy)]
-pub struct Fraction {
-    pub there: bool,
-    pub numerator: u64,
-    pub denominator: u64,
-}

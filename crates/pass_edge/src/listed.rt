@@ -11,15 +11,15 @@ ghost use Rattle.lattice.specs.Lattice.{add};
 ghost use Rattle.lattice.specs.Kept.{Holds, SameBehind};
 ghost use Rattle.pass_edge.specs.Texts.{TextsAre};
 ghost use Rattle.pass_edge.specs.Adding.{listed_of};
-ghost use Rattle.pass_edge.specs.Fields.{stored_fraction, FractionIs, stored_map, divided, part_or, stored_fields, Listable};
+ghost use Rattle.pass_edge.specs.Fields.{stored_fraction, FractionIs, stored_map, divided, part_or, parts, stored_fields, Listable};
 
-use crate::Fraction;
 use edge::{NumData, NumFields, bits};
 use fields::Part;
 use fields::write::bit_if;
 use lattice::Lattice;
 use pass_list::kind::is_row;
 use pass_list::record::PassEdge;
+use passes::ratio::Ratio;
 use text::Offset;
 use text::check::PLACES;
 
@@ -67,8 +67,23 @@ fn part_or(there: bool, at: Offset, len: usize) -> Part
     }
 }
 
+// What stands above and below the line of a fraction, or 0 twice where there is none.
+fn parts(fraction: Option<Ratio>) -> (u64, u64)
+    ensures { result ≡ parts fraction }
+{
+    match fraction {
+        Some(r) => (r.numerator, r.denominator),
+        None => (0, 0),
+    }
+}
+
 // The fields of a stored edge with this fraction, whose txt has so many bytes.
-fn fields_of(offs: &[usize; PLACES], edge: PassEdge, fraction: Fraction, len: usize) -> NumFields
+fn fields_of(
+    offs: &[usize; PLACES],
+    edge: PassEdge,
+    fraction: Option<Ratio>,
+    len: usize,
+) -> NumFields
     requires { Listable offs.now edge }
     ensures { result ≡ stored_fields offs.now edge fraction len }
 {
@@ -83,11 +98,12 @@ fn fields_of(offs: &[usize; PLACES], edge: PassEdge, fraction: Fraction, len: us
     let script = part_or(edge.num.has_script, edge.num.script, edge.num.script_len);
     let kind = edge.kind;
     let value_s = part_or(is_row(kind), Offset(0), len);
+    let (numerator, denominator) = parts(fraction);
     edge::data::num_fields(NumData {
-        map: map_of(edge, fraction.there),
+        map: map_of(edge, fraction.is_some()),
         value: listed_value(edge.num.value, edge.num.decimals),
-        numerator: fraction.numerator,
-        denominator: fraction.denominator,
+        numerator: numerator,
+        denominator: denominator,
         base: edge.num.base,
         base_multiplier: edge.num.base_multiplier,
         orig: orig,
@@ -97,7 +113,7 @@ fn fields_of(offs: &[usize; PLACES], edge: PassEdge, fraction: Fraction, len: us
     })
 }
 
-// A stored edge with this fraction and these texts is added to the lattice.
+// A stored edge with this fraction and these texts is added to the lattice. Its parameters stay separate: `lattice_add::numeric::add_numeric` takes them so.
 pub fn add_texts(
     work: &mut [u8],
     lattice: Lattice,
@@ -105,7 +121,7 @@ pub fn add_texts(
     offs: &[usize; PLACES],
     table: &[u8],
     edge: PassEdge,
-    fraction: Fraction,
+    fraction: Option<Ratio>,
     ty: &[u8],
     txt: &[u8],
 ) -> Lattice

@@ -15,6 +15,7 @@ pub fn place_offsets(line: &[u8], offs: &mut [usize; PLACES])
 {
     let mut count = 0;
     let mut at = 0;
+    // Kept as a while loop: the step is the length of a character, which no iterator of std over bytes gives.
     while at < line.len() {
         offs[count] = at;
         let c = text::known::char_at(line, Offset(at));

@@ -4,7 +4,7 @@ ghost use Rattle.pass_list.specs.StoredEdge.{num_data, EdgeIs, Small};
 ghost use Rattle.pass_list.specs.Layout.{SIZE};
 ghost use Rattle.pass_list.specs.Stored.{stored_at};
 
-use crate::kind::{Kind, kind_from};
+use crate::kind::Kind;
 use crate::layout;
 use crate::record::{PassData, PassEdge};
 use text::{Offset, Place};
@@ -39,7 +39,7 @@ pub fn kind_at(list: &[u8], at: usize) -> Kind
     requires { at + SIZE ≤ length list.now }
     ensures { result ≡ (stored_at list.now at).kind }
 {
-    kind_from(fields::u16_at(list, at + layout::KIND_AT))
+    Kind::from(fields::u16_at(list, at + layout::KIND_AT))
 }
 
 // The edge that stands at an offset.

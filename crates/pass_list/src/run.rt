@@ -1,6 +1,6 @@
-// The five passes, and what a pass over a list answers. `pass_rules` has their rules, `pass_run` runs them.
-use text::Place;
+// The five passes. `pass_rules` has their rules, `pass_run` runs them.
 
+// Kept as an enum that functions match on, not a trait with five types: a stored edge names the pass that joined it, so that the pass is a value.
 #[derive(Clone, Copy)]
 pub enum Pass {
     D1,
@@ -8,11 +8,4 @@ pub enum Pass {
     G2,
     G3,
     G4,
-}
-
-// What a pass gives: how many edges the list has then; or the start of the first joined edge whose value is above TOP (refusal 7).
-#[derive(Clone, Copy)]
-pub enum PassAnswer {
-    Edges(usize),
-    Above(Place),
 }

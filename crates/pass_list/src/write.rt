@@ -5,7 +5,6 @@ ghost use Rattle.pass_list.specs.StoredEdge.{StoredEdge, EdgeIs, NumIs};
 ghost use Rattle.pass_list.specs.Layout.{SIZE, value_at};
 ghost use Rattle.pass_list.specs.Stored.{map_of, num_bytes, record_bytes};
 
-use crate::kind::kind_number;
 use crate::layout;
 use crate::record::{PassData, PassEdge};
 use fields::write::bit_if;
@@ -51,8 +50,7 @@ pub fn write_edge(out: &mut [u8], at: usize, e: PassEdge)
 {
     fields::write::put_u16(out, at, e.start.0 as u16);
     fields::write::put_u16(out, at + layout::END_AT, e.end.0 as u16);
-    let kind = e.kind;
-    fields::write::put_u16(out, at + layout::KIND_AT, kind_number(kind));
+    fields::write::put_u16(out, at + layout::KIND_AT, u16::from(e.kind));
     fields::write::put_u16(out, at + layout::MAP_AT, map_of(e.num));
     put_num(out, at, e.record_at.0 as u64, e.num);
 }

@@ -9,10 +9,11 @@ ghost use Rattle.pass_rules.specs.Chain.{pass_chain, ChainIs, answer};
 use crate::counted::counted;
 use crate::joined::joined_edge;
 use crate::meets::{joined_decimals, meets};
-use crate::value::{Over, value_over};
+use crate::value::value_over;
 use crate::{d1_rule, g1_rule, g2_rule, g3_rule, g4_rule};
 use pass_list::record::PassEdge;
 use pass_list::run::Pass;
+use whole::AboveTop;
 
 #[derive(Clone, Copy)]
 pub struct Chain {
@@ -21,16 +22,7 @@ pub struct Chain {
     // whether anything was joined
     pub more: bool,
     // the base of the chain's nearest edge, from its end, that isn't a gap
-    pub has_near: bool,
-    pub near: u64,
-}
-
-// What the next edge does to a chain: the chain with it; the chain ends before it; a value above TOP.
-#[derive(Clone, Copy)]
-pub enum Next {
-    Longer(Chain),
-    Ends,
-    Above,
+    pub near: Option<u64>,
 }
 
 // Whether the pass joins e, as it counts, to the chain, where they touch.
@@ -47,8 +39,12 @@ fn ruled(pass: Pass, c: Chain, e: PassEdge) -> bool
         }
         Pass::G2 => {
             let plain = c.edge.num.has_value & !c.edge.num.large_power & !e.num.large_power;
-            let both = c.has_near & e.num.has_value & e.num.has_base;
-            g2_rule(plain, both, c.near, value, e.num.base, e.num.gap)
+            let near = if e.num.has_value & e.num.has_base {
+                c.near
+            } else {
+                None
+            };
+            g2_rule(plain, near, value, e.num.base, e.num.gap)
         }
         Pass::G3 => g3_rule(
             c.more,
@@ -69,50 +65,37 @@ impl Chain {
     pub fn begin(e: PassEdge) -> Self
         ensures { (y : StoredEdge) → e ≡ pass_edge y → result ≡ pass_chain (begin y) }
     {
-        if e.num.gap {
-            return Chain {
-                edge: e,
-                more: false,
-                has_near: false,
-                near: 0,
-            };
-        }
+        let near = if e.num.gap { None } else { Some(e.num.base) };
         Chain {
             edge: e,
             more: false,
-            has_near: true,
-            near: e.num.base,
+            near: near,
         }
     }
 
     // The chain takes the next edge, where the pass joins it, and hands itself back.
-    pub fn join(mut self, pass: Pass, e: PassEdge) -> Next
+    pub fn join(mut self, pass: Pass, e: PassEdge) -> Result<Option<Chain>, AboveTop>
         requires { ((x : StoredChain) × ChainIs self x) × ((y : StoredEdge) × EdgeIs e y) }
         ensures { (x : StoredChain) (y : StoredEdge) → ChainIs self x → EdgeIs e y
             → result ≡ answer (pass_of pass) x y }
     {
         let last = self.edge;
         if !meets(pass, last, e) {
-            return Next::Ends;
+            return Ok(None);
         }
         let r = counted(pass, last, e);
         if !ruled(pass, self, r) {
-            return Next::Ends;
+            return Ok(None);
         }
-        match value_over(pass, last, r) {
-            Over::Apart => Next::Ends,
-            Over::Above => Next::Above,
-            Over::Value(v) => {
-                let decimals = joined_decimals(pass, last, e);
-                let over = joined_edge(pass, last, r, v, decimals);
-                self.edge = over;
-                self.more = true;
-                if !e.num.gap {
-                    self.has_near = true;
-                    self.near = e.num.base;
-                }
-                Next::Longer(self)
-            }
+        let Some(v) = value_over(pass, last, r)? else {
+            return Ok(None);
+        };
+        let decimals = joined_decimals(pass, last, e);
+        self.edge = joined_edge(pass, last, r, v, decimals);
+        self.more = true;
+        if !e.num.gap {
+            self.near = Some(e.num.base);
         }
+        Ok(Some(self))
     }
 }

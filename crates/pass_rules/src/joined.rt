@@ -10,20 +10,18 @@ use pass_list::kind::Kind;
 use pass_list::record::PassEdge;
 use pass_list::run::Pass;
 use text::Offset;
-use whole::Bounded;
+use whole::AboveTop;
 
 // The value that a further digit makes.
-fn with_digit(l: f64, r: f64) -> Bounded
+fn with_digit(l: f64, r: f64) -> Result<f64, AboveTop>
     ensures { (m n : ℕ) → m ≤ TOP → n ≤ TOP → l ≡ of_nat m → r ≡ of_nat n → result ≡ value (10 * m + n) }
 {
-    match whole::product(10.0, l) {
-        Bounded::Fits(tens) => whole::sum(tens, r),
-        Bounded::Above => Bounded::Above,
-    }
+    let tens = whole::product(10.0, l)?;
+    whole::sum(tens, r)
 }
 
 // The value over a chain of value l and a next edge that counts r, both without decimals; D1's with any.
-pub fn joined_value(pass: Pass, l: f64, r: f64) -> Bounded
+pub fn joined_value(pass: Pass, l: f64, r: f64) -> Result<f64, AboveTop>
     ensures { (m n : ℕ) → m ≤ TOP → n ≤ TOP → l ≡ of_nat m → r ≡ of_nat n
         → result ≡ value (value_of (pass_of pass) 0 m n) }
 {
@@ -40,13 +38,7 @@ pub fn joined_value(pass: Pass, l: f64, r: f64) -> Bounded
 fn makes_large_power(pass: Pass) -> bool
     ensures { result ≡ eqb (kind_of (pass_of pass)) 4 }
 {
-    match pass {
-        Pass::D1 => false,
-        Pass::G1 => false,
-        Pass::G2 => false,
-        Pass::G3 => true,
-        Pass::G4 => false,
-    }
+    matches!(pass, Pass::G3)
 }
 
 // The edge over l and r, of value v with so many decimals.

@@ -8,7 +8,7 @@ pub mod meets; // meets.rt: where a chain and the next edge meet
 pub mod value; // value.rt: the value over two edges, by their decimals
 pub mod chain; // chain.rt: what the next edge does to a chain
 
-ghost use Rattle.std.specs.Prelude.{◌≡◌, ◌&&◌, not};
+ghost use Rattle.std.specs.Prelude.{◌≡◌, ◌&&◌, not, cond, Some, None};
 ghost use Rattle.pass_list.specs.StoredEdge.{StoredEdge};
 ghost use Rattle.pass_list.specs.StoredPass.{StoredChain, comparable, d1_rule, g1_rule, g2_rule, g3_rule, g4_rule};
 
@@ -28,15 +28,19 @@ pub fn g1_rule(more: bool, left: u64, value: u64, base: u64, large: bool) -> boo
     !more & (left == 1) & (1 <= value) & (1 < base) & !large
 }
 
-// G2 (the Rust's apply_g2_addition): whether the chain has a value and neither is a large power; whether both are there to be compared, the base before a gap with the next one's value
+// G2 (the Rust's apply_g2_addition): whether the chain has a value and neither is a large power; the base before a gap, where it is there to be compared with the next one's value
 // and base; and whether the next is a gap.
-pub fn g2_rule(plain: bool, both: bool, near: u64, value: u64, base: u64, gap: bool) -> bool
+pub fn g2_rule(plain: bool, near: Option<u64>, value: u64, base: u64, gap: bool) -> bool
     ensures { (x : StoredChain) (y : StoredEdge)
-        → plain ≡ x.edge.has_value && not x.edge.large_power && not y.large_power → both ≡ comparable x y
-        → near ≡ x.near → value ≡ y.value → base ≡ y.base → gap ≡ y.gap → result ≡ g2_rule x y }
+        → plain ≡ x.edge.has_value && not x.edge.large_power && not y.large_power
+        → near ≡ cond (comparable x y) (Some x.near) None → value ≡ y.value → base ≡ y.base → gap ≡ y.gap
+        → result ≡ g2_rule x y }
 {
-    let exceeds = (value < near) & (base < near);
-    plain & ((both & exceeds) | (!both & gap))
+    let joins = match near {
+        Some(near) => (value < near) & (base < near),
+        None => gap,
+    };
+    plain & joins
 }
 
 // G3 (the Rust's apply_g3_large_power_multiplication): whether the chain's edge and the next have a value, and which is a large power.

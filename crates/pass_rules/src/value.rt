@@ -11,46 +11,33 @@ ghost use Rattle.pass_rules.specs.Over.{over_answer};
 use crate::joined::joined_value;
 use pass_list::record::PassEdge;
 use pass_list::run::Pass;
-use whole::Bounded;
-use wide::Quotient;
+use whole::AboveTop;
 
-// The value over two edges; or that it is above TOP; or that their decimals keep them apart.
-#[derive(Clone, Copy)]
-pub enum Over {
-    Value(f64),
-    Above,
-    Apart,
-}
-
-fn known(v: Bounded) -> Over
+fn known(v: Result<f64, AboveTop>) -> Result<Option<f64>, AboveTop>
     ensures { (n : ℕ) → v ≡ value n → result ≡ over_answer true n }
 {
-    match v {
-        Bounded::Fits(v) => Over::Value(v),
-        Bounded::Above => Over::Above,
-    }
+    Ok(Some(v?))
 }
 
 // The exact product of a written decimal and a whole edge, where it is whole.
-fn product(l: PassEdge, r: PassEdge) -> Over
+fn product(l: PassEdge, r: PassEdge) -> Result<Option<f64>, AboveTop>
     requires { ((x : StoredEdge) × EdgeIs l x) × ((y : StoredEdge) × EdgeIs r y) }
     ensures { (x y : StoredEdge) → EdgeIs l x → EdgeIs r y
         → result ≡ over_answer (eqb y.decimals 0 && whole_product x y) (x.value * y.value / 10 ^ x.decimals) }
 {
     if r.num.decimals != 0 {
-        return Over::Apart;
+        return Ok(None);
     }
     let digits = whole::exact_u64(l.num.value);
     let factor = whole::exact_u64(r.num.value);
-    match decimals::exact_product(digits, l.num.decimals as u64, factor) {
-        Quotient::Whole(v) => Over::Value(whole::exact_f64(v)),
-        Quotient::Above => Over::Above,
-        Quotient::NotWhole => Over::Apart,
-    }
+    let Some(v) = decimals::exact_product(digits, l.num.decimals as u64, factor)? else {
+        return Ok(None);
+    };
+    Ok(Some(whole::exact_f64(v)))
 }
 
 // G1 takes a written decimal of at least 1.
-fn product_from_one(l: PassEdge, r: PassEdge) -> Over
+fn product_from_one(l: PassEdge, r: PassEdge) -> Result<Option<f64>, AboveTop>
     requires { ((x : StoredEdge) × EdgeIs l x) × ((y : StoredEdge) × EdgeIs r y) }
     ensures { (x y : StoredEdge) → EdgeIs l x → EdgeIs r y
         → result ≡ over_answer (eqb y.decimals 0 && takes_decimal G1 x y) (x.value * y.value / 10 ^ x.decimals) }
@@ -59,11 +46,11 @@ fn product_from_one(l: PassEdge, r: PassEdge) -> Over
     if one <= whole::exact_u64(l.num.value) {
         return product(l, r);
     }
-    Over::Apart
+    Ok(None)
 }
 
 // Where one of the two has decimals.
-fn decimal_value(pass: Pass, l: PassEdge, r: PassEdge) -> Over
+fn decimal_value(pass: Pass, l: PassEdge, r: PassEdge) -> Result<Option<f64>, AboveTop>
     requires { ((x : StoredEdge) × EdgeIs l x) × ((y : StoredEdge) × EdgeIs r y) }
     ensures { (x y : StoredEdge) → EdgeIs l x → EdgeIs r y → both_whole x y ≡ false
         → result ≡ over_answer (decimals_fit (pass_of pass) x y)
@@ -72,14 +59,14 @@ fn decimal_value(pass: Pass, l: PassEdge, r: PassEdge) -> Over
     match pass {
         Pass::D1 => known(joined_value(Pass::D1, l.num.value, r.num.value)),
         Pass::G1 => product_from_one(l, r),
-        Pass::G2 => Over::Apart,
+        Pass::G2 => Ok(None),
         Pass::G3 => product(l, r),
-        Pass::G4 => Over::Apart,
+        Pass::G4 => Ok(None),
     }
 }
 
 // The value over l and r, as r counts.
-pub fn value_over(pass: Pass, l: PassEdge, r: PassEdge) -> Over
+pub fn value_over(pass: Pass, l: PassEdge, r: PassEdge) -> Result<Option<f64>, AboveTop>
     requires { ((x : StoredEdge) × EdgeIs l x) × ((y : StoredEdge) × EdgeIs r y) }
     ensures { (x y : StoredEdge) → EdgeIs l x → EdgeIs r y
         → result ≡ over_answer (decimals_fit (pass_of pass) x y)

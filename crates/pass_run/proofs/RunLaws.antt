@@ -22,8 +22,6 @@ use Rattle.text.proofs.RowLaws.{and-true}
 use Rattle.passes.specs.Passes.{Pass, D1, G1, G2, G3, G4}
 use Rattle.pass_list.specs.declared.record.PassEdge.{PassEdge}
 use Rattle.pass_rules.specs.declared.chain.Chain.{Chain}
-use Rattle.pass_rules.specs.declared.chain.Next.TheVariants.{Longer, Ends, Above}
-use Rattle.pass_list.specs.declared.run.PassAnswer.TheVariants as PassAnswer
 use Rattle.fields.specs.Part.{part}
 use Rattle.fields.proofs.PartLaws.{length_part, part_at, part_take, part_sets, part_sets_other, drop_sets, copy_turn, copy_ends}
 use Rattle.pass_list.specs.StoredEdge.{StoredEdge, Small, nil, cons, AllSmall, Fits, EdgeIs}
@@ -34,39 +32,39 @@ use Rattle.pass_list.specs.Answers.{PassAnswerIs}
 use Rattle.pass_rules.specs.Chain.{pass_chain, ChainIs, answer}
 use Rattle.pass_run.specs.Ended.{Ended}
 use Rattle.text.specs.declared.Place.{Place}
-use Rattle.pass_run.specs.declared.ChainRun.{ChainRun}
-use Rattle.pass_run.specs.declared.ChainRun.TheVariants.{To}
 use Rattle.pass_run.specs.Run.{First, Ran, RunIs}
 use Rattle.pass_list.proofs.NextLaws.{joins_of_next}
 use Rattle.pass_rules.proofs.chain.ChainLaws.{counted_fits, few_decimals}
 use Rattle.pass_list.proofs.StoredLaws.{stored_edge_behind, stored_edges_cons, stored_edges_none, stored_edges_snoc, stored_edges_other, length_stored_edges, stored_edges_put, behind_put, behind_next}
+use Rattle.std.specs.Prelude.{Some, None, Result, Ok, Err}
+use Rattle.whole.specs.Answers.{above_top}
 
 -- ---- what `Chain::join` answers says of the chain
 module _ (p : Pass) (x : StoredChain) (y : StoredEdge) where
-  pub says_longer : (j : Chain) → answer p x y ≡ Longer j → (next p x y ≡ some (longer p x y)) × (j ≡ pass_chain (longer p x y)) × (joined_value p x y ≤ TOP)
+  pub says_longer : (j : Chain) → answer p x y ≡ Ok (Some j) → (next p x y ≡ some (longer p x y)) × (j ≡ pass_chain (longer p x y)) × (joined_value p x y ≤ TOP)
   unfolding answer next
   says_longer j e = go (joins p x y) (ltb TOP (joined_value p x y)) refl e
     where
-      go : (a b : Bool) → ltb TOP (joined_value p x y) ≡ b → cond a (cond b Above (Longer (pass_chain (longer p x y)))) Ends ≡ Longer j
+      go : (a b : Bool) → ltb TOP (joined_value p x y) ≡ b → cond a (cond b (Err above_top) (Ok (Some (pass_chain (longer p x y))))) (Ok None) ≡ Ok (Some j)
           → (cond a (some (longer p x y)) none ≡ some (longer p x y)) × (j ≡ pass_chain (longer p x y)) × (joined_value p x y ≤ TOP)
       go true true t e = absurd (let z : ◌≡◌ {A = ℕ} 0 1 = cc in omega arith)
       go true false t e = (refl, cc, ltb-false _ _ t)
       go false b t e = absurd (let z : ◌≡◌ {A = ℕ} 0 1 = cc in omega arith)
 
-  pub says_ends : answer p x y ≡ Ends → next p x y ≡ none
+  pub says_ends : answer p x y ≡ Ok None → next p x y ≡ none
   unfolding answer next
   says_ends e = go (joins p x y) (ltb TOP (joined_value p x y)) e
     where
-      go : (a b : Bool) → cond a (cond b Above (Longer (pass_chain (longer p x y)))) Ends ≡ Ends → cond a (some (longer p x y)) none ≡ none
+      go : (a b : Bool) → cond a (cond b (Err above_top) (Ok (Some (pass_chain (longer p x y))))) (Ok None) ≡ Ok None → cond a (some (longer p x y)) none ≡ none
       go true true e = absurd (let z : ◌≡◌ {A = ℕ} 0 1 = cc in omega arith)
       go true false e = absurd (let z : ◌≡◌ {A = ℕ} 0 1 = cc in omega arith)
       go false b e = refl
 
-  pub says_above : answer p x y ≡ Above → (next p x y ≡ some (longer p x y)) × (TOP < joined_value p x y)
+  pub says_above : answer p x y ≡ Err above_top → (next p x y ≡ some (longer p x y)) × (TOP < joined_value p x y)
   unfolding answer next
   says_above e = go (joins p x y) (ltb TOP (joined_value p x y)) refl e
     where
-      go : (a b : Bool) → ltb TOP (joined_value p x y) ≡ b → cond a (cond b Above (Longer (pass_chain (longer p x y)))) Ends ≡ Above
+      go : (a b : Bool) → ltb TOP (joined_value p x y) ≡ b → cond a (cond b (Err above_top) (Ok (Some (pass_chain (longer p x y))))) (Ok None) ≡ Err above_top
           → (cond a (some (longer p x y)) none ≡ some (longer p x y)) × (TOP < joined_value p x y)
       go true true t e = (refl, ltb-true _ _ t)
       go true false t e = absurd (let z : ◌≡◌ {A = ℕ} 0 1 = cc in omega arith)
@@ -164,14 +162,14 @@ module _ (p : Pass) where
           rw (from_some begin (next p) x t y l e, j.1) (r v ∙ rw (longer_start p x y))
 
 -- ---- what a pass answers
-passed_above : (p : Pass) (l : List StoredEdge) (u : List ℕ) (a : ℕ) → first_above (joined_of (chains_of p l)) ≡ some a → PassAnswerIs p l u (PassAnswer.Above (record { 0 = a }))
+passed_above : (p : Pass) (l : List StoredEdge) (u : List ℕ) (a : ℕ) → first_above (joined_of (chains_of p l)) ≡ some a → PassAnswerIs p l u (Err (record { 0 = a }))
 unfolding added
 passed_above p l u a e =
     let no : (first_above (joined_of (chains_of p l)) ≡ none) → ⊥ = λ n. let z : ◌≡◌ {A = ℕ} 0 1 = cc in omega arith in
     record { answer = rw e; list = λ n. absurd (no n); fewer = λ n. absurd (no n); small = λ n. absurd (no n) }
 
 passed_all : (p : Pass) (l : List StoredEdge) (u : List ℕ) (k : ℕ) (cs : List StoredChain) → cs ≡ chains_of p l → stored_list_at u 0 k ≡ edges_of cs → first_above (joined_of cs) ≡ none → AllSmall (edges_of cs) → k ≤ length l
-    → PassAnswerIs p l u (PassAnswer.Edges k)
+    → PassAnswerIs p l u (Ok k)
 unfolding added after
 passed_all p l u k cs all stored below small few =
     let c : length (edges_of (chains_of p l)) ≡ k = rw (← all, ← stored) (length_stored_edges u 0 k) in
@@ -272,56 +270,49 @@ module _ (p : Pass) (s : List ℕ) (n j : ℕ) (c : StoredChain) where
       go true t = let h = ltb-true _ _ t in rw (stored_edges_cons s j n h) (from_none begin (next p) c _ _ (f h) ∙ rw (chains_first p (stored_at s (j * SIZE)) (stored_list_at s (j + 1) (n - (j + 1)))))
       go false t = rw (stored_edges_none s j n (ltb-false _ _ t), chains_none p) (from_nil begin (next p) c)
 
--- ---- the loop over a chain: c is open before the j-th edge, and ends before the to-th at the latest
-pub record Open (p : Pass) (s : List ℕ) (n i : ℕ) (c : Chain) (j to : ℕ) : Type 0 where
+-- ---- the loop over a chain: c is open before the j-th edge
+pub record Open (p : Pass) (s : List ℕ) (n i : ℕ) (c : Chain) (j : ℕ) : Type 0 where
   pub later : i < j
-  pub before : j ≤ to
-  pub inside : to ≤ n
+  pub inside : j ≤ n
   pub model : StoredChain
   pub is : ChainIs c model
-  -- where that isn't the list's end, it does not take the edge there
-  pub closed : to < n → (j ≡ to) × (next p model (stored_at s (j * SIZE)) ≡ none)
   pub so_far : from begin (next p) model (stored_list_at s j (n - j)) ≡ chains_of p (stored_list_at s i (n - i))
 
 module _ (p : Pass) (s : List ℕ) (n i : ℕ) where
-  pub opens : (c : Chain) {e : PassEdge} → i < n → EdgeIs e (stored_at s (i * SIZE)) → c ≡ pass_chain (begin (stored_at s (i * SIZE))) → Open p s n i c (i + 1) n
-  opens c h e b = record {
-    later = omega arith;
-    before = omega arith;
-    inside = omega arith;
-    model = begin (stored_at s (i * SIZE));
-    is = begin_is e.fits b;
-    closed = λ z. absurd (omega arith);
-    so_far = sym (ap (chains_of p) (stored_edges_cons s i n h) ∙ chains_first p _ _);
-  }
+  pub opens : (c : Chain) {e : PassEdge} → i < n → EdgeIs e (stored_at s (i * SIZE)) → c ≡ pass_chain (begin (stored_at s (i * SIZE))) → Open p s n i c (i + 1)
+  opens c h e b = record { later = omega arith; inside = omega arith; model = begin (stored_at s (i * SIZE)); is = begin_is e.fits b; so_far = sym (ap (chains_of p) (stored_edges_cons s i n h) ∙ chains_first p _ _) }
 
-  module _ (c : Chain) (j to : ℕ) (g : Open p s n i c j to) where
+  module _ (c : Chain) (j : ℕ) (g : Open p s n i c j) where
     abbrev y : StoredEdge
     y = stored_at s (j * SIZE)
 
-    module _ (h : j < to) where
-      open_next : from begin (next p) g.model (y ∷ stored_list_at s (j + 1) (n - (j + 1))) ≡ chains_of p (stored_list_at s i (n - i))
-      open_next = let k = g.inside in rw (← (stored_edges_cons s j n (omega arith))) g.so_far
+    -- it ends there, where it does not take the edge there
+    closed : (j < n → next p g.model y ≡ none) → First p s n i j g.model.edge
+    closed f = record { later = g.later; inside = g.inside; chain = g.model; edge = refl; chains = sym g.so_far ∙ ends_before_lem p s n j g.model f }
 
-      pub takes : (d : Chain) → Fits y → answer p g.model y ≡ Longer d → Open p s n i d (j + 1) to
+    pub closes : n ≤ j → First p s n i j g.model.edge
+    closes h = closed (λ k. absurd (omega arith))
+
+    pub ends : answer p g.model y ≡ Ok None → First p s n i j g.model.edge
+    ends e = closed (λ k. says_ends p g.model y e)
+
+    module _ (h : j < n) where
+      open_next : from begin (next p) g.model (y ∷ stored_list_at s (j + 1) (n - (j + 1))) ≡ chains_of p (stored_list_at s i (n - i))
+      open_next = rw (← (stored_edges_cons s j n h)) g.so_far
+
+      pub takes : (d : Chain) → Fits y → answer p g.model y ≡ Ok (Some d) → Open p s n i d (j + 1)
       takes d f e =
           let a = says_longer p g.model y d e in
           let l = g.later in
-          let b = g.inside in
           record {
             later = omega arith;
-            before = omega arith;
-            inside = g.inside;
+            inside = omega arith;
             model = longer p g.model y;
             is = record { is = a.1; fits = longer_fits p g.model y (joins_of_next p g.model y (longer p g.model y) a.0).0 g.is.fits f a.2 };
-            closed = λ z. let q = (g.closed z).0 in absurd (omega arith);
             so_far = sym (from_some begin (next p) g.model (longer p g.model y) y _ a.0) ∙ open_next;
           }
 
-      pub ends : answer p g.model y ≡ Ends → Open p s n i c j j
-      ends e = let b = g.inside in record { later = g.later; before = omega arith; inside = omega arith; model = g.model; is = g.is; closed = λ z. (refl, says_ends p g.model y e); so_far = g.so_far }
-
-      pub above : answer p g.model y ≡ Above → first_above (added p (stored_list_at s i (n - i))) ≡ some c.edge.start.0
+      pub above : answer p g.model y ≡ Err above_top → first_above (added p (stored_list_at s i (n - i))) ≡ some c.edge.start.0
       unfolding added
       above e =
           let a = says_above p g.model y e in
@@ -329,25 +320,13 @@ module _ (p : Pass) (s : List ℕ) (n i : ℕ) where
           let v : TOP < z.edge.value = rw (longer_value p g.model y) a.1 in
           rw (g.is.is, ← open_next, from_some begin (next p) g.model z y (stored_list_at s (j + 1) (n - (j + 1))) a.0) (from_above p z _ (longer_more p g.model y) v ∙ rw (longer_start p g.model y))
 
-    pub closes : to ≤ j → First p s n i j g.model.edge
-    closes h =
-        let b = g.before in
-        let d = g.inside in
-        record {
-          later = g.later;
-          inside = omega arith;
-          chain = g.model;
-          edge = refl;
-          chains = sym g.so_far ∙ ends_before_lem p s n j g.model (λ k. (g.closed (omega arith)).1);
-        }
-
 -- what was answered of it
-module _ (p : Pass) (s t : List ℕ) (n k i : ℕ) {r : ChainRun} (h : RunIs p s n k i t r) where
-  pub ran_to : {j : ℕ} → r ≡ To j → Ran p s n k i t j
+module _ (p : Pass) (s t : List ℕ) (n k i : ℕ) {r : Result ℕ Place} (h : RunIs p s n k i t r) where
+  pub ran_to : {j : ℕ} → r ≡ Ok j → Ran p s n k i t j
   unfolding RunIs
   ran_to e = rw e at h
 
-  pub ran_above : {a : Place} → r ≡ ChainRun.Above a → first_above (added p (stored_list_at s i (n - i))) ≡ some a.0
+  pub ran_above : {a : Place} → r ≡ Err a → first_above (added p (stored_list_at s i (n - i))) ≡ some a.0
   unfolding RunIs
   ran_above e = rw e at h
 
@@ -401,11 +380,11 @@ module _ (p : Pass) (s : List ℕ) (n : ℕ) where
           so_far = rw same (append_assoc g.done (c ∷ []) _ ∙ rw (← f.chains) g.so_far);
         }
 
-    pub stops : (u : List ℕ) (a : ℕ) → first_above (added p (stored_list_at t i (n - i))) ≡ some a → PassAnswerIs p (stored_list_at s 0 n) u (PassAnswer.Above (record { 0 = a }))
+    pub stops : (u : List ℕ) (a : ℕ) → first_above (added p (stored_list_at t i (n - i))) ≡ some a → PassAnswerIs p (stored_list_at s 0 n) u (Err (record { 0 = a }))
     unfolding added
     stops u a e = passed_above p (stored_list_at s 0 n) u a (rw (← g.so_far, joined_append g.done (chains_of p (stored_list_at t i (n - i))), above_append (joined_of g.done) (joined_of (chains_of p (stored_list_at t i (n - i)))) g.below) e)
 
-    pub finishes : n ≤ i → PassAnswerIs p (stored_list_at s 0 n) t (PassAnswer.Edges k)
+    pub finishes : n ≤ i → PassAnswerIs p (stored_list_at s 0 n) t (Ok k)
     finishes h =
         let b = g.behind in
         let d = g.inside in

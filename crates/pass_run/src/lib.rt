@@ -22,17 +22,11 @@ use crate::look::may_join;
 use crate::take::may_take;
 use pass_list::layout::SIZE;
 use pass_list::read::read_edge;
-use pass_list::run::{Pass, PassAnswer};
+use pass_list::run::Pass;
 use pass_list::write::write_edge;
-use pass_rules::chain::{Chain, Next};
+use pass_rules::chain::Chain;
 use text::Place;
-
-// What the chain that an edge begins comes to: the index behind its last edge; or the start of the joined edge above TOP.
-#[derive(Clone, Copy)]
-pub enum ChainRun {
-    To(usize),
-    Above(Place),
-}
+use whole::AboveTop;
 
 // Whether the i-th of n edges is a chain of its own, as far as that is told without reading it.
 fn is_own_chain(list: &[u8], n: usize, i: usize, pass: Pass) -> bool
@@ -51,11 +45,7 @@ fn copy_record(list: &mut [u8], to: usize, from: usize)
     requires { (to + SIZE ≤ from) × (from + SIZE ≤ length list.old) }
     ensures { list.new ≡ sets list.old to (part list.old from SIZE) }
 {
-    let mut j = 0;
-    while j < SIZE {
-        list[to + j] = list[from + j];
-        j += 1;
-    }
+    list.copy_within(from..from + SIZE, to);
 }
 
 // The i-th edge becomes the k-th.
@@ -70,7 +60,7 @@ fn move_record(list: &mut [u8], k: usize, i: usize)
 }
 
 // What the edge at an offset does to the chain: it is read where the pass may join it.
-fn next_of_chain(c: Chain, pass: Pass, list: &[u8], at: usize) -> Next
+fn next_of_chain(c: Chain, pass: Pass, list: &[u8], at: usize) -> Result<Option<Chain>, AboveTop>
     requires { ((x : StoredChain) × ChainIs c x) × (at + SIZE ≤ length list.now)
         × Small (stored_at list.now at) }
     ensures { (x : StoredChain) → ChainIs c x
@@ -79,65 +69,52 @@ fn next_of_chain(c: Chain, pass: Pass, list: &[u8], at: usize) -> Next
     if may_take(c, list, at, pass) {
         return c.join(pass, read_edge(list, at));
     }
-    Next::Ends
+    Ok(None)
 }
 
 // The chain that the i-th of n edges begins: the edge over it becomes the k-th.
-fn run_chain(list: &mut [u8], n: usize, k: usize, i: usize, pass: Pass) -> ChainRun
+fn run_chain(list: &mut [u8], n: usize, k: usize, i: usize, pass: Pass) -> Result<usize, Place>
     requires { (k ≤ i) × (i < n) × (n * SIZE ≤ length list.old) × AllSmall (stored_list_at list.old i (n - i)) }
     ensures { RunIs (pass_of pass) list.old n k i list.new result }
 {
     let mut chain = Chain::begin(read_edge(list, i * SIZE));
+    // Kept as a while loop: where the chain ends, its end is the answer, and behind a for loop j is not known.
     let mut j = i + 1;
-    let mut to = n;
-    while j < to {
+    while j < n {
         match next_of_chain(chain, pass, list, j * SIZE) {
-            Next::Longer(c) => {
-                chain = c;
-                j += 1;
-            }
-            Next::Ends => {
-                to = j;
-            }
-            Next::Above => {
-                let start = chain.edge.start;
-                return ChainRun::Above(start);
-            }
+            Ok(Some(longer)) => chain = longer,
+            Ok(None) => break,
+            Err(AboveTop) => return Err(chain.edge.start),
         }
+        j += 1;
     }
     write_edge(list, k * SIZE, chain.edge);
-    ChainRun::To(j)
+    Ok(j)
 }
 
 // The chain that the i-th of n edges begins, with a look first whether it goes on at all.
-fn step(list: &mut [u8], n: usize, k: usize, i: usize, pass: Pass) -> ChainRun
+fn step(list: &mut [u8], n: usize, k: usize, i: usize, pass: Pass) -> Result<usize, Place>
     requires { (k ≤ i) × (i < n) × (n * SIZE ≤ length list.old) × AllSmall (stored_list_at list.old i (n - i)) }
     ensures { RunIs (pass_of pass) list.old n k i list.new result }
 {
     if is_own_chain(list, n, i, pass) {
         move_record(list, k, i);
-        return ChainRun::To(i + 1);
+        return Ok(i + 1);
     }
     run_chain(list, n, k, i, pass)
 }
 
 // A pass over the n edges of the list.
-pub fn run_pass(list: &mut [u8], n: usize, pass: Pass) -> PassAnswer
+pub fn run_pass(list: &mut [u8], n: usize, pass: Pass) -> Result<usize, Place>
     requires { (n * SIZE ≤ length list.old) × AllSmall (stored_list_at list.old 0 n) }
     ensures { PassAnswerIs (pass_of pass) (stored_list_at list.old 0 n) list.new result }
 {
     let mut i = 0;
     let mut k = 0;
+    // Kept as a while loop: the step is the length of a chain, which no iterator of std gives.
     while i < n {
-        match step(list, n, k, i, pass) {
-            ChainRun::To(to) => {
-                i = to;
-                k += 1;
-            }
-            ChainRun::Above(p) => {
-                return PassAnswer::Above(p);
-            }
-        }
+        i = step(list, n, k, i, pass)?;
+        k += 1;
     }
-    PassAnswer::Edges(k)
+    Ok(k)
 }

@@ -7,10 +7,12 @@ ghost use Rattle.pass_list.specs.Answers.{pass_of, PassAnswerIs};
 ghost use Rattle.pass_run.specs.Nth.{nth};
 
 use crate::run_pass;
-use pass_list::run::{Pass, PassAnswer};
+use pass_list::run::Pass;
+use text::Place;
 
 // The i-th pass, counted from 0: in the Rust apply_d1_digits, apply_g1_multiplication, apply_g2_addition, apply_g3_large_power_multiplication and
 // apply_g4_large_block_addition.
+// Kept as a function with a requires: From or TryFrom would have to answer to the other numbers too.
 fn pass_of(i: usize) -> Pass
     requires { i < 5 }
     ensures { pass_of result ≡ nth i }
@@ -25,7 +27,7 @@ fn pass_of(i: usize) -> Pass
 }
 
 // The i-th pass over the list that stands in the work space from an offset on; what stands before it stays as it is.
-pub fn pass_behind(work: &mut [u8], from: usize, n: usize, i: usize) -> PassAnswer
+pub fn pass_behind(work: &mut [u8], from: usize, n: usize, i: usize) -> Result<usize, Place>
     requires { (from + n * SIZE ≤ length work.old) × AllSmall (stored_list_at (drop from work.old) 0 n)
         × (i < 5) }
     ensures { (take from work.new ≡ take from work.old)

@@ -4,7 +4,6 @@ use Prim.Native.Nat.{ℕ}
 use mathlib.Core.Path.{◌≡◌, refl, sym, ◌∙◌}
 use mathlib.Core.List.{List, [], ◌∷◌}
 use mathlib.Core.Option.{Option, none, some, some-ne-none}
-use native.Mathlib.Omega.{arith}
 use Rattle.table.specs.Table.{Record, Table, find}
 use Rattle.passes.specs.Renaming.{Renaming, twin_char, twin, Remaining}
 
@@ -22,8 +21,8 @@ module _ (f : ℕ → ℕ) (t u : Table) (R : Renaming f t u) where
   -- lines with the same twin are the same line
   pub same_line : (w v : List ℕ) → Remaining t u w → Remaining t u v → twin f t w ≡ twin f t v → w ≡ v
   same_line [] [] p q e = refl
-  same_line [] (d ∷ v) p q e = let z : ◌≡◌ {A = ℕ} 0 1 = cc in absurd (omega arith)
-  same_line (c ∷ w) [] p q e = let z : ◌≡◌ {A = ℕ} 0 1 = cc in absurd (omega arith)
+  same_line [] (d ∷ v) p q e = absurd cc
+  same_line (c ∷ w) [] p q e = absurd cc
   same_line (c ∷ w) (d ∷ v) p q e =
       let x : twin_char f c (find t.records c) ≡ twin_char f d (find t.records d) = cc in
       let y : twin f t w ≡ twin f t v = cc in

@@ -2,22 +2,20 @@
 -- In order: prefixes; classes; scores; edges within their listing; what holds of each edge, and of the best; the walk that ends with the best; its turns over a
 -- listing. Assumes nothing.
 use mathlib.Core.Path.{◌≡◌, refl, sym, ap, ◌∙◌}
-use mathlib.Core.Bool.{Bool, true, false, cond, not, ◌||◌}
+use mathlib.Core.Bool.{Bool, true, false, cond, not, ◌||◌, true≢false}
 use mathlib.Core.List.{List, [], ◌∷◌, ◌++◌}
 use mathlib.Core.Option.{Option, none, some}
-use Prim.Native.Nat.{ℕ, zero, suc, ◌+◌, ◌-◌, ◌*◌, ◌≤◌, ◌<◌, max}
-use native.Mathlib.Nat.{add-sub_cancel_left, max-le, max-eq_left, max-eq_right}
+use Prim.Native.Nat.{ℕ, suc, ◌+◌, ◌-◌, ◌*◌, ◌≤◌, ◌<◌, max}
+use native.Mathlib.Nat.{max-le, max-eq_left, max-eq_right}
 use native.Mathlib.Omega.{arith}
-use lib.ListN.{length, take, drop}
-use lib.Seq.{take_all, take-take}
+use lib.ListN.{length, take}
 use lib.Dec.{eqb, ltb}
+use lib.Pointwise.{pointwise}
 use borrow.Author.Tests.{lt-ltb, le-ltb, ltb-true, ltb-false, eq-eqb, ne_eqb, eqb-true, not-true, not-false}
 use Rattle.text.specs.Bytes.{same}
-use Rattle.text.proofs.BytesLaws.{same_lengths}
 use Rattle.text.proofs.RowLaws.{cond_cases}
-use Rattle.fields.specs.Part.{part, part_of}
+use Rattle.fields.specs.Part.{part_of}
 use Rattle.fields.specs.Fields.{le_at}
-use Rattle.fields.proofs.PartLaws.{length_part}
 use Rattle.edge.specs.declared.EdgeView.{EdgeView}
 use Rattle.edge.specs.Edge.{Text, Numeric, Edge}
 use Rattle.edge.specs.Layout.{stands, map_at, text_at, numeric_at, txt_at, head_end, next_at, edge_at}
@@ -25,23 +23,32 @@ use Rattle.edge.specs.View.{view_at}
 use Rattle.edge.proofs.LayoutLaws.{string_end_ge}
 use Rattle.edge.proofs.CheckLaws.{head_within, map_within}
 use Rattle.text.specs.declared.Place.{Place}
+use Rattle.text.specs.declared.Offset.{Offset}
 use Rattle.paths.specs.declared.Query.{Query}
 use Rattle.paths.specs.declared.Query.TheVariants.{Right}
-use Rattle.paths.specs.declared.Found.{Found}
-use Rattle.paths.specs.declared.Found.TheVariants.{At, Nothing}
 use Rattle.paths.specs.Best.{starts_with, rom, rom_decomp, num, regular_class, class_by, class, asked, rank, score, Best, highest, first_of, best, with_offsets, Whole, found, kept}
+use Rattle.std.specs.Prelude.{Some, None}
+use Rattle.std.specs.Prelude as std
 
--- ---- prefixes: of a text of n bytes at an offset
-module _ (s : List ℕ) (at n : ℕ) (p : Text) where
-  pub starts_with_short : at + n ≤ length s → n < length p → false ≡ starts_with (part s at n) p
-  unfolding starts_with
-  starts_with_short h k =
-      let l = length_part s at n h in
-      rw (take_all (length p) (part s at n) (omega arith)) (same_lengths (part s at n) p (λ e. omega arith))
+-- ---- prefixes
+eqb_swap : (m n : ℕ) → eqb m n ≡ eqb n m
+eqb_swap m n = by (eqb m n) refl
+  where
+    by : (t : Bool) → eqb m n ≡ t → t ≡ eqb n m
+    by true e = sym (eq-eqb n m (sym (eqb-true m n e)))
+    by false e = sym (ne_eqb n m (λ h. true≢false (sym (eq-eqb m n (sym h)) ∙ e)))
 
-  pub starts_with_first : length p ≤ n → same (take (at + length p - at) (drop at s)) p ≡ starts_with (part s at n) p
-  unfolding starts_with part
-  starts_with_first h = rw (add-sub_cancel_left, take-take (length p) n (drop at s) h)
+same_pointwise : (p q : List ℕ) → pointwise eqb p q ≡ same q p
+unfolding same
+same_pointwise [] [] = refl
+same_pointwise [] (y ∷ q) = refl
+same_pointwise (x ∷ p) [] = refl
+same_pointwise (x ∷ p) (y ∷ q) = rw (eqb_swap x y, same_pointwise p q)
+
+-- what std's `starts_with` of slices answers
+pub begins : (t p : Text) → pointwise eqb p (take (length p) t) ≡ starts_with t p
+unfolding starts_with
+begins t p = same_pointwise p (take (length p) t)
 
 -- ---- classes
 module _ (ty : Text) where
@@ -49,17 +56,13 @@ module _ (ty : Text) where
   unfolding regular_class
   class_decomp d = rw d
 
-  pub class_rom : starts_with ty rom_decomp ≡ false → starts_with ty rom ≡ true → 4 ≡ regular_class ty
+  pub class_named : starts_with ty rom_decomp ≡ false → (starts_with ty rom || starts_with ty num) ≡ true → 4 ≡ regular_class ty
   unfolding regular_class
-  class_rom d r = rw (d, r)
+  class_named d r = rw (d, r)
 
-  pub class_num : starts_with ty rom_decomp ≡ false → starts_with ty rom ≡ false → starts_with ty num ≡ true → 4 ≡ regular_class ty
+  pub class_other : starts_with ty rom_decomp ≡ false → (starts_with ty rom || starts_with ty num) ≡ false → 2 ≡ regular_class ty
   unfolding regular_class
-  class_num d r n = rw (d, r, n)
-
-  pub class_other : starts_with ty rom_decomp ≡ false → starts_with ty rom ≡ false → starts_with ty num ≡ false → 2 ≡ regular_class ty
-  unfolding regular_class
-  class_other d r n = rw (d, r, n)
+  class_other d r = rw (d, r)
 
 cond_le : (b : Bool) {x y n : ℕ} → x ≤ n → y ≤ n → cond b x y ≤ n
 cond_le true h k = h
@@ -116,9 +119,6 @@ module _ (skip : Bool) (q : Query) (e : Edge) where
     unfolding score
     score_asked n d = rw (a, ← is, ne_eqb c 0 n, d)
 
-    pub score_no_place : (c ≡ 0 → ⊥) → e.end ≤ e.start → c ≡ score skip q e
-    score_no_place n h = let z : 0 * 8 + c ≡ c = omega arith in sym z ∙ score_asked {l = 0} n (omega arith)
-
 -- the span of the edge at an offset
 module _ (s : List ℕ) (at : ℕ) {a z : ℕ} (start : a ≡ le_at s (at + 2) 2) (end : z ≡ le_at s (at + 4) 2) where
   pub asked_at : (q : Query) {b : Bool} → b ≡ asked q a z → b ≡ asked q (edge_at s at).start (edge_at s at).end
@@ -128,10 +128,6 @@ module _ (s : List ℕ) (at : ℕ) {a z : ℕ} (start : a ≡ le_at s (at + 2) 2
   pub places_at : z - a ≡ (edge_at s at).end - (edge_at s at).start
   unfolding edge_at
   places_at = rw (start, end)
-
-  pub no_place_at : z ≤ a → (edge_at s at).end ≤ (edge_at s at).start
-  unfolding edge_at
-  no_place_at h = omega arith
 
 -- ---- edges within their listing
 module _ (s : List ℕ) (at k : ℕ) (h : 0 < k) (w : Whole k s at) where
@@ -329,10 +325,34 @@ module _ (skip : Bool) (q : Query) (s : List ℕ) (first count at left top x : �
     unfolding best_from with_offsets
     walk_ends = let z : left ≡ 0 = omega arith in rw z at w.so_far
 
-    pub walk_nothing : top ≡ 0 → Nothing ≡ found (best skip q (with_offsets count s first))
-    unfolding found
-    walk_nothing z = rw (← walk_ends, z)
+-- .. and its offset is what is to be answered
+pub record Held (skip : Bool) (q : Query) (s : List ℕ) (first count at left top : ℕ) (held : std.Option Offset) : Type 0 where
+  pub x : ℕ
+  pub walk : Walk skip q s first count at left top x
+  pub is : held ≡ found (kept s top x)
 
-    pub walk_found : (top ≡ 0 → ⊥) → At (record { 0 = x }) ≡ found (best skip q (with_offsets count s first))
+pub held_start : (skip : Bool) (q : Query) (s : List ℕ) (first count : ℕ) → Whole count s first → Held skip q s first count first count 0 None
+unfolding found
+held_start skip q s first count w = record { x = 0; walk = walk_start skip q s first count w; is = refl }
+
+module _ {skip : Bool} {q : Query} {s : List ℕ} {first count at left top : ℕ} {held : std.Option Offset} (w : Held skip q s first count at left top held) where
+  module _ (some_left : 0 < left) {v : ℕ} (is : v ≡ score skip q (edge_at s at)) {to t : ℕ} {h : std.Option Offset} (next : to ≡ next_at s at) where
+    pub held_better : top < v → t ≡ v → h ≡ Some (record { 0 = at }) → Held skip q s first count to (left - 1) t h
     unfolding found
-    walk_found n = rw (← walk_ends, lt-ltb 0 top (omega arith))
+    held_better l p r =
+        record {
+          x = at;
+          walk = walk_better skip q s first count at left top w.x w.walk some_left is next l p refl;
+          is = rw (p, r, lt-ltb 0 v (omega arith));
+        }
+
+    pub held_on : v ≤ top → t ≡ top → h ≡ held → Held skip q s first count to (left - 1) t h
+    held_on l p r =
+        record {
+          x = w.x;
+          walk = walk_on skip q s first count at left top w.x w.walk some_left is next l p refl;
+          is = rw (p, r) w.is;
+        }
+
+  pub held_ends : left ≤ 0 → held ≡ found (best skip q (with_offsets count s first))
+  held_ends none_left = w.is ∙ ap found (walk_ends skip q s first count at left top w.x w.walk none_left)

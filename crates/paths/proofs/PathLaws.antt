@@ -5,17 +5,17 @@ use mathlib.Core.Bool.{Bool, true, false, cond}
 use mathlib.Core.List.{List, [], ◌∷◌, ◌++◌, append_assoc, append-nil}
 use mathlib.Core.Option.{none, some}
 use Prim.Native.Nat.{ℕ, zero, suc, ◌+◌, ◌-◌, ◌≤◌, ◌<◌}
-use native.Mathlib.Nat.{zero-add, le_trans}
+use native.Mathlib.Nat.{zero-add}
 use native.Mathlib.Numerals.{add-one}
 use native.Mathlib.Omega.{arith}
 use lib.ListN.{length, get_or, take, drop, length-append}
 use lib.Seq.{sets, sets-eq, length-sets}
 use lib.Dec.{ltb, leb}
-use borrow.Author.Tests.{lt-ltb, le-ltb, ltb-true, le-leb, lt-leb, leb-true, leb-false}
+use borrow.Author.Tests.{lt-ltb, le-ltb, ltb-true, le-leb, lt-leb, leb-true}
 use Rattle.text.specs.declared.Place.{Place}
 use Rattle.text.specs.declared.Offset.{Offset}
 use Rattle.text.proofs.RowLaws.{cond_cases, and-true}
-use Rattle.whole.proofs.SetsLaws.{sets_append, sets_then}
+use Rattle.whole.proofs.SetsLaws.{sets_then}
 use Rattle.fields.specs.Fields.{bytes_of}
 use Rattle.fields.specs.Part.{part}
 use Rattle.fields.proofs.FieldsLaws.{length-bytes_of}
@@ -23,20 +23,15 @@ use Rattle.fields.proofs.PartLaws.{length_part}
 use Rattle.edge.specs.Edge.{Edge}
 use Rattle.edge.specs.Layout.{next_at, edge_at}
 use Rattle.edge.proofs.CheckLaws.{map_within}
-use Rattle.paths.specs.declared.Hop.{Hop}
-use Rattle.paths.specs.declared.Hop.TheVariants.{Pass, Take}
-use Rattle.paths.specs.declared.Size.{Size}
-use Rattle.paths.specs.declared.Size.TheVariants.{Fits, Over}
 use Rattle.paths.specs.declared.Query.TheVariants as Query
-use Rattle.paths.specs.declared.ReadRefusal.{ReadRefusal}
 use Rattle.paths.specs.declared.ReadRefusal.TheVariants.{ShortOutput, BadPlace}
-use Rattle.paths.specs.declared.ReadCheck.TheVariants as ReadCheck
-use Rattle.paths.specs.declared.PathAnswer.TheVariants as PathAnswer
-use Rattle.paths.specs.Best.{Best, kept}
-use Rattle.paths.specs.Path.{passed, onward, path_from, path, edge_part, edge_parts, path_listing, rights, PathOut, listing, refused, fitting, path_out, written, after}
+use Rattle.paths.specs.Best.{Best}
+use Rattle.paths.specs.Path.{passed, onward, path_from, path, edge_part, edge_parts, path_listing, rights, listing, refused, fitting, path_out, written, after}
 use Rattle.paths.specs.Reading.{read_check, inside}
-use Rattle.paths.specs.Table.{by_table, Rights, Step, Steps, hop_of, size_of}
+use Rattle.paths.specs.Table.{by_table, Rights, Steps, hop_of, size_of}
 use Rattle.paths.proofs.BestLaws.{Each, each_append, OfBest}
+use Rattle.std.specs.Prelude.{Option, Some, None, Ok, Err}
+use Rattle.std.proofs.lemmas.Option.{some_pair_parts}
 
 -- ---- what holds of every right neighbour holds of each edge of a path
 module _ (P : ℕ × Edge → Type 0) (right : ℕ → Best) (h : (p : ℕ) → OfBest P (right p)) (z : ℕ) where
@@ -122,9 +117,9 @@ pub record Stepped (s : List ℕ) (right : ℕ → Best) (z p a b e : ℕ) : Typ
   pub leads_on : p < e
 
 -- the path from p on, by what `hop_from` answers there
-pub record Hopped (s : List ℕ) (right : ℕ → Best) (z p : ℕ) (hop : Hop) : Type 0 where
-  pub past : hop ≡ Pass → path right p z ≡ path right (p + 1) z
-  pub over : {a b : Offset} {e : Place} → hop ≡ Take a b e → Stepped s right z p a.0 b.0 e.0
+pub record Hopped (s : List ℕ) (right : ℕ → Best) (z p : ℕ) (hop : Option (Offset × Offset × Place)) : Type 0 where
+  pub past : hop ≡ None → path right p z ≡ path right (p + 1) z
+  pub over : {a b : Offset} {e : Place} → hop ≡ Some (a, b, e) → Stepped s right z p a.0 b.0 e.0
 
 module _ (s tops ats : List ℕ) (w : Steps s tops ats) (z : ℕ) (few : z ≤ 256) where
   pub table_progress : (p : ℕ) → p < z → p < onward p (by_table s tops ats p)
@@ -134,27 +129,28 @@ module _ (s tops ats : List ℕ) (w : Steps s tops ats) (z : ℕ) (few : z ≤ 2
       (λ t. omega arith)
 
   module _ (p : ℕ) (h : p < z) where
-    passes : hop_of s (by_table s tops ats p) ≡ Pass → path (by_table s tops ats) p z ≡ path (by_table s tops ats) (p + 1) z
+    passes : hop_of s (by_table s tops ats p) ≡ None → path (by_table s tops ats) p z ≡ path (by_table s tops ats) (p + 1) z
     unfolding hop_of
     passes e = path_pass (by_table s tops ats) z table_progress p h (is_none (by_table s tops ats p) e)
       where
-        is_none : (b : Best) → hop_of s b ≡ Pass → b ≡ none
+        is_none : (b : Best) → hop_of s b ≡ None → b ≡ none
         is_none none e = refl
         is_none (some x) e = let q : ◌≡◌ {A = ℕ} 0 1 = cc in absurd (omega arith)
 
-    takes : {a b : Offset} {e : Place} → hop_of s (by_table s tops ats p) ≡ Take a b e → Stepped s (by_table s tops ats) z p a.0 b.0 e.0
+    takes : {a b : Offset} {e : Place} → hop_of s (by_table s tops ats p) ≡ Some (a, b, e) → Stepped s (by_table s tops ats) z p a.0 b.0 e.0
     unfolding hop_of
     takes {a} {b} {e} t =
         by_test (ltb 0 (get_or tops p 0)) refl t
       where
-        by_test : (u : Bool) → ltb 0 (get_or tops p 0) ≡ u → hop_of s (cond u (some (get_or ats p 0, edge_at s (get_or ats p 0))) none) ≡ Take a b e → Stepped s (by_table s tops ats) z p a.0 b.0 e.0
+        by_test : (u : Bool) → ltb 0 (get_or tops p 0) ≡ u → hop_of s (cond u (some (get_or ats p 0, edge_at s (get_or ats p 0))) none) ≡ Some (a, b, e) → Stepped s (by_table s tops ats) z p a.0 b.0 e.0
         by_test false u t = let q : ◌≡◌ {A = ℕ} 0 1 = cc in absurd (omega arith)
         by_test true u t =
             let o = get_or ats p 0 in
             let f = w p (omega arith) (ltb-true 0 (get_or tops p 0) u) in
-            let x : ◌≡◌ {A = Offset} (record { 0 = o }) a = cc in
-            let y : ◌≡◌ {A = Offset} (record { 0 = next_at s o }) b = cc in
-            let v : ◌≡◌ {A = Place} (record { 0 = (edge_at s o).end }) e = cc in
+            let k : ◌≡◌ {A = Offset × Offset × Place} (record { 0 = o }, record { 0 = next_at s o }, record { 0 = (edge_at s o).end }) (a, b, e) = cc in
+            let x : ◌≡◌ {A = Offset} (record { 0 = o }) a = ap (λ (y : Offset × Offset × Place). y.0) k in
+            let y : ◌≡◌ {A = Offset} (record { 0 = next_at s o }) b = ap (λ (y : Offset × Offset × Place). y.1) k in
+            let v : ◌≡◌ {A = Place} (record { 0 = (edge_at s o).end }) e = ap (λ (y : Offset × Offset × Place). y.2) k in
             let is : by_table s tops ats p ≡ some (o, edge_at s o) = rw u in
             rw (← x, ← y, ← v)
             (record {
@@ -166,7 +162,7 @@ module _ (s tops ats : List ℕ) (w : Steps s tops ats) (z : ℕ) (few : z ≤ 2
             })
 
     -- of both loops: a turn goes past a place, or over an edge
-    pub hopped : {hop : Hop} → hop ≡ hop_of s (by_table s tops ats p) → Hopped s (by_table s tops ats) z p hop
+    pub hopped : {hop : Option (Offset × Offset × Place)} → hop ≡ hop_of s (by_table s tops ats p) → Hopped s (by_table s tops ats) z p hop
     hopped is = record { past = λ e. passes (sym is ∙ e); over = λ t. takes (sym is ∙ t) }
 
 -- ---- a loop that sizes the path xs: n edges and len bytes are counted, the path from p on is left
@@ -182,7 +178,7 @@ length_listing s xs = sym (length-append (bytes_of 2 (length xs)) (edge_parts s 
 pub sized_start : (s : List ℕ) (right : ℕ → Best) (room a z : ℕ) → 2 ≤ room → Sized s right (path right a z) room z a 0 2
 sized_start s right room a z h = record { count = zero-add _; bytes = length_listing s (path right a z); fits = h }
 
-pub sized_never : (s : List ℕ) (xs : List (ℕ × Edge)) (room : ℕ) → room < 2 → Over ≡ size_of s xs room
+pub sized_never : (s : List ℕ) (xs : List (ℕ × Edge)) (room : ℕ) → room < 2 → None ≡ size_of s xs room
 unfolding size_of
 sized_never s xs room h = rw (lt-leb (length (path_listing s xs)) room (omega (arith, length_listing s xs)))
 
@@ -221,14 +217,14 @@ module _ (s : List ℕ) (right : ℕ → Best) (xs : List (ℕ × Edge)) (room z
     pub sized_take : b - a ≤ room - len → Sized s right xs room z e (n + 1) (len + (b - a))
     sized_take h = record { count = omega (arith, left_count); bytes = omega (arith, left_bytes); fits = omega (arith, w.fits) }
 
-    pub sized_over : room - len < b - a → Over ≡ size_of s xs room
+    pub sized_over : room - len < b - a → None ≡ size_of s xs room
     unfolding size_of
     sized_over h = rw (lt-leb (length (path_listing s xs)) room (omega (arith, left_bytes, w.fits)))
 
     pub sized_room : n < length xs
     sized_room = omega (arith, left_count)
 
-  pub sized_ends : z ≤ p → Fits n len ≡ size_of s xs room
+  pub sized_ends : z ≤ p → Some (n, len) ≡ size_of s xs room
   unfolding size_of
   sized_ends h =
       let e = path_done right p z h in
@@ -242,9 +238,6 @@ pub record Copied (s : List ℕ) (right : ℕ → Best) (xs : List (ℕ × Edge)
   pub bytes : done ++ edge_parts s (path right p z) ≡ edge_parts s xs
   pub stored : out ≡ sets out₀ 2 done
   pub behind : at ≡ 2 + length done
-
-pub copied_start : (s : List ℕ) (right : ℕ → Best) (a z : ℕ) (out : List ℕ) → Copied s right (path right a z) z out out a 2
-copied_start s right a z out = record { done = []; bytes = refl; stored = refl; behind = refl }
 
 module _ (s : List ℕ) (right : ℕ → Best) (xs : List (ℕ × Edge)) (z : ℕ) (out₀ out : List ℕ) (p at : ℕ) (w : Copied s right xs z out₀ out p at) where
   pub copied_length : length out ≡ length out₀
@@ -286,11 +279,11 @@ module _ (s : List ℕ) (right : ℕ → Best) (xs : List (ℕ × Edge)) (z : �
 
 -- ---- the whole output: by the size of the path xs
 module _ (s : List ℕ) (xs : List (ℕ × Edge)) (room : ℕ) where
-  pub size_over : size_of s xs room ≡ Over → fitting room (path_listing s xs) ≡ refused ShortOutput
+  pub size_over : size_of s xs room ≡ None → fitting room (path_listing s xs) ≡ refused ShortOutput
   unfolding size_of fitting
   size_over = by_test (leb (length (path_listing s xs)) room) refl
     where
-      by_test : (t : Bool) → leb (length (path_listing s xs)) room ≡ t → cond t (Fits (length xs) (length (path_listing s xs))) Over ≡ Over
+      by_test : (t : Bool) → leb (length (path_listing s xs)) room ≡ t → cond {A = Option (ℕ × ℕ)} t (Some (length xs, length (path_listing s xs))) None ≡ None
           → cond t (listing (path_listing s xs)) (refused ShortOutput) ≡ refused ShortOutput
       by_test true t e = let z : ◌≡◌ {A = ℕ} 0 1 = cc in absurd (omega arith)
       by_test false t e = refl
@@ -301,12 +294,12 @@ module _ (s : List ℕ) (xs : List (ℕ × Edge)) (room : ℕ) where
     pub within : length (path_listing s xs) ≤ room
     pub fits : fitting room (path_listing s xs) ≡ listing (path_listing s xs)
 
-  pub size_fits : {n len : ℕ} → size_of s xs room ≡ Fits n len → SizeFits n len
+  pub size_fits : {n len : ℕ} → size_of s xs room ≡ Some (n, len) → SizeFits n len
   unfolding size_of fitting
   size_fits {n} {len} = by_test (leb (length (path_listing s xs)) room) refl
     where
-      by_test : (t : Bool) → leb (length (path_listing s xs)) room ≡ t → cond t (Fits (length xs) (length (path_listing s xs))) Over ≡ Fits n len → SizeFits n len
-      by_test true t e = record { count = cc; size = cc; within = leb-true (length (path_listing s xs)) room t; fits = rw t }
+      by_test : (t : Bool) → leb (length (path_listing s xs)) room ≡ t → cond {A = Option (ℕ × ℕ)} t (Some (length xs, length (path_listing s xs))) None ≡ Some (n, len) → SizeFits n len
+      by_test true t e = let k = some_pair_parts _ n _ len e in record { count = sym k.0; size = sym k.1; within = leb-true (length (path_listing s xs)) room t; fits = rw t }
       by_test false t e = let z : ◌≡◌ {A = ℕ} 0 1 = cc in absurd (omega arith)
 
 out_written : (s : List ℕ) (xs : List (ℕ × Edge)) (out : List ℕ) (n : ℕ) {mid now : List ℕ} → n ≡ length xs → length (path_listing s xs) ≤ length out
@@ -327,13 +320,13 @@ module _ (skip : Bool) (s : List ℕ) (k : ℕ) (tops ats : List ℕ) (r : Right
   table_short = omega (arith, path_short (by_table s tops ats) z (z - a) a)
 
   module _ (out : List ℕ) where
-    pub path_over : size_of s (path (by_table s tops ats) a z) (length out) ≡ Over
-        → (PathAnswer.Refused ShortOutput ≡ written (fitting (length out) (path_listing s (path (rights skip s k) a z)))) × (out ≡ after out (fitting (length out) (path_listing s (path (rights skip s k) a z))))
+    pub path_over : size_of s (path (by_table s tops ats) a z) (length out) ≡ None
+        → (Err ShortOutput ≡ written (fitting (length out) (path_listing s (path (rights skip s k) a z)))) × (out ≡ after out (fitting (length out) (path_listing s (path (rights skip s k) a z))))
     path_over e =
         let f = size_over s (path (rights skip s k) a z) (length out) (rw path_table at e) in
         (rw f, rw f)
 
-    module _ {n len : ℕ} (e : size_of s (path (by_table s tops ats) a z) (length out) ≡ Fits n len) where
+    module _ {n len : ℕ} (e : size_of s (path (by_table s tops ats) a z) (length out) ≡ Some (n, len)) where
       sized : SizeFits s (path (by_table s tops ats) a z) (length out) n len
       sized = size_fits s (path (by_table s tops ats) a z) (length out) e
 
@@ -347,18 +340,14 @@ module _ (skip : Bool) (s : List ℕ) (k : ℕ) (tops ats : List ℕ) (r : Right
       fits_edges p = omega (arith, sized.within, length_listing s (path (by_table s tops ats) a z), ap length p, length-sets out 0 (bytes_of 2 n))
 
       pub path_written : {mid now : List ℕ} → mid ≡ sets out 0 (bytes_of 2 n) → now ≡ sets mid 2 (edge_parts s (path (by_table s tops ats) a z))
-          → (PathAnswer.Bytes len ≡ written (fitting (length out) (path_listing s (path (rights skip s k) a z)))) × (now ≡ after out (fitting (length out) (path_listing s (path (rights skip s k) a z))))
+          → (Ok len ≡ written (fitting (length out) (path_listing s (path (rights skip s k) a z)))) × (now ≡ after out (fitting (length out) (path_listing s (path (rights skip s k) a z))))
       path_written p q =
           let f : fitting (length out) (path_listing s (path (rights skip s k) a z)) ≡ listing (path_listing s (path (by_table s tops ats) a z)) = rw (← path_table) sized.fits in
           (rw (f, sized.size), rw f (out_written s (path (by_table s tops ats) a z) out n sized.count sized.within p q))
 
 -- the call, where the checks refuse nothing
 module _ (line s : List ℕ) (a z : Place) (skip : Bool) (room : ℕ) where
-  pub out_refused : {r : ReadRefusal} → read_check line s ≡ ReadCheck.Refused r → refused r ≡ path_out line s a z skip room
-  unfolding path_out
-  out_refused e = rw e
-
-  module _ {n k : ℕ} (e : read_check line s ≡ ReadCheck.Readable n k) where
+  module _ {n k : ℕ} (e : read_check line s ≡ Ok (n, k)) where
     pub out_outside : inside n (Query.Span a z) ≡ false → refused BadPlace ≡ path_out line s a z skip room
     unfolding path_out
     out_outside h = rw (e, h)

@@ -1,40 +1,32 @@
 -- Laws of the checks and answers of a reading call (`specs/Reading.antt`). No contract cites this file.
 -- In order: what the checks show of line and listing; the edge that is found; the answers. Assumes nothing.
 use mathlib.Core.Path.{◌≡◌, refl, sym, ap, ◌∙◌}
-use mathlib.Core.Bool.{Bool, true, false, cond, ◌&&◌}
-use mathlib.Core.List.{List, [], ◌∷◌}
+use mathlib.Core.Bool.{Bool, true, false, ◌&&◌}
+use mathlib.Core.List.{List}
 use mathlib.Core.Option.{none, some}
-use Prim.Native.Nat.{ℕ, zero, suc, ◌+◌, ◌-◌, ◌≤◌, ◌<◌}
+use Prim.Native.Nat.{ℕ, zero, suc, ◌-◌, ◌≤◌, ◌<◌}
 use native.Mathlib.Nat.{le_trans}
 use native.Mathlib.Omega.{arith}
 use lib.ListN.{length}
 use lib.Dec.{leb, ltb}
 use borrow.Author.Tests.{leb-true, ltb-true}
 use Rattle.text.specs.declared.Offset.{Offset}
-use Rattle.text.specs.declared.LineCheck.{LineCheck}
-use Rattle.text.specs.declared.LineCheck.TheVariants.{Chars, IllFormed, TooLong}
 use Rattle.text.specs.Text.{chars, well_formed}
 use Rattle.text.specs.Line.{line_check}
 use Rattle.text.proofs.RowLaws.{cond_cases, and-true}
 use Rattle.text.proofs.line.LineLaws.{checked_line}
 use Rattle.fields.specs.Fields.{le_at}
-use Rattle.edge.specs.declared.ListingCheck.{ListingCheck}
-use Rattle.edge.specs.declared.ListingCheck.TheVariants as ListingCheck
 use Rattle.edge.specs.Edge.{Edge}
 use Rattle.edge.specs.Layout.{map_at, head_end, next_at, edge_at}
 use Rattle.edge.specs.Check.{allowed, each, sound_numeric, sound, good, check_edges, check_listing}
 use Rattle.edge.proofs.CheckLaws.{good_whole, head_within}
 use Rattle.paths.specs.declared.Query.{Query}
-use Rattle.paths.specs.declared.Found.{Found}
-use Rattle.paths.specs.declared.Found.TheVariants.{At, Nothing}
-use Rattle.paths.specs.declared.ReadRefusal.{ReadRefusal}
 use Rattle.paths.specs.declared.ReadRefusal.TheVariants.{BadPlace}
-use Rattle.paths.specs.declared.ReadCheck.{ReadCheck}
-use Rattle.paths.specs.declared.ReadCheck.TheVariants as ReadCheck
-use Rattle.paths.specs.declared.EdgeAnswer.TheVariants as EdgeAnswer
 use Rattle.paths.specs.Best.{Best, best, with_offsets, Whole, found}
 use Rattle.paths.specs.Reading.{after_listing, after_line, read_check, Spanned, Spans, inside, answer}
 use Rattle.paths.proofs.BestLaws.{Each, OfBest, best_holds}
+use Rattle.std.specs.Prelude.{Option, Some, Result, Ok, Err}
+use Rattle.text.specs.declared.LineRefusal.{LineRefusal}
 
 -- ---- what the checks show
 pub first_two : (a b c d : Bool) → (((a && b) && c) && d) ≡ true → (a ≡ true) × (b ≡ true)
@@ -59,21 +51,21 @@ spanned n s at g =
     let p = sound_span n (edge_at s at) fine in
     record { whole = good_whole false n s at g; rises = p.0; within = p.1; numeric = sound_numeric_lem n (edge_at s at) fine }
 
-checked : (n : ℕ) (s : List ℕ) (k at m : ℕ) → at ≤ length s → check_edges false n s k at ≡ ListingCheck.Edges m → (m ≡ le_at s 0 2) × Spans n k s at
+checked : (n : ℕ) (s : List ℕ) (k at m : ℕ) → at ≤ length s → check_edges false n s k at ≡ Ok m → (m ≡ le_at s 0 2) × Spans n k s at
 unfolding check_edges Spans
 checked n s zero at m h =
-    cond_cases (λ (r : ListingCheck). r ≡ ListingCheck.Edges m → (m ≡ le_at s 0 2) × (at ≤ length s)) (ltb at (length s))
+    cond_cases (λ (r : Result ℕ Offset). r ≡ Ok m → (m ≡ le_at s 0 2) × (at ≤ length s)) (ltb at (length s))
     (λ t e. let z : ◌≡◌ {A = ℕ} 0 1 = cc in absurd (omega arith))
     (λ t e. (cc, h))
 checked n s (suc k) at m h =
-    cond_cases (λ (r : ListingCheck). r ≡ ListingCheck.Edges m → (m ≡ le_at s 0 2) × (Spanned n s at × Spans n k s (next_at s at))) (good false n s at)
+    cond_cases (λ (r : Result ℕ Offset). r ≡ Ok m → (m ≡ le_at s 0 2) × (Spanned n s at × Spans n k s (next_at s at))) (good false n s at)
     (λ g e. let r = checked n s k (next_at s at) m (good_whole false n s at g) e in (r.0, (spanned n s at g, r.1)))
     (λ g e. let z : ◌≡◌ {A = ℕ} 0 1 = cc in absurd (omega arith))
 
-checked_listing : (n : ℕ) (s : List ℕ) (k : ℕ) → check_listing false n s ≡ ListingCheck.Edges k → (k ≡ le_at s 0 2) × Spans n k s 2
+checked_listing : (n : ℕ) (s : List ℕ) (k : ℕ) → check_listing false n s ≡ Ok k → (k ≡ le_at s 0 2) × Spans n k s 2
 unfolding check_listing
 checked_listing n s k =
-    cond_cases (λ (r : ListingCheck). r ≡ ListingCheck.Edges k → (k ≡ le_at s 0 2) × Spans n k s 2) (leb 2 (length s))
+    cond_cases (λ (r : Result ℕ Offset). r ≡ Ok k → (k ≡ le_at s 0 2) × Spans n k s 2) (leb 2 (length s))
     (λ t e. let r = checked n s (le_at s 0 2) 2 k (leb-true 2 (length s) t) e in (r.0, rw r.0 r.1))
     (λ t e. let z : ◌≡◌ {A = ℕ} 0 1 = cc in absurd (omega arith))
 
@@ -85,21 +77,21 @@ pub record Reads (line s : List ℕ) (n k : ℕ) : Type 0 where
   pub edges : k ≡ le_at s 0 2
   pub spans : Spans n k s 2
 
-pub reads : (line s : List ℕ) (n k : ℕ) → read_check line s ≡ ReadCheck.Readable n k → Reads line s n k
+pub reads : (line s : List ℕ) (n k : ℕ) → read_check line s ≡ Ok (n, k) → Reads line s n k
 unfolding read_check
 reads line s n k = by_line (line_check line) refl
   where
-    by_listing : (m : ℕ) (r : ListingCheck) → check_listing false m s ≡ r → after_listing m r ≡ ReadCheck.Readable n k → (m ≡ n) × (k ≡ le_at s 0 2) × Spans m k s 2
-    by_listing m (ListingCheck.Edges j) g e = let p : m ≡ n = cc in let q : j ≡ k = cc in let h = checked_listing m s k (g ∙ ap ListingCheck.Edges q) in (p, h.0, h.1)
-    by_listing m (ListingCheck.Refused at) g e = let z : ◌≡◌ {A = ℕ} 0 1 = cc in absurd (omega arith)
+    by_listing : (m : ℕ) (r : Result ℕ Offset) → check_listing false m s ≡ r → after_listing m r ≡ Ok (n, k) → (m ≡ n) × (k ≡ le_at s 0 2) × Spans m k s 2
+    by_listing m (Ok j) g e = let w : ◌≡◌ {A = ℕ × ℕ} (m, j) (n, k) = cc in let q : j ≡ k = ap (λ (x : ℕ × ℕ). x.1) w in let h = checked_listing m s k (g ∙ ap Ok q) in (ap (λ (x : ℕ × ℕ). x.0) w, h.0, h.1)
+    by_listing m (Err at) g e = let z : ◌≡◌ {A = ℕ} 0 1 = cc in absurd (omega arith)
 
-    by_line : (l : LineCheck) → line_check line ≡ l → after_line l s ≡ ReadCheck.Readable n k → Reads line s n k
-    by_line (Chars m) g e =
+    by_line : (l : Result ℕ LineRefusal) → line_check line ≡ l → after_line l s ≡ Ok (n, k) → Reads line s n k
+    by_line (Ok m) g e =
         let r = by_listing m (check_listing false m s) refl e in
         let l = checked_line line m g in
         record { count = sym r.0 ∙ l.0; few = omega arith; is_well_formed = l.2; edges = r.1; spans = rw r.0 at r.2 }
-    by_line (IllFormed at) g e = let z : ◌≡◌ {A = ℕ} 0 1 = cc in absurd (omega arith)
-    by_line (TooLong at) g e = let z : ◌≡◌ {A = ℕ} 0 1 = cc in absurd (omega arith)
+    by_line (Err (LineRefusal.IllFormed at)) g e = let z : ◌≡◌ {A = ℕ} 0 1 = cc in absurd (omega arith)
+    by_line (Err (LineRefusal.TooLong at)) g e = let z : ◌≡◌ {A = ℕ} 0 1 = cc in absurd (omega arith)
 
 pub spans_whole : (n k : ℕ) (s : List ℕ) (at : ℕ) → Spans n k s at → Whole k s at
 unfolding Spans Whole
@@ -124,6 +116,9 @@ module _ (n k : ℕ) (s : List ℕ) (at : ℕ) (h : 0 < k) (w : Spans n k s at) 
   unfolding Spans
   spans_next = first_of.1
 
+pub read_spans : (line s : List ℕ) {n k : ℕ} → read_check line s ≡ Ok (n, k) → Spans n k s 2
+read_spans line s {n} {k} e = (reads line s n k e).spans
+
 -- ---- the edge that is found: it is one of the listing
 pub record Listed (n : ℕ) (s : List ℕ) (x : ℕ × Edge) : Type 0 where
   pub edge : x.1 ≡ edge_at s x.0
@@ -137,25 +132,21 @@ spans_each n (suc k) s at h = (record { edge = refl; span = h.0 }, spans_each n 
 pub best_listed : (skip : Bool) (q : Query) (n k : ℕ) (s : List ℕ) (at : ℕ) → Spans n k s at → OfBest (Listed n s) (best skip q (with_offsets k s at))
 best_listed skip q n k s at h = best_holds skip q (Listed n s) (with_offsets k s at) (spans_each n k s at h)
 
-pub found_head : (skip : Bool) (q : Query) (n k : ℕ) (s : List ℕ) (at : ℕ) {o : Offset} → Spans n k s at → found (best skip q (with_offsets k s at)) ≡ At o → head_end s o.0 ≤ length s
+pub found_head : (skip : Bool) (q : Query) (n k : ℕ) (s : List ℕ) (at : ℕ) {o : Offset} → Spans n k s at → found (best skip q (with_offsets k s at)) ≡ Some o → head_end s o.0 ≤ length s
 unfolding found
 found_head skip q n k s at {o} h = by_best (best skip q (with_offsets k s at)) (best_listed skip q n k s at h)
   where
-    by_best : (b : Best) → OfBest (Listed n s) b → found b ≡ At o → head_end s o.0 ≤ length s
+    by_best : (b : Best) → OfBest (Listed n s) b → found b ≡ Some o → head_end s o.0 ≤ length s
     by_best none l e = let z : ◌≡◌ {A = ℕ} 0 1 = cc in absurd (omega arith)
     by_best (some x) l e = let p : record { 0 = x.0 } ≡ o = cc in rw (← p) (head_within s x.0 (length s) l.span.whole)
 
 -- ---- the answers
 module _ (line s : List ℕ) (q : Query) (skip : Bool) where
-  pub answer_refused : {r : ReadRefusal} → read_check line s ≡ ReadCheck.Refused r → EdgeAnswer.Refused r ≡ answer line s q skip
-  unfolding answer
-  answer_refused e = rw e
-
-  module _ {n k : ℕ} (e : read_check line s ≡ ReadCheck.Readable n k) where
-    pub answer_outside : inside n q ≡ false → EdgeAnswer.Refused BadPlace ≡ answer line s q skip
+  module _ {n k : ℕ} (e : read_check line s ≡ Ok (n, k)) where
+    pub answer_outside : inside n q ≡ false → Err BadPlace ≡ answer line s q skip
     unfolding answer
     answer_outside h = rw (e, h)
 
-    pub answer_best : {f : Found} → inside n q ≡ true → f ≡ found (best skip q (with_offsets k s 2)) → EdgeAnswer.Best f ≡ answer line s q skip
+    pub answer_best : {f : Option Offset} → inside n q ≡ true → f ≡ found (best skip q (with_offsets k s 2)) → Ok f ≡ answer line s q skip
     unfolding answer
     answer_best h b = rw (e, h, b)

@@ -1,33 +1,28 @@
 -- Laws of the text shown (`specs/Shown.antt`). No contract cites this file.
 -- In order: offsets of neighbouring places; a part of a slice; the answers. Assumes nothing.
-use mathlib.Core.Path.{◌≡◌, refl, sym, ap, ◌∙◌}
-use mathlib.Core.Bool.{Bool, true, false, cond}
-use mathlib.Core.List.{List, [], ◌∷◌, ◌++◌}
-use Prim.Native.Nat.{ℕ, zero, suc, ◌+◌, ◌-◌, ◌≤◌, ◌<◌}
+use mathlib.Core.Path.{◌≡◌, sym}
+use mathlib.Core.Bool.{false}
+use mathlib.Core.List.{List, []}
+use Prim.Native.Nat.{ℕ, ◌+◌, ◌-◌, ◌≤◌, ◌<◌}
 use native.Mathlib.Nat.{add-sub_cancel_left}
 use native.Mathlib.Numerals.{add-one}
 use native.Mathlib.Omega.{arith}
 use lib.ListN.{length, take, drop, drop_of_length-le, length-append, length-drop}
 use lib.Seq.{take-add, take_all, take-nil}
-use borrow.Author.Tests.{lt-ltb, le-ltb}
+use borrow.Author.Tests.{lt-ltb}
 use Rattle.text.specs.declared.Place.{Place}
 use Rattle.text.specs.declared.Offset.{Offset}
-use Rattle.text.specs.Text.{chars, encodes, offset_of}
+use Rattle.text.specs.Text.{chars, offset_of}
 use Rattle.text.proofs.TextLaws.{encodes_append}
-use Rattle.fields.specs.Part.{part, part_of}
+use Rattle.fields.specs.Part.{part}
 use Rattle.edge.specs.declared.EdgeView.{EdgeView}
 use Rattle.edge.specs.View.{view_at}
-use Rattle.paths.specs.declared.Found.{Found}
-use Rattle.paths.specs.declared.Found.TheVariants.{At, Nothing}
-use Rattle.paths.specs.declared.ReadRefusal.{ReadRefusal}
-use Rattle.paths.specs.declared.ReadRefusal.TheVariants.{BadPlace}
-use Rattle.paths.specs.declared.ReadCheck.TheVariants as ReadCheck
 use Rattle.paths.specs.declared.Query.TheVariants as Query
-use Rattle.paths.specs.declared.Shown.{Shown}
-use Rattle.paths.specs.declared.Shown.TheVariants.{Listing, Line, Refused}
 use Rattle.paths.specs.Best.{best, with_offsets, found}
 use Rattle.paths.specs.Reading.{read_check}
 use Rattle.paths.specs.Shown.{shown_by, shown}
+use Rattle.std.specs.Prelude.{Option, Some, None, Ok}
+use Rattle.paths.specs.declared.Shown.{Shown}
 
 -- ---- the bytes of one character lie between the offsets of two places
 pub offset_next : (line : List ℕ) (p : ℕ) → offset_of line p ≤ offset_of line (p + 1)
@@ -49,25 +44,17 @@ module _ (s : List ℕ) (at n : ℕ) where
   part_within = rw add-sub_cancel_left
 
 -- ---- the answers
-module _ (line s : List ℕ) (p : ℕ) {f : Found} where
-  pub shown_listing : {o : Offset} {e : EdgeView} → f ≡ At o → e ≡ view_at s o.0 → Listing e.txt ≡ shown_by line s p f
+module _ (line s : List ℕ) (p : ℕ) {f : Option Offset} where
+  pub shown_listing : {o : Offset} {e : EdgeView} → f ≡ Some o → e ≡ view_at s o.0 → Shown.Listing e.txt ≡ shown_by line s p f
   unfolding view_at shown_by
   shown_listing h v = rw (h, v)
 
-  pub shown_line : {a b : ℕ} → f ≡ Nothing → a ≡ offset_of line p → b ≡ offset_of line (p + 1) → Line (record { at = record { 0 = a }; len = b - a }) ≡ shown_by line s p f
+  pub shown_line : {a b : ℕ} → f ≡ None → a ≡ offset_of line p → b ≡ offset_of line (p + 1) → Shown.Line (record { at = record { 0 = a }; len = b - a }) ≡ shown_by line s p f
   unfolding shown_by
   shown_line h x y = rw (h, x, y, add-one)
 
 module _ (line s : List ℕ) (p : Place) where
-  pub shown_refused : {r : ReadRefusal} → read_check line s ≡ ReadCheck.Refused r → Refused r ≡ shown line s p
-  unfolding shown
-  shown_refused e = rw e
-
-  module _ {n k : ℕ} (e : read_check line s ≡ ReadCheck.Readable n k) where
-    pub shown_outside : n ≤ p.0 → Refused BadPlace ≡ shown line s p
+  module _ {n k : ℕ} (e : read_check line s ≡ Ok (n, k)) where
+    pub shown_inside : {w : Shown} → p.0 < n → w ≡ shown_by line s p.0 (found (best false (Query.Right p) (with_offsets k s 2))) → Ok w ≡ shown line s p
     unfolding shown
-    shown_outside h = rw (e, le-ltb p.0 n h)
-
-    pub shown_inside : {w : Shown} → p.0 < n → w ≡ shown_by line s p.0 (found (best false (Query.Right p) (with_offsets k s 2))) → w ≡ shown line s p
-    unfolding shown
-    shown_inside h b = b ∙ rw (e, lt-ltb p.0 n h)
+    shown_inside h b = rw (e, b, lt-ltb p.0 n h)

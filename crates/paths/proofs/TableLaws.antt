@@ -2,9 +2,9 @@
 -- In order: the walk over the listing; what the tables keep of it. Assumes nothing.
 use mathlib.Core.Path.{◌≡◌, refl, sym, ap, ◌∙◌}
 use mathlib.Core.Bool.{Bool, true, false, cond}
-use mathlib.Core.List.{List, [], ◌∷◌}
-use mathlib.Core.Option.{none, some}
-use Prim.Native.Nat.{ℕ, zero, suc, ◌+◌, ◌-◌, ◌≤◌, ◌<◌}
+use mathlib.Core.List.{List}
+use mathlib.Core.Option.{some}
+use Prim.Native.Nat.{ℕ, ◌+◌, ◌-◌, ◌≤◌, ◌<◌}
 use native.Mathlib.Omega.{arith}
 use native.Mathlib.Decide.{ℕ_discrete}
 use lib.ListN.{length, get_or, set, replicate, length-set, length-replicate, get_or-replicate}
@@ -12,17 +12,15 @@ use lib.Seq.{get_or-set_same, get_or-set_other}
 use lib.Dec.{ltb}
 use borrow.Author.Tests.{lt-ltb, ltb-true, ltb-false}
 use Rattle.fields.specs.Fields.{le_at}
-use Rattle.edge.specs.Edge.{Edge}
 use Rattle.edge.specs.Layout.{next_at, edge_at}
-use Rattle.edge.proofs.CheckLaws.{map_within}
 use Rattle.paths.specs.declared.Query.TheVariants.{Right}
-use Rattle.paths.specs.declared.Hop.TheVariants.{Pass, Take}
-use Rattle.paths.specs.Best.{score, Best, best, with_offsets, kept}
+use Rattle.paths.specs.Best.{score, Best, with_offsets, kept}
 use Rattle.paths.specs.Reading.{Spanned, Spans}
 use Rattle.paths.specs.Path.{rights}
 use Rattle.paths.specs.Table.{by_table, Rights, Step, Steps, hop_of}
 use Rattle.paths.proofs.BestLaws.{Walk, walk_start, walk_better, walk_on, walk_ends, head_bytes_lem, OfBest, best_positive, score_asks, right_start, right_elsewhere}
 use Rattle.paths.proofs.ReadingLaws.{Listed, best_listed, spans_whole, spans_first, spans_next}
+use Rattle.std.specs.Prelude.{Some, None}
 
 -- ---- the walk: for each place it keeps the best of the edges seen
 pub record Table (skip : Bool) (s : List ℕ) (count at left : ℕ) (tops ats : List ℕ) : Type 0 where
@@ -117,11 +115,11 @@ rights_steps skip s k tops ats w r p h t = step (rights skip s k p) (best_listed
 
 -- ---- a step of the path
 module _ (s tops ats : List ℕ) (w : Steps s tops ats) (p : ℕ) (h : p < 256) where
-  pub hop_pass : get_or tops p 0 ≡ 0 → Pass ≡ hop_of s (by_table s tops ats p)
+  pub hop_pass : get_or tops p 0 ≡ 0 → None ≡ hop_of s (by_table s tops ats p)
   unfolding hop_of
   hop_pass e = rw e
 
-  pub hop_take : {b e : ℕ} → (get_or tops p 0 ≡ 0 → ⊥) → b ≡ next_at s (get_or ats p 0) → e ≡ le_at s (get_or ats p 0 + 4) 2 → Take (record { 0 = get_or ats p 0 }) (record { 0 = b }) (record { 0 = e }) ≡ hop_of s (by_table s tops ats p)
+  pub hop_take : {b e : ℕ} → (get_or tops p 0 ≡ 0 → ⊥) → b ≡ next_at s (get_or ats p 0) → e ≡ le_at s (get_or ats p 0 + 4) 2 → Some (record { 0 = get_or ats p 0 }, record { 0 = b }, record { 0 = e }) ≡ hop_of s (by_table s tops ats p)
   unfolding hop_of edge_at
   hop_take n x y = rw (lt-ltb 0 (get_or tops p 0) (omega arith), x, y)
 

@@ -12,17 +12,15 @@
 --     Whole k s at         these edges are within s
 --     found b              the answer of the code: the label, an offset, or none
 -- Assumes nothing.
-use Rattle.std.specs.Prelude.{ℕ, zero, suc, ◌+◌, ◌-◌, ◌*◌, ◌≤◌, max, Bool, cond, ◌&&◌, ◌||◌, List, [], ◌∷◌, length, take, eqb, ltb}
+use Rattle.std.specs.Prelude.{ℕ, zero, suc, ◌+◌, ◌-◌, ◌*◌, ◌≤◌, max, Bool, cond, ◌&&◌, ◌||◌, List, [], ◌∷◌, length, take, eqb, ltb, Some, None}
 use Rattle.std.proofs.Math.Option.{Option, none, some}
 use Rattle.text.specs.Bytes.{same}
-use Rattle.text.specs.declared.Place.{Place}
 use Rattle.text.specs.declared.Offset.{Offset}
 use Rattle.edge.specs.Edge.{Text, Numeric, Edge}
 use Rattle.edge.specs.Layout.{edge_at, next_at}
 use Rattle.paths.specs.declared.Query.{Query}
 use Rattle.paths.specs.declared.Query.TheVariants.{Span, Right, Left}
-use Rattle.paths.specs.declared.Found.{Found}
-use Rattle.paths.specs.declared.Found.TheVariants.{At, Nothing}
+use Rattle.std.specs.Prelude as std
 
 -- ---- classes
 unfoldable pub starts_with : Text → Text → Bool
@@ -104,6 +102,6 @@ Whole (suc k) s at = (next_at s at ≤ length s) × Whole k s (next_at s at)
 abbrev pub kept : List ℕ → ℕ → ℕ → Best
 kept s top x = cond (ltb 0 top) (some (x, edge_at s x)) none
 
-unfoldable pub found : Best → Found
-found none = Nothing
-found (some x) = At (record { 0 = x.0 })
+unfoldable pub found : Best → std.Option Offset
+found none = None
+found (some x) = Some (record { 0 = x.0 })

@@ -7,7 +7,7 @@
 --     path_out ..               the path's listing, or the refusal; 8: "where it is longer than the output"
 --     written w, after out w   the call's answer, and the output after it
 -- An edge that runs past the end is kept whole. Assumes nothing.
-use Rattle.std.specs.Prelude.{ℕ, zero, suc, ◌-◌, Bool, cond, List, [], ◌∷◌, ◌++◌, length, drop, ltb, leb}
+use Rattle.std.specs.Prelude.{ℕ, zero, suc, ◌-◌, Bool, cond, List, [], ◌∷◌, ◌++◌, length, drop, ltb, leb, Result, Ok, Err}
 use Rattle.std.proofs.Math.Option.{none, some}
 use Rattle.text.specs.declared.Place.{Place}
 use Rattle.fields.specs.Fields.{bytes_of}
@@ -17,8 +17,6 @@ use Rattle.edge.specs.Layout.{next_at}
 use Rattle.paths.specs.declared.Query.TheVariants as Query
 use Rattle.paths.specs.declared.ReadRefusal.{ReadRefusal}
 use Rattle.paths.specs.declared.ReadRefusal.TheVariants.{ShortOutput, BadPlace}
-use Rattle.paths.specs.declared.PathAnswer.{PathAnswer}
-use Rattle.paths.specs.declared.PathAnswer.TheVariants as PathAnswer
 use Rattle.paths.specs.Best.{Best, best, with_offsets}
 use Rattle.paths.specs.Reading.{read_check, readable, inside}
 
@@ -69,9 +67,9 @@ path_in s a z skip room n k =
 unfoldable pub path_out : List ℕ → List ℕ → Place → Place → Bool → ℕ → PathOut
 path_out line s a z skip room = readable refused (path_in s a z skip room) (read_check line s)
 
-abbrev pub written : PathOut → PathAnswer
-written (listing bytes) = PathAnswer.Bytes (length bytes)
-written (refused r) = PathAnswer.Refused r
+abbrev pub written : PathOut → Result ℕ ReadRefusal
+written (listing bytes) = Ok (length bytes)
+written (refused r) = Err r
 
 -- behind the listing the output is as it was, and all of it on a refusal
 abbrev pub after : List ℕ → PathOut → List ℕ

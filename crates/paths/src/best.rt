@@ -2,31 +2,26 @@
 ghost use Rattle.std.specs.Prelude.{◌≡◌, cond, ◌<◌, length, get_or, set, ltb};
 ghost use Rattle.paths.specs.Best.{best, with_offsets, Whole, found};
 
-use crate::{Found, Query};
+use crate::Query;
 use text::{Offset, Place};
 
 // The best of so many edges from an offset on, the first of its class (02, S-5). One walk over them.
-pub fn best_of(s: &[u8], first: usize, count: usize, q: Query, skip: bool) -> Found
+pub fn best_of(s: &[u8], first: usize, count: usize, q: Query, skip: bool) -> Option<Offset>
     requires { Whole count s.now first }
     ensures { result ≡ found (best skip q (with_offsets count s.now first)) }
 {
     let mut at = first;
-    let mut left = count;
     let mut top = 0;
-    let mut top_at = 0;
-    while 0 < left {
+    let mut held = None;
+    for _ in 0..count {
         let score = crate::score::score_at(s, at, q, skip);
         if top < score {
             top = score;
-            top_at = at;
+            held = Some(Offset(at));
         }
         at = edge::next::next_at(s, at);
-        left -= 1;
     }
-    if top == 0 {
-        return Found::Nothing;
-    }
-    Found::At(Offset(top_at))
+    held
 }
 
 // Keeps an edge, by its offset or another label, as the neighbour of a place, where it scores higher than the one kept there.

@@ -2,20 +2,14 @@
 ghost use Rattle.std.specs.Prelude.{◌≡◌};
 ghost use Rattle.paths.specs.Reading.{read_check};
 
-use crate::{ReadCheck, ReadRefusal};
-use edge::ListingCheck;
-use text::LineCheck;
+use crate::ReadRefusal;
 
-// The checks 2, 3 and 6.
-pub fn check(line: &[u8], listing: &[u8]) -> ReadCheck
+// The checks 2, 3 and 6: how many characters the line has, and how many edges the listing.
+#[tactic(auto, unfolding(crate::specs::Reading::read_check))]
+pub fn check(line: &[u8], listing: &[u8]) -> Result<(usize, usize), ReadRefusal>
     ensures { result ≡ read_check line.now listing.now }
 {
-    match text::check::check_line(line) {
-        LineCheck::IllFormed(at) => ReadCheck::Refused(ReadRefusal::NotUtf8(at)),
-        LineCheck::TooLong(at) => ReadCheck::Refused(ReadRefusal::OverLong(at)),
-        LineCheck::Chars(chars) => match edge_check::check_listing(listing, chars, false) {
-            ListingCheck::Refused(at) => ReadCheck::Refused(ReadRefusal::BadListing(at)),
-            ListingCheck::Edges(count) => ReadCheck::Readable(chars, count),
-        },
-    }
+    let chars = text::check::check_line(line)?;
+    let count = edge_check::check_listing(listing, chars, false).map_err(ReadRefusal::BadListing)?;
+    Ok((chars, count))
 }

@@ -9,8 +9,11 @@ pub mod walk; // walk.rt: the walk along a path
 pub mod check; // check.rt: the checks of a call that reads a listing
 pub mod theorems; // theorems.rt: a path's listing, read again, is the path (theorems)
 
+ghost use Rattle.std.specs.Prelude.{◌≡◌};
+ghost use Rattle.paths.specs.Reading.{of_line};
+
 use fields::Part;
-use text::{Offset, Place};
+use text::{LineRefusal, Offset, Place};
 
 // What is asked for: the best edge of a span, the right neighbour of a place, the left neighbour.
 #[derive(Clone, Copy)]
@@ -18,13 +21,6 @@ pub enum Query {
     Span(Place, Place),
     Right(Place),
     Left(Place),
-}
-
-// The offset of an edge in the listing, or none.
-#[derive(Clone, Copy)]
-pub enum Found {
-    At(Offset),
-    Nothing,
 }
 
 // A refusal of a call that reads a listing: 2, 3, 6, 8 and 9 of 01.
@@ -37,45 +33,20 @@ pub enum ReadRefusal {
     BadPlace,
 }
 
-// What the checks 2, 3 and 6 find: so many characters and edges, or a refusal.
-#[derive(Clone, Copy)]
-pub enum ReadCheck {
-    Readable(usize, usize),
-    Refused(ReadRefusal),
+impl From<LineRefusal> for ReadRefusal {
+    ghost from_gives = { λ e r. r ≡ of_line e };
+
+    fn from(e: LineRefusal) -> ReadRefusal {
+        match e {
+            LineRefusal::IllFormed(at) => ReadRefusal::NotUtf8(at),
+            LineRefusal::TooLong(at) => ReadRefusal::OverLong(at),
+        }
+    }
 }
 
-// What writing a path answers: so many bytes, or a refusal.
-#[derive(Clone, Copy)]
-pub enum PathAnswer {
-    Bytes(usize),
-    Refused(ReadRefusal),
-}
-
-// What a call for one edge answers: its offset, or none, or a refusal.
-#[derive(Clone, Copy)]
-pub enum EdgeAnswer {
-    Best(Found),
-    Refused(ReadRefusal),
-}
-
-// The text shown at a place: a part of the listing, a part of the line, or a refusal.
+// The text shown at a place: a part of the listing, or a part of the line.
 #[derive(Clone, Copy)]
 pub enum Shown {
     Listing(Part),
     Line(Part),
-    Refused(ReadRefusal),
-}
-
-// Where the path goes on from a place: past it; or over its right neighbour, from an offset to another, to the place where it ends.
-#[derive(Clone, Copy)]
-pub enum Hop {
-    Pass,
-    Take(Offset, Offset, Place),
-}
-
-// How many edges a path has, and how many bytes its listing; or that it is longer than the room for it.
-#[derive(Clone, Copy)]
-pub enum Size {
-    Fits(usize, usize),
-    Over,
 }

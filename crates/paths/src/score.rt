@@ -1,39 +1,20 @@
 // The score of an edge in a listing (01, "The rest of the call").
 ghost use Rattle.std.specs.Prelude.{◌≡◌, ◌+◌, ◌≤◌, length};
 ghost use Rattle.edge.specs.Layout.{edge_at, head_end};
-ghost use Rattle.fields.specs.Part.{part_of};
-ghost use Rattle.paths.specs.Best.{starts_with, regular_class, class, asked, score};
+ghost use Rattle.paths.specs.Best.{regular_class, class, asked, score};
 
 use crate::Query;
 use edge::bits;
-use fields::Part;
 use text::Place;
 
-// Whether a text of s begins with a prefix.
-fn starts_with(s: &[u8], t: Part, prefix: &[u8]) -> bool
-    requires { t.at.0 + t.len ≤ length s.now }
-    ensures { result ≡ starts_with (part_of s.now t) prefix.now }
-{
-    if t.len < prefix.len() {
-        return false;
-    }
-    let from = t.at.0;
-    let to = from + prefix.len();
-    text::same_bytes(&s[from..to], prefix)
-}
-
 // The class of a regular edge by its type.
-fn regular_class(s: &[u8], ty: Part) -> usize
-    requires { ty.at.0 + ty.len ≤ length s.now }
-    ensures { result ≡ regular_class (part_of s.now ty) }
+fn regular_class(ty: &[u8]) -> usize
+    ensures { result ≡ regular_class ty.now }
 {
-    if starts_with(s, ty, b"rom decomp") {
+    if ty.starts_with(b"rom decomp") {
         return 3;
     }
-    if starts_with(s, ty, b"rom") {
-        return 4;
-    }
-    if starts_with(s, ty, b"num") {
+    if ty.starts_with(b"rom") | ty.starts_with(b"num") {
         return 4;
     }
     2
@@ -46,7 +27,8 @@ fn class_at(s: &[u8], at: usize, skip: bool) -> usize
 {
     let e = edge::head::edge_at(s, at);
     if !edge::bit(e.map, bits::NUMERIC) {
-        return regular_class(s, e.ty);
+        let from = e.ty.at.0;
+        return regular_class(&s[from..from + e.ty.len]);
     }
     if skip {
         return 0;
@@ -55,6 +37,7 @@ fn class_at(s: &[u8], at: usize, skip: bool) -> usize
 }
 
 // Whether an edge from start to end is one of those asked for.
+#[tactic(auto, unfolding(crate::specs::Best::asked))]
 fn is_asked(q: Query, start: Place, end: Place) -> bool
     ensures { result ≡ asked q start.0 end.0 }
 {
@@ -79,8 +62,5 @@ pub fn score_at(s: &[u8], at: usize, q: Query, skip: bool) -> usize
     if class == 0 {
         return 0;
     }
-    if end <= start {
-        return class;
-    }
-    (end - start) * 8 + class
+    end.saturating_sub(start) * 8 + class
 }

@@ -5,57 +5,64 @@ ghost use Rattle.paths.specs.Path.{path, edge_parts};
 ghost use Rattle.paths.specs.Table.{by_table, Steps, hop_of, size_of};
 ghost use Rattle.text.specs.Line.{max_chars};
 
-use crate::{Hop, Size};
 use text::check::MAX_CHARS;
 use text::{Offset, Place};
 
+// The right neighbours of all places: for each place a score, 0 for none, and the offset of its edge.
+#[derive(Drop)]
+pub struct Neighbors {
+    pub tops: [usize; MAX_CHARS],
+    pub ats: [usize; MAX_CHARS],
+}
+
 // The step of the path from a place.
-fn hop_from(s: &[u8], tops: &[usize; MAX_CHARS], ats: &[usize; MAX_CHARS], place: Place) -> Hop
-    requires { Steps s.now tops.now ats.now × (place.0 < max_chars) }
+fn hop_from(s: &[u8], right: &Neighbors, place: Place) -> Option<(Offset, Offset, Place)>
+    requires { Steps s.now right.now.tops right.now.ats × (place.0 < max_chars) }
     ensures { result ≡ hop_of s.now
-        (by_table s.now tops.now ats.now place.0) }
+        (by_table s.now right.now.tops right.now.ats place.0) }
 {
     let p = place.0;
-    if tops[p] == 0 {
-        return Hop::Pass;
+    if right.tops[p] == 0 {
+        return None;
     }
-    let at = ats[p];
-    Hop::Take(
+    let at = right.ats[p];
+    Some((
         Offset(at),
         Offset(edge::next::next_at(s, at)),
         Place(fields::u16_at(s, at + 4) as usize),
-    )
+    ))
 }
 
 // The size of the path from a place to another.
+// Kept beside `write_path`: refusal 8 leaves the output as it was (01), so the size is counted before a byte is written.
 pub fn path_size(
     s: &[u8],
-    tops: &[usize; MAX_CHARS],
-    ats: &[usize; MAX_CHARS],
+    right: &Neighbors,
     start: Place,
     end: Place,
     room: usize,
-) -> Size
-    requires { Steps s.now tops.now ats.now × (end.0 ≤ max_chars) }
+) -> Option<(usize, usize)>
+    requires { Steps s.now right.now.tops right.now.ats × (end.0 ≤ max_chars) }
     ensures { result ≡ size_of s.now
-        (path (by_table s.now tops.now ats.now) start.0 end.0) room }
+        (path (by_table s.now right.now.tops right.now.ats) start.0 end.0) room }
 {
     if room < 2 {
-        return Size::Over;
+        return None;
     }
     let last = end.0;
     let mut p = start.0;
     let mut n = 0;
     let mut len = 2;
+    // Kept as a loop on a place: a step is as long as its edge, so no range counts the steps.
     while p < last {
-        match hop_from(s, tops, ats, Place(p)) {
-            Hop::Pass => {
+        match hop_from(s, right, Place(p)) {
+            None => {
                 p += 1;
             }
-            Hop::Take(from, to, next) => {
+            Some((from, to, next)) => {
                 let size = to.0 - from.0;
                 if room - len < size {
-                    return Size::Over;
+                    return None;
                 }
                 len += size;
                 n += 1;
@@ -63,34 +70,28 @@ pub fn path_size(
             }
         }
     }
-    Size::Fits(n, len)
+    Some((n, len))
 }
 
 // The edges of the path, copied behind the count.
-pub fn write_path(
-    s: &[u8],
-    tops: &[usize; MAX_CHARS],
-    ats: &[usize; MAX_CHARS],
-    start: Place,
-    end: Place,
-    out: &mut [u8],
-)
-    requires { Steps s.now tops.now ats.now × (end.0 ≤ max_chars)
-        × (2 + length (edge_parts s.now (path (by_table s.now tops.now ats.now) start.0 end.0))
+pub fn write_path(s: &[u8], right: &Neighbors, start: Place, end: Place, out: &mut [u8])
+    requires { Steps s.now right.now.tops right.now.ats × (end.0 ≤ max_chars)
+        × (2 + length (edge_parts s.now (path (by_table s.now right.now.tops right.now.ats) start.0 end.0))
         ≤ length out.old) }
     ensures { out.new ≡ sets out.old 2
-        (edge_parts s.now (path (by_table s.now tops.now ats.now) start.0
+        (edge_parts s.now (path (by_table s.now right.now.tops right.now.ats) start.0
         end.0)) }
 {
     let last = end.0;
     let mut p = start.0;
     let mut at = 2;
+    // Kept as a loop on a place: a step is as long as its edge, so no range counts the steps.
     while p < last {
-        match hop_from(s, tops, ats, Place(p)) {
-            Hop::Pass => {
+        match hop_from(s, right, Place(p)) {
+            None => {
                 p += 1;
             }
-            Hop::Take(from, to, next) => {
+            Some((from, to, next)) => {
                 let first = from.0;
                 let behind = to.0;
                 fields::copy::copy_in(out, at, &s[first..behind]);

@@ -2,7 +2,7 @@
 #![tactic(auto)]
 
 use answers::CStatus;
-use paths::{Query, Shown};
+use paths::{Query, ReadRefusal, Shown};
 use text::Place;
 
 // An answer by what C is told of it: its status, and the number that goes with it.
@@ -37,15 +37,15 @@ fn left(line: &[u8], listing: &[u8], place: Place, skip: bool) {
 }
 
 // Which of the two a text shown is in; no text goes with a refusal.
-fn show_part(w: Shown) {
+fn show_part(w: Result<Shown, ReadRefusal>) {
     match w {
-        Shown::Listing(_) => {
+        Ok(Shown::Listing(_)) => {
             io::write_all(1, b"listing ");
         }
-        Shown::Line(_) => {
+        Ok(Shown::Line(_)) => {
             io::write_all(1, b"line ");
         }
-        Shown::Refused(_) => {
+        Err(_) => {
             let t = answers::reading::shown_told(w);
             show(
                 b"",

@@ -19,8 +19,6 @@ use Rattle.paths.specs.Best.{Whole}
 use Rattle.paths.proofs.ReadingLaws.{reads, spans_whole, sound_span}
 use Rattle.numbers.specs.CallEdge.{Legals}
 use Rattle.numbers.specs.Call.{Answer, listing, refused, add_numbers, no_edges}
-use Rattle.answers.specs.declared.Answer.{Answer as Code}
-use Rattle.answers.specs.declared.Answer.TheVariants as Code
 use Rattle.answers.specs.declared.Refusal.{Refusal}
 use Rattle.answers.specs.Answers.{number, place, answer_of}
 use Rattle.call.specs.Answers.{AnswerIs}
@@ -32,6 +30,7 @@ use Rattle.rows.specs.Printed.{TextIs}
 use Rattle.rows.proofs.RowsLaws.{length_row}
 use Rattle.grammar.specs.PlainBytes.{plain_bytes}
 use Rattle.print_line.specs.LineRows.{plain_answer}
+use Rattle.std.specs.Prelude.{Result, Ok, Err}
 
 -- ---- the rows of a listing that the call answered: a place has at most three digits, so that a row is at most two bytes longer than its edge
 row_short : (n : ℕ) (e : Edge) → n ≤ 256 → e.start < e.end → e.end ≤ n → length (row_bytes e) ≤ length (edge_bytes e) + 2
@@ -80,7 +79,7 @@ pub record Front (now : List ℕ) (n : ℕ) (a : Answer) : Type 0 where
   pub inside : n ≤ length now
   pub is : a ≡ listing (take n now)
 
-pub listing_front : {out now : List ℕ} {r : Code} (a : Answer) → AnswerIs out now r a → (n : ℕ) → r ≡ Code.Listing n → Front now n a
+pub listing_front : {out now : List ℕ} {r : Result ℕ Refusal} (a : Answer) → AnswerIs out now r a → (n : ℕ) → r ≡ Ok n → Front now n a
 listing_front {out} {now} {r} (listing bytes) h n e =
     let m : n ≡ length bytes = (let b = sym (ap answer_of e) ∙ h.answer in cc) in
     let f = h.output in
@@ -88,7 +87,7 @@ listing_front {out} {now} {r} (listing bytes) h n e =
     record { inside = omega arith; is = ap listing (sym (rw (f, m) (take-append_seam bytes (drop (length bytes) out)))) }
 listing_front {out} {now} {r} (refused k p) h n e = let b = sym (ap answer_of e) ∙ h.answer in let z : ◌≡◌ {A = ℕ} 0 1 = cc in absurd (omega arith)
 
-pub refused_is : {out now : List ℕ} {r : Code} (a : Answer) → AnswerIs out now r a → (x : Refusal) → r ≡ Code.Refused x → a ≡ refused (number x) (place x)
+pub refused_is : {out now : List ℕ} {r : Result ℕ Refusal} (a : Answer) → AnswerIs out now r a → (x : Refusal) → r ≡ Err x → a ≡ refused (number x) (place x)
 refused_is (listing bytes) h x e = let b = sym (ap answer_of e) ∙ h.answer in let z : ◌≡◌ {A = ℕ} 0 1 = cc in absurd (omega arith)
 refused_is (refused k p) h x e = let b = sym (ap answer_of e) ∙ h.answer in cc
 

@@ -22,9 +22,7 @@ abbrev pub StepIs : ℕ → List ℕ → Step → Type 0
 StepIs n s (Step.Ends k) = (k ≡ length (until_newline s)) × (k ≤ length s)
 StepIs n s (Step.Goes k) = (n < k) × (k ≤ length s) × OnALine (take k s)
 StepIs n s Step.Nothing = OnALine (take n s)
-StepIs n s (Step.Failed e) = Unit
 
 abbrev pub LineIs : List ℕ → Got → Type 0
 LineIs s (Got.Line k) = k ≡ length (until_newline s)
 LineIs s (Got.LastLine k) = (k ≤ length s) × OnALine (take k s)
-LineIs s (Got.Failed e) = Unit

@@ -10,7 +10,7 @@ ghost use Rattle.rows.specs.Printed.{TextIs};
 ghost use Rattle.print_line.specs.LineRows.{plain_answer};
 
 use crate::read::Got;
-use call::{Answer, WORK_SIZE};
+use call::WORK_SIZE;
 use lattice::MOST_BYTES;
 use std::io::{Input, Print, Write};
 
@@ -22,8 +22,8 @@ fn answer_line(line: &[u8], table: &[u8], work: &mut [u8], out: &mut [u8], text:
         (length out.old)) }
 {
     match call::add_numbers(line, table, b"\x00\x00", work, out) {
-        Answer::Listing(n) => rows::listing::put_rows(text, &out[..n]),
-        Answer::Refused(r) => rows::refusal::put_refusal(text, r),
+        Ok(n) => rows::listing::put_rows(text, &out[..n]),
+        Err(r) => rows::refusal::put_refusal(text, r),
     }
 }
 
@@ -50,10 +50,10 @@ pub fn print_rows<R: Print>(rt: &R, line: &[u8]) -> std::io::Result<()> {
 
 fn answer_into<R: Input + Print>(rt: &R, buf: &mut [u8]) -> std::io::Result<()> {
     let mut input = rt.reader();
-    match crate::read::read_line(&mut input, buf) {
+    let got = crate::read::read_line(&mut input, buf)?;
+    match got {
         Got::Line(n) => print_rows(rt, &buf[..n]),
         Got::LastLine(n) => print_rows(rt, &buf[..n]),
-        Got::Failed(e) => Err(e),
     }
 }
 

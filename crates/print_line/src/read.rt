@@ -6,20 +6,18 @@ ghost use Rattle.print_line.specs.Line.{until_newline, OnALine, StepIs, LineIs};
 use std::io::Read;
 
 // What was read, a line of so many bytes at the buffer's front: behind it stands a newline, or the buffer ends; or the input ended behind it.
-#[derive(Drop)]
+#[derive(Clone, Copy)]
 pub enum Got {
     Line(usize),
     LastLine(usize),
-    Failed(std::io::Error),
 }
 
 // What one read leaves: the line ends at the newline there, or goes on behind so many bytes; or the input has ended.
-#[derive(Drop)]
+#[derive(Clone, Copy)]
 enum Step {
     Ends(usize),
     Goes(usize),
     Nothing,
-    Failed(std::io::Error),
 }
 
 // Where the line that goes on at an offset ends.
@@ -48,37 +46,33 @@ fn read_behind<I: Read>(input: &mut I, buf: &mut [u8], n: usize) -> std::io::Res
 }
 
 // Reads once, behind the n bytes that are there, and looks where the line ends.
-fn read_more<I: Read>(input: &mut I, buf: &mut [u8], n: usize) -> Step
+fn read_more<I: Read>(input: &mut I, buf: &mut [u8], n: usize) -> std::io::Result<Step>
     requires { (n ≤ length buf.old) × OnALine (take n buf.old) }
-    ensures { StepIs n buf.new result }
+    ensures { IfOk result (StepIs n buf.new) }
 {
-    let more = match read_behind(input, buf, n) {
-        Ok(more) => more,
-        Err(e) => return Step::Failed(e),
-    };
+    let more = read_behind(input, buf, n)?;
     if more == 0 {
-        return Step::Nothing;
+        return Ok(Step::Nothing);
     }
     let to = n + more;
     let end = end_within(buf, n, to);
     if end < to {
-        return Step::Ends(end);
+        return Ok(Step::Ends(end));
     }
-    Step::Goes(to)
+    Ok(Step::Goes(to))
 }
 
 // Reads a line into the buffer, as many bytes of it as fit.
-pub fn read_line<I: Read>(input: &mut I, buf: &mut [u8]) -> Got
-    ensures { LineIs buf.new result }
+pub fn read_line<I: Read>(input: &mut I, buf: &mut [u8]) -> std::io::Result<Got>
+    ensures { IfOk result (LineIs buf.new) }
 {
     let mut n = 0;
     while n < buf.len() {
-        match read_more(input, buf, n) {
-            Step::Failed(e) => return Got::Failed(e),
-            Step::Nothing => return Got::LastLine(n),
-            Step::Ends(end) => return Got::Line(end),
+        match read_more(input, buf, n)? {
+            Step::Nothing => return Ok(Got::LastLine(n)),
+            Step::Ends(end) => return Ok(Got::Line(end)),
             Step::Goes(to) => n = to,
         }
     }
-    Got::Line(n)
+    Ok(Got::Line(n))
 }

@@ -8,7 +8,7 @@ ghost use Rattle.paths.specs.Shown.{shown_by, shown};
 use fields::Part;
 use paths::best::best_of;
 use paths::check::check;
-use paths::{Found, Query, ReadCheck, ReadRefusal, Shown};
+use paths::{Query, ReadRefusal, Shown};
 use text::Place;
 
 // The text shown at a place of a line of so many characters.
@@ -18,12 +18,8 @@ fn shown_at(line: &[u8], listing: &[u8], chars: usize, count: usize, place: Plac
         (found (best false (Query.Right place) (with_offsets count listing.now 2))) }
 {
     match best_of(listing, 2, count, Query::Right(place), false) {
-        Found::At(at) => {
-            let e = edge::head::edge_at(listing, at.0);
-            let txt = e.txt;
-            Shown::Listing(txt)
-        }
-        Found::Nothing => {
+        Some(at) => Shown::Listing(edge::head::edge_at(listing, at.0).txt),
+        None => {
             let from = text::line::offset_of(line, place);
             let to = text::line::offset_of(line, Place(place.0 + 1));
             Shown::Line(Part {
@@ -35,16 +31,13 @@ fn shown_at(line: &[u8], listing: &[u8], chars: usize, count: usize, place: Plac
 }
 
 // The text shown at a place.
-pub fn shown_text(line: &[u8], listing: &[u8], place: Place) -> Shown
+#[tactic(auto, using(paths::proofs::ReadingLaws::read_spans), unfolding(paths::specs::Shown::shown))]
+pub fn shown_text(line: &[u8], listing: &[u8], place: Place) -> Result<Shown, ReadRefusal>
     ensures { result ≡ shown line.now listing.now place }
 {
-    match check(line, listing) {
-        ReadCheck::Refused(r) => Shown::Refused(r),
-        ReadCheck::Readable(chars, count) => {
-            if chars <= place.0 {
-                return Shown::Refused(ReadRefusal::BadPlace);
-            }
-            shown_at(line, listing, chars, count, place)
-        }
+    let (chars, count) = check(line, listing)?;
+    if chars <= place.0 {
+        return Err(ReadRefusal::BadPlace);
     }
+    Ok(shown_at(line, listing, chars, count, place))
 }

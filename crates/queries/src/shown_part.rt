@@ -4,7 +4,7 @@ ghost use Rattle.fields.specs.Part.{part_of};
 ghost use Rattle.paths.specs.Shown.{shown_part};
 
 use fields::Part;
-use paths::Shown;
+use paths::{ReadRefusal, Shown};
 
 // A part of a slice; what of it is behind the slice's end is left out.
 fn part_of(s: &[u8], p: Part) -> &[u8]
@@ -23,12 +23,13 @@ fn part_of(s: &[u8], p: Part) -> &[u8]
 }
 
 // The bytes of a text shown, a part of the slice that it names; none for a refusal.
-pub fn shown_part<'a>(line: &'a [u8], listing: &'a [u8], w: Shown) -> &'a [u8]
+#[tactic(auto, unfolding(paths::specs::Shown::shown_part))]
+pub fn shown_part<'a>(line: &'a [u8], listing: &'a [u8], w: Result<Shown, ReadRefusal>) -> &'a [u8]
     ensures { result.now ≡ shown_part line.now listing.now w }
 {
     match w {
-        Shown::Listing(p) => part_of(listing, p),
-        Shown::Line(p) => part_of(line, p),
-        Shown::Refused(_) => &line[..0],
+        Ok(Shown::Listing(p)) => part_of(listing, p),
+        Ok(Shown::Line(p)) => part_of(line, p),
+        Err(_) => &line[..0],
     }
 }

@@ -5,17 +5,13 @@
 --     FieldsIs s at r          what r tells of the fields behind the map
 --     PlainIs s at least r     what r tells of the record at an offset
 -- Assumes nothing.
-use Rattle.std.specs.Prelude.{◌≡◌, true, List, ℕ, ◌+◌, ◌≤◌, ◌<◌, length, get_or}
+use Rattle.std.specs.Prelude.{◌≡◌, true, List, ℕ, ◌+◌, ◌≤◌, ◌<◌, length, get_or, Option, Some, None}
 use Rattle.fields.specs.Fields.{le_at}
 use Rattle.table.specs.Table.{Record}
 use Rattle.table.specs.Layout.{Field, Is, read_fields, read_record}
 use Rattle.table.specs.Check.{legal_record}
 use Rattle.record_check.specs.Ascii.{Ascii}
 use Rattle.record_check.specs.PlainContent.{Head, Numbers}
-use Rattle.record_check.specs.declared.plain.Plain.{Plain}
-use Rattle.record_check.specs.declared.plain.Plain.TheVariants as Plain
-use Rattle.record_check.specs.declared.plain.Behind.{Behind}
-use Rattle.record_check.specs.declared.plain.Behind.TheVariants as Behind
 
 pub record LegalAt (least c : ℕ) (f : Field Record) (next : ℕ) : Type 0 where
   pub it : Record
@@ -31,14 +27,14 @@ pub record Tail (s : List ℕ) (t rom at next : ℕ) : Type 0 where
   pub ends : next ≤ length s
   pub script : Ascii s (at + 17) next
 
-abbrev pub TailIs : List ℕ → ℕ → ℕ → ℕ → Behind → Type 0
-TailIs s t rom at (Behind.At next) = Tail s t rom at next
-TailIs s t rom at Behind.Other = Unit {0}
+abbrev pub TailIs : List ℕ → ℕ → ℕ → ℕ → Option ℕ → Type 0
+TailIs s t rom at (Some next) = Tail s t rom at next
+TailIs s t rom at None = Unit {0}
 
-abbrev pub FieldsIs : List ℕ → ℕ → Behind → Type 0
-FieldsIs s at (Behind.At next) = (least c m : ℕ) → Head least c m → LegalAt least c (read_fields c m s at) next
-FieldsIs s at Behind.Other = Unit {0}
+abbrev pub FieldsIs : List ℕ → ℕ → Option ℕ → Type 0
+FieldsIs s at (Some next) = (least c m : ℕ) → Head least c m → LegalAt least c (read_fields c m s at) next
+FieldsIs s at None = Unit {0}
 
-abbrev pub PlainIs : List ℕ → ℕ → ℕ → Plain → Type 0
-PlainIs s at least (Plain.Legal c next) = LegalAt least c (read_record s at) next
-PlainIs s at least Plain.Other = Unit {0}
+abbrev pub PlainIs : List ℕ → ℕ → ℕ → Option (ℕ × ℕ) → Type 0
+PlainIs s at least (Some (c, next)) = LegalAt least c (read_record s at) next
+PlainIs s at least None = Unit {0}

@@ -2,6 +2,7 @@
 ghost use Rattle.std.specs.Prelude.{◌≡◌, true, ℕ, ◌+◌, ◌≤◌, ◌<◌, length, get_or};
 ghost use Rattle.record_check.specs.Ascii.{Ascii};
 
+// Kept as two functions of a line: `low_eight` and `four_ascii` differ in the mask and in what `fields` reads, and one for both would need a trait for u32 and u64.
 fn low_eight(s: &[u8], at: usize) -> bool
     requires at_in_bounds { at + 8 ≤ length s.now }
     requires bytes { (i : ℕ) → get_or s.now i 0 < 256 }

@@ -9,11 +9,5 @@ pub fn legal_code_point(c: u32, least: u64) -> bool
     if (c as u64) < least {
         return false;
     }
-    if c <= 0xD7FF {
-        return true;
-    }
-    if c < 0xE000 {
-        return false;
-    }
-    c <= 0x10FFFF
+    char::from_u32(c).is_some()
 }

@@ -6,40 +6,29 @@ ghost use Rattle.record_check.specs.Look.{look_field, from_least};
 
 use whole::TOP;
 
-// What a look at a field gives: whether what it holds is legal, and the offset behind it; or that its layout is at fault.
-#[derive(Clone, Copy)]
-pub enum Look {
-    Field(bool, usize),
-    Fault,
-}
-
 // A number that is there: it is from least to TOP.
-pub fn number_look(s: &[u8], at: usize, there: bool, least: u64) -> Look
+pub fn number_look(s: &[u8], at: usize, there: bool, least: u64) -> Option<(bool, usize)>
     ensures { look_field result ≡ map_field (all_of (from_least least))
         (optional there (number 8) s.now at) }
 {
     if !there {
-        return Look::Field(true, at);
+        return Some((true, at));
     }
     if s.len() < 8 {
-        return Look::Fault;
+        return None;
     }
     if s.len() - 8 < at {
-        return Look::Fault;
+        return None;
     }
     let n = fields::u64_at(s, at);
-    Look::Field((least <= n) & (n <= TOP), at + 8)
+    Some(((least <= n) & (n <= TOP), at + 8))
 }
 
 // A fraction that is there: numerator and denominator.
-pub fn ratio_look(s: &[u8], at: usize, there: bool) -> Look
+pub fn ratio_look(s: &[u8], at: usize, there: bool) -> Option<(bool, usize)>
     ensures { look_field result ≡ map_field (all_of legal_ratio) (optional there fraction s.now at) }
 {
-    let Look::Field(numerator, denominator_at) = number_look(s, at, there, 0) else {
-        return Look::Fault;
-    };
-    let Look::Field(denominator, next) = number_look(s, denominator_at, there, 1) else {
-        return Look::Fault;
-    };
-    Look::Field(numerator & denominator, next)
+    let (numerator, denominator_at) = number_look(s, at, there, 0)?;
+    let (denominator, next) = number_look(s, denominator_at, there, 1)?;
+    Some((numerator & denominator, next))
 }

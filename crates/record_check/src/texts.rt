@@ -4,7 +4,7 @@ ghost use Rattle.fields.specs.Part.{part, part_of};
 ghost use Rattle.text.specs.Text.{well_formed};
 ghost use Rattle.table.specs.Check.{legal_mark};
 ghost use Rattle.table.specs.Answers.{Within};
-ghost use Rattle.record_check.specs.Rest.{Trail, Rest};
+ghost use Rattle.record_check.specs.Rest.{Trail, SequenceIs};
 
 use crate::ascii::short_ascii;
 use fields::Part;
@@ -21,43 +21,43 @@ fn trail_at(s: &[u8], at: usize, end: usize) -> bool
     (0x80 <= b) & (b <= 0xBF)
 }
 
-// The length of the sequence at an offset, if it is ASCII or told by fixed limits: those with a lead byte of E1 to EC are, as Han and Kana, and those of two bytes.
-// 0 of any other, and where the part ends before it.
-fn sequence_len(s: &[u8], at: usize, end: usize) -> usize
+// The offset behind the sequence at an offset, if it is ASCII or told by fixed limits: those with a lead byte of E1 to EC are, as Han and Kana, and those of two bytes.
+// Nothing of any other, and where the part ends before it.
+fn sequence_end(s: &[u8], at: usize, end: usize) -> Option<usize>
     requires { (at < end) × (end ≤ length s.now) }
-    ensures { Rest s.now at end (at + result) }
+    ensures { SequenceIs s.now at end result }
 {
     let b = s[at];
     if b < 0x80 {
-        return 1;
+        return Some(at + 1);
     }
     if !trail_at(s, at + 1, end) {
-        return 0;
+        return None;
     }
     if (0xE1 <= b) & (b <= 0xEC) {
         if trail_at(s, at + 2, end) {
-            return 3;
+            return Some(at + 3);
         }
-        return 0;
+        return None;
     }
     if (0xC2 <= b) & (b <= 0xDF) {
-        return 2;
+        return Some(at + 2);
     }
-    0
+    None
 }
 
 // Whether the bytes of a part are UTF-8: what begins with no such sequence is taken apart into characters.
+// Kept beside `text::line::well_formed`: by that alone a record whose rom has two letters of two bytes takes 347 instructions to check, so 313 (callgrind).
 fn any_formed(s: &[u8], from: usize, end: usize) -> bool
     requires { (from ≤ end) × (end ≤ length s.now) }
     ensures { result ≡ well_formed (part s.now from (end - from)) }
 {
     let mut at = from;
     while at < end {
-        let n = sequence_len(s, at, end);
-        if n == 0 {
+        let Some(next) = sequence_end(s, at, end) else {
             return text::line::well_formed(&s[at..end]);
-        }
-        at += n;
+        };
+        at = next;
     }
     true
 }

@@ -22,7 +22,7 @@ use Rattle.passes.specs.Passes.{Pass, D1, G1, G2, G3, G4, Chain, begin, longer, 
 use Rattle.passes.specs.Renaming.{gap_char}
 use Rattle.passes.proofs.ChainsLaws.{from_nil, from_none, from_some}
 use Rattle.table_grammar.specs.Row.{Row, one, ◌▷◌}
-use Rattle.table_grammar.specs.Grammar.{digit, ten, large, run, power, small, lone, run_value}
+use Rattle.table_grammar.specs.Grammar.{digit, ten, large, power, small, lone, run_value}
 use Rattle.table_grammar.specs.Kinds.{at_most, at_least}
 use Rattle.table_grammar.specs.TableGrammar.{high}
 use Rattle.table_grammar.proofs.Tests.{true_le, and_right, eqb_self, eqb-true}

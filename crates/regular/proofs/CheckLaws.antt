@@ -1,6 +1,6 @@
 -- Laws of the check (`specs/CheckRegular.antt`), for the proofs of this crate's functions. No contract cites this file.
 -- In order: a record by its fields; a walk over the records; the answer for a table.
-use Prim.Native.Nat.{ℕ, zero, suc, ◌+◌, ◌-◌, ◌/◌, ◌%◌, ◌≤◌, ◌<◌}
+use Prim.Native.Nat.{ℕ, zero, suc, ◌+◌, ◌-◌, ◌≤◌, ◌<◌}
 use mathlib.Core.Path.{◌≡◌, refl, sym, ap, ◌∙◌, subst}
 use mathlib.Core.Bool.{Bool, true, false, cond, ◌&&◌, ◌||◌, not}
 use mathlib.Core.List.{List, [], ◌∷◌}
@@ -11,18 +11,15 @@ use lib.ListN.{length}
 use lib.Dec.{leb, eqb}
 use Rattle.fields.specs.Fields.{le_at}
 use Rattle.fields.specs.Part.{part_of}
-use Rattle.text.specs.Bytes.{same}
 use Rattle.text.specs.declared.Offset.{Offset}
 use Rattle.table.specs.Table.{Text, Record, Table}
 use Rattle.table.specs.Layout.{Is, bit, number, read_record, records_at}
-use Rattle.table.specs.Check.{Checked, Fine, is_digit_type, item, legal_record, read_list, read_records, read_table}
+use Rattle.table.specs.Check.{Checked, Fine, is_digit_type, item, legal_record, read_list, read_records, read_table, bad_layout}
 use Rattle.table.specs.Check as Check
 use Rattle.table.specs.Answers.{optionally, record_of, end_of, table_of, table_answer}
 use Rattle.table.specs.Walk.{Stands}
 use Rattle.table.specs.declared.layout.NumProp.{NumProp}
 use Rattle.table.specs.declared.shape.Shape.{Shape}
-use Rattle.table.specs.declared.shape.TableCheck.{TableCheck}
-use Rattle.table.specs.declared.shape.TableCheck.TheVariants as TableCheck
 use Rattle.table.proofs.LayoutLaws.{number_is, number_cut, many_cons}
 use Rattle.table.proofs.LookupLaws.{item_fine, then_fine}
 use Rattle.table.proofs.CheckLaws.{records_end}
@@ -33,9 +30,10 @@ use Rattle.passes.specs.NumEdge.{or_zero, has}
 use Rattle.passes.specs.Renaming.{gap_char}
 use Rattle.passes.proofs.ChainsAlike.{Each}
 use Rattle.table_grammar.specs.Kinds.{exactly, at_most, at_least, regular_record}
-use Rattle.regular.specs.CheckRegular.{of_four_kinds, irregular_at, irregular, regular_answer, check_regular}
-use Rattle.regular.specs.declared.RegularCheck.{RegularCheck}
-use Rattle.regular.specs.declared.RegularCheck.TheVariants.{Regular, Irregular, Refused}
+use Rattle.regular.specs.CheckRegular.{of_four_kinds, irregular_at, irregular, check_regular}
+use Rattle.std.specs.Prelude.{Some, None, Result, Ok, Err}
+use Rattle.table.specs.declared.shape.TableRefusal.{TableRefusal}
+use Rattle.std.specs.Prelude as std
 
 -- ---- a record by its fields
 by_fields : (d large gap : Bool) (v b : Option ℕ)
@@ -84,7 +82,7 @@ pub walk_start : (s : List ℕ) (n from : ℕ) → length (records_at n s from) 
 walk_start s n from h = record { full = h; same = refl }
 
 module _ {s : List ℕ} {n from at left : ℕ} (w : Walk s n from at left) where
-  pub walk_end : left ≤ 0 → Regular ≡ irregular (irregular_at n s from)
+  pub walk_end : left ≤ 0 → None ≡ irregular (irregular_at n s from)
   walk_end h = ap irregular (sym (irregular_none s at left h) ∙ w.same)
 
   module _ (some_left : 0 < left) where
@@ -95,14 +93,14 @@ module _ {s : List ℕ} {n from at left : ℕ} (w : Walk s n from at left) where
       turn : {b : Bool} → regular_record (record_of s p) ≡ b → irregular_at left s at ≡ cond b (irregular_at (left - 1) s p.next) (some at)
       turn k = irregular_turn s at left some_left (sym reads) ∙ ap (λ (b : Bool). cond b (irregular_at (left - 1) s p.next) (some at)) k
 
-      pub walk_here : regular_record (record_of s p) ≡ false → Irregular (record { 0 = at }) ≡ irregular (irregular_at n s from)
+      pub walk_here : regular_record (record_of s p) ≡ false → Some (record { 0 = at }) ≡ irregular (irregular_at n s from)
       walk_here k = ap irregular (sym (turn k) ∙ w.same)
 
-      pub walk_next : regular_record (record_of s p) ≡ true → Walk s n from p.next (left - 1)
-      walk_next k = record {
+      pub walk_next : regular_record (record_of s p) ≡ true → {rest : ℕ} → rest ≡ left - 1 → Walk s n from p.next rest
+      walk_next k m = rw m (record {
         full = omega (arith, ap length (many_cons read_record s at left (λ e. omega arith) (sym reads)), w.full);
         same = sym (turn k) ∙ w.same;
-      }
+      })
 
 -- ---- the answer for a table
 
@@ -147,7 +145,7 @@ pub record Standing (s : List ℕ) (rs : List Record) : Type 0 where
 shape_records : (s : List ℕ) {n k a b c d : ℕ} {p f u m : List Text} {rs : List Record} {end : ℕ} → n ≡ le_at s 0 2 → k ≡ 2
     → read_list s k ≡ Fine p a → read_list s a ≡ Fine f b → read_list s b ≡ Fine u c → read_list s c ≡ Fine m d → read_records n 0 s d ≡ Fine rs end → Standing s rs
 shape_records s {n} {k} {a} {b} {c} {d} {p} {f} {u} {m} {rs} {end} n-is two first second third fourth e =
-    let here : Fine rs end ≡ Fine (records_at n s d) end = sym e ∙ records_end n s d refl (ap end_of e) in
+    let here : Fine rs end ≡ Fine (records_at n s d) end = sym e ∙ records_end n s d (sym (ap end_of e)) in
     let same : rs ≡ records_at n s d = cc in
     let shape = shape_is s n-is (subst (λ (k : ℕ). read_list s k ≡ Fine p a) two first) second third fourth in
     record { these = same ∙ ap (λ (h : Shape). records_at h.count s h.records) shape; counted = (records_told n 0 s d e).0 ∙ n-is; legal = (records_told n 0 s d e).1 }
@@ -165,13 +163,13 @@ table_records s {t} {end} e =
     (shape_records s (head_count s count.first) (head_next s count.first) p.first f.first u.first m.first rs.first)
   where
     go : (p f u m : List Text) (rs : List Record) (k : ℕ) (b : Bool)
-        → cond b (Fine (record { percentage_markers = p; fraction_connectors = f; plus_signs = u; minus_signs = m; records = rs }) k) (Check.Refused 4 k) ≡ Fine t end
+        → cond b (Fine (record { percentage_markers = p; fraction_connectors = f; plus_signs = u; minus_signs = m; records = rs }) k) (Check.Refused bad_layout k) ≡ Fine t end
         → Standing s rs → Standing s t.records
     go p f u m rs k true g h = let q : record { percentage_markers = p; fraction_connectors = f; plus_signs = u; minus_signs = m; records = rs } ≡ t = cc in rw (← q) h
     go p f u m rs k false g h = let z : ◌≡◌ {A = ℕ} 0 1 = cc in absurd (omega arith)
 
-module _ (s : List ℕ) {r : TableCheck} (is : TableIs s r) where
-  module _ {h : Shape} (e : r ≡ TableCheck.Table h) where
+module _ (s : List ℕ) {r : Result Shape TableRefusal} (is : TableIs s r) where
+  module _ {h : Shape} (e : r ≡ Ok h) where
     read_is : read_table s ≡ Fine (table_of s h) (length s)
     read_is = sym is.table ∙ ap (table_answer s) e
 
@@ -183,10 +181,10 @@ module _ (s : List ℕ) {r : TableCheck} (is : TableIs s r) where
     unfolding table_of shape_of
     table_full = (table_records s read_is).counted ∙ ap (λ (x : Shape). x.count) (sym shaped)
 
-    pub answer_table : {x : RegularCheck} → x ≡ irregular (irregular_at h.count s h.records) → x ≡ check_regular s
+    pub answer_table : {x : std.Option Offset} → x ≡ irregular (irregular_at h.count s h.records) → Ok x ≡ check_regular s
     unfolding check_regular
-    answer_table q = q ∙ rw (read_is, ← shaped)
+    answer_table q = ap Ok q ∙ rw (read_is, ← shaped)
 
-  pub answer_refused : {number : ℕ} {at : Offset} → r ≡ TableCheck.Refused number at → Refused number at ≡ check_regular s
+  pub answer_refused : {e : TableRefusal} → r ≡ Err e → Err e ≡ check_regular s
   unfolding check_regular
   answer_refused e = rw (sym is.table ∙ ap (table_answer s) e)

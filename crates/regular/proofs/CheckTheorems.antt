@@ -3,21 +3,21 @@
 use Prim.Native.Nat.{ℕ, zero, suc}
 use mathlib.Core.Path.{◌≡◌, refl, sym, ap, ◌∙◌}
 use mathlib.Core.Logic.{◌↔◌}
-use mathlib.Core.Bool.{Bool, true, false, cond, ◌&&◌, true≢false, false≢true}
+use mathlib.Core.Bool.{Bool, true, false, cond, ◌&&◌, false≢true}
 use mathlib.Core.List.{List, [], ◌∷◌}
 use mathlib.Core.Option.{Option, none, some, some-ne-none, some-injective}
 use native.Mathlib.Omega.{arith}
-use lib.ListN.{length}
 use Rattle.table.specs.Table.{Record, Table}
 use Rattle.table.specs.Layout.{Field, Is, Fault, on_field, read_record, many_at, records_at}
-use Rattle.table.specs.Check.{Checked, Fine, read_table}
-use Rattle.table.specs.Check as Check
+use Rattle.table.specs.Check.{Fine, read_table}
 use Rattle.table_check.specs.Shape.{shape_of}
 use Rattle.table_grammar.specs.Kinds.{regular_record, regular_records, regular}
 use Rattle.regular.specs.CheckRegular.{irregular_at, irregular, regular_answer, check_regular}
-use Rattle.regular.specs.declared.RegularCheck.{RegularCheck}
-use Rattle.regular.specs.declared.RegularCheck.TheVariants.{Regular, Irregular, Refused}
 use Rattle.regular.proofs.CheckLaws.{table_records}
+use Rattle.std.specs.Prelude as std
+use Rattle.std.specs.Prelude.{None, Ok, Result}
+use Rattle.text.specs.declared.Offset.{Offset}
+use Rattle.table.specs.declared.shape.TableRefusal.{TableRefusal}
 
 -- none is irregular exactly where all are regular
 all_regular : (n : ℕ) (s : List ℕ) (at : ℕ) → (irregular_at n s at ≡ none) ↔ (regular_records (records_at n s at) ≡ true)
@@ -55,17 +55,17 @@ irregular_record (suc n) s from at e = go (read_record s from) refl (λ next. ir
     go (Is r next) h ih e = one r next (regular_record r) h refl (ih next) e
     go Fault h ih e = absurd (some-ne-none at (sym e))
 
-regular_none : (o : Option ℕ) → irregular o ≡ Regular → o ≡ none
+regular_none : (o : Option ℕ) → ◌≡◌ {A = Result (std.Option Offset) TableRefusal} (Ok (irregular o)) (Ok None) → o ≡ none
 regular_none none e = refl
 regular_none (some at) e = let z : ◌≡◌ {A = ℕ} 0 1 = cc in absurd (omega arith)
 
 -- of the bytes of a table: it is regular exactly where the answer says so
-pub told_regular : (s : List ℕ) (t : Table) (end : ℕ) → read_table s ≡ Fine t end → (check_regular s ≡ Regular) ↔ (regular t ≡ true)
+pub told_regular : (s : List ℕ) (t : Table) (end : ℕ) → read_table s ≡ Fine t end → (check_regular s ≡ Ok None) ↔ (regular t ≡ true)
 unfolding check_regular
 told_regular s t end e =
     let all = all_regular (shape_of s).count s (shape_of s).records in
     let is : t.records ≡ records_at (shape_of s).count s (shape_of s).records = (table_records s e).these in
-    let answer : regular_answer s (read_table s) ≡ irregular (irregular_at (shape_of s).count s (shape_of s).records) = ap (regular_answer s) e in (
+    let answer : regular_answer s (read_table s) ≡ Ok (irregular (irregular_at (shape_of s).count s (shape_of s).records)) = ap (regular_answer s) e in (
       λ h. rw is (all.0 (regular_none (irregular_at (shape_of s).count s (shape_of s).records) (sym answer ∙ h))),
-      λ h. answer ∙ ap irregular (all.1 (rw is at h)),
+      λ h. answer ∙ ap (λ (o : Option ℕ). Ok (irregular o)) (all.1 (rw is at h)),
     )

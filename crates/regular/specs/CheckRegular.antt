@@ -4,16 +4,17 @@
 --     regular_answer s c    the answer for the bytes s, whose check is c
 --     check_regular s       the answer for the bytes s
 --     Assumes nothing.
-use Rattle.std.specs.Prelude.{ℕ, zero, suc, Bool, cond, ◌&&◌, ◌||◌, not, List, leb, eqb}
+use Rattle.std.specs.Prelude.{ℕ, zero, suc, Bool, cond, ◌&&◌, ◌||◌, not, List, leb, eqb, Some, None, Result, Ok, Err}
 use Rattle.std.proofs.Math.Option.{Option, none, some}
 use Rattle.table.specs.Table.{Table}
 use Rattle.table.specs.Layout.{on_field, read_record}
 use Rattle.table.specs.Check.{Checked, Fine, read_table}
 use Rattle.table.specs.Check as Check
 use Rattle.table_check.specs.Shape.{shape_of}
-use Rattle.regular.specs.declared.RegularCheck.{RegularCheck}
-use Rattle.regular.specs.declared.RegularCheck.TheVariants.{Regular, Irregular, Refused}
 use Rattle.table_grammar.specs.Kinds.{regular_record}
+use Rattle.std.specs.Prelude as std
+use Rattle.text.specs.declared.Offset.{Offset}
+use Rattle.table.specs.declared.shape.TableRefusal.{TableRefusal}
 
 unfoldable pub of_four_kinds : Bool → Bool → ℕ → ℕ → Bool → Bool → Bool
 of_four_kinds digit valued value base large gap =
@@ -27,14 +28,14 @@ unfoldable pub irregular_at : ℕ → List ℕ → ℕ → Option ℕ
 irregular_at zero s at = none
 irregular_at (suc n) s at = on_field (read_record s at) (λ r next. cond (regular_record r) (irregular_at n s next) (some at)) none
 
-abbrev pub irregular : Option ℕ → RegularCheck
-irregular none = Regular
-irregular (some at) = Irregular (record { 0 = at })
+abbrev pub irregular : Option ℕ → std.Option Offset
+irregular none = None
+irregular (some at) = Some (record { 0 = at })
 
 -- "4 and 5 with the offset as add_numbers would give them"
-abbrev pub regular_answer : List ℕ → Checked Table → RegularCheck
-regular_answer s (Fine t end) = irregular (irregular_at (shape_of s).count s (shape_of s).records)
-regular_answer s (Check.Refused number at) = Refused number (record { 0 = at })
+abbrev pub regular_answer : List ℕ → Checked Table → Result (std.Option Offset) TableRefusal
+regular_answer s (Fine t end) = Ok (irregular (irregular_at (shape_of s).count s (shape_of s).records))
+regular_answer s (Check.Refused cause at) = Err (Check.refusal_at cause at)
 
-unfoldable pub check_regular : List ℕ → RegularCheck
+unfoldable pub check_regular : List ℕ → Result (std.Option Offset) TableRefusal
 check_regular s = regular_answer s (read_table s)

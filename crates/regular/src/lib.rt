@@ -14,16 +14,8 @@ use table::digit::is_digit_type;
 use table::index::INDEX_SIZE;
 use table::layout::NumProp;
 use table::record::known::record_here;
-use table::shape::TableCheck;
+use table::shape::TableRefusal;
 use text::Offset;
-
-// A regular table; one that is not, with the offset of its first record of none of the four kinds; or no table: the number of its refusal, 4 or 5, and the offset.
-#[derive(Clone, Copy)]
-pub enum RegularCheck {
-    Regular,
-    Irregular(Offset),
-    Refused(u8, Offset),
-}
 
 // Whether a record is of one of the four kinds: a digit, a unit, a large power or any other, in this order.
 fn of_four_kinds(digit: bool, valued: bool, value: u64, base: u64, large: bool, gap: bool) -> bool
@@ -57,32 +49,27 @@ fn is_regular(s: &[u8], p: NumProp) -> bool
 }
 
 // The first of n records, from an offset on, that is of none of the four kinds.
-fn first_irregular(s: &[u8], from: usize, n: usize) -> RegularCheck
+fn first_irregular(s: &[u8], from: usize, n: usize) -> Option<Offset>
     requires { length (records_at n s.now from) ≡ n }
     ensures { result ≡ irregular (irregular_at n s.now from) }
 {
     let mut at = from;
-    let mut left = n;
-    while 0 < left {
+    for _ in 0..n {
         let p = record_here(s, at);
-        let next = p.next;
         if !is_regular(s, p) {
-            return RegularCheck::Irregular(Offset(at));
+            return Some(Offset(at));
         }
-        at = next;
-        left -= 1;
+        at = p.next;
     }
-    RegularCheck::Regular
+    None
 }
 
-// Whether the bytes are those of a regular table.
-pub fn check_regular(s: &[u8]) -> RegularCheck
+// Whether the bytes are those of a regular table: nothing, or the offset of its first record of none of the four kinds.
+pub fn check_regular(s: &[u8]) -> Result<Option<Offset>, TableRefusal>
     ensures { result ≡ check_regular s.now }
 {
     let mut index = [0u32; INDEX_SIZE];
     let mut entries: usize = 0;
-    match table_check::check_table(s, &mut index, &mut entries) {
-        TableCheck::Refused(number, at) => RegularCheck::Refused(number, at),
-        TableCheck::Table(h) => first_irregular(s, h.records, h.count),
-    }
+    let shape = table_check::check_table(s, &mut index, &mut entries)?;
+    Ok(first_irregular(s, shape.records, shape.count))
 }

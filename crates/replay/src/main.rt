@@ -6,7 +6,7 @@
 ghost use Rattle.std.specs.Prelude.{◌≤◌, length};
 
 use answers::CStatus;
-use call::{Answer, WORK_SIZE};
+use call::WORK_SIZE;
 use lattice::MOST_BYTES;
 
 // A proved loop has to end, and nothing says that the input does: no more cases are read than this.
@@ -47,11 +47,11 @@ fn answer(line: &[u8], table: &[u8], edges: &[u8]) {
     let mut work = [0u8; WORK_SIZE];
     let mut out = [0u8; MOST_BYTES];
     match call::add_numbers(line, table, edges, &mut work, &mut out) {
-        Answer::Listing(n) => {
+        Ok(n) => {
             write_u32(n as u64);
             io::write_all(1, &out[..n]);
         }
-        Answer::Refused(r) => {
+        Err(r) => {
             write_refusal(call::refusal_told(r));
         }
     }
@@ -75,8 +75,7 @@ fn main() {
     let mut head = [0u8; 6];
     let mut table = [0u8; 65536];
     let mut t = 0;
-    let mut k = 0;
-    while k < MOST {
+    'cases: for _ in 0..MOST {
         let got = io::read_full(0, &mut head);
         if got < 6 {
             // What is left of a cut head is no answer: every answer is longer.
@@ -84,6 +83,5 @@ fn main() {
             return;
         }
         t = case(&head, &mut table, t);
-        k += 1;
     }
 }

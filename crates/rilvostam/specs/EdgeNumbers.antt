@@ -5,11 +5,10 @@
 --     numbers_after b w   what the caller's numbers are afterwards: the edge's, or those that they were before
 --     next_after at w     the offset behind the edge; the offset itself where no whole edge stands
 --     Assumes nothing.
-use Rattle.std.specs.Prelude.{ℕ, List, [], ◌∷◌}
+use Rattle.std.specs.Prelude.{ℕ, List, [], ◌∷◌, Option, Some, None}
 use Rattle.edge.specs.declared.EdgeView.{EdgeView}
 use Rattle.edge.specs.declared.NumFields.{NumFields}
-use Rattle.walker.specs.declared.whole_edge.WholeEdge.{WholeEdge}
-use Rattle.walker.specs.declared.whole_edge.WholeEdge.TheVariants.{Edge, Nothing}
+use Rattle.text.specs.declared.Offset.{Offset}
 
 abbrev pub numbers_of : EdgeView → NumFields → List ℕ
 numbers_of v d =
@@ -19,15 +18,15 @@ numbers_of v d =
     ∷ d.script.at.0 ∷ d.script.len ∷ d.value_s.at.0 ∷ d.value_s.len
     ∷ d.decimals ∷ []
 
-abbrev pub edge_status : WholeEdge → ℕ
-edge_status (Edge v d next) = 0
-edge_status Nothing = 6
+abbrev pub edge_status : Option (EdgeView × NumFields × Offset) → ℕ
+edge_status (Some (v, d, next)) = 0
+edge_status None = 6
 
-abbrev pub numbers_after : List ℕ → WholeEdge → List ℕ
-numbers_after before (Edge v d next) = numbers_of v d
-numbers_after before Nothing = before
+abbrev pub numbers_after : List ℕ → Option (EdgeView × NumFields × Offset) → List ℕ
+numbers_after before (Some (v, d, next)) = numbers_of v d
+numbers_after before None = before
 
 -- 01: "offset of the edge"
-abbrev pub next_after : ℕ → WholeEdge → ℕ
-next_after at (Edge v d next) = next.0
-next_after at Nothing = at
+abbrev pub next_after : ℕ → Option (EdgeView × NumFields × Offset) → ℕ
+next_after at (Some (v, d, next)) = next.0
+next_after at None = at

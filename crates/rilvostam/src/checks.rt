@@ -4,7 +4,6 @@ ghost use Rattle.table.specs.Check.{read_table};
 ghost use Rattle.rilvostam.specs.TableTold.{table_told};
 
 use table::index::INDEX_SIZE;
-use table::shape::TableCheck;
 
 // The count of a table's records, or why the bytes are none.
 pub fn rilvostam_check_table(table: &[u8], at: &mut u64) -> u32
@@ -14,13 +13,13 @@ pub fn rilvostam_check_table(table: &[u8], at: &mut u64) -> u32
     let mut offs = [0u32; INDEX_SIZE];
     let mut entries: usize = 0;
     match table_check::check_table(table, &mut offs, &mut entries) {
-        TableCheck::Table(shape) => {
+        Ok(shape) => {
             *at = shape.count as u64;
             0
         }
-        TableCheck::Refused(number, offset) => {
-            *at = offset.0 as u64;
-            number as u32
+        Err(r) => {
+            *at = r.at.0 as u64;
+            r.cause.number() as u32
         }
     }
 }

@@ -5,7 +5,6 @@ ghost use Rattle.rilvostam.specs.EdgeNumbers.{numbers_of, edge_status, numbers_a
 
 use edge::{EdgeView, NumFields};
 use text::Offset;
-use walker::whole_edge::WholeEdge;
 
 // How many numbers an edge has.
 pub const EDGE_NUMBERS: usize = 19;
@@ -50,12 +49,12 @@ pub fn rilvostam_edge_at(
     ensures next { next.new ≡ next_after at (whole_edge_at listing.now at) }
 {
     match walker::whole_edge::whole_edge_at(listing, Offset(at as usize)) {
-        WholeEdge::Edge(e, d, behind) => {
+        Some((e, d, behind)) => {
             *numbers = numbers_of(e, d);
             *next = behind.0 as u64;
             0
         }
-        WholeEdge::Nothing => {
+        None => {
             *next = at;
             6
         }

@@ -4,25 +4,25 @@ ghost use Rattle.numeral.specs.Field.{field_of};
 ghost use Rattle.worn.specs.Worn as worn;
 ghost use Rattle.writing.specs.Written.{written, output};
 ghost use Rattle.weights.specs.Weighed as weighed;
-ghost use Rattle.rilvostam.specs.Numerals.{written_told, field_told, weights_told, worn_told};
+ghost use Rattle.rilvostam.specs.Numerals.{field_refusal_told, written_told, field_told, weights_told, worn_told};
 
-use answers::CStatus;
-use numeral::Field;
-use weights::Weighed;
-use worn::Worn;
-use writing::Written;
+use answers::{CStatus, Refusal, refusal_told};
+use numeral::FieldRefusal;
+use weights::WeighRefusal;
+use worn::WornRefusal;
+use writing::WriteRefusal;
 
 // 0 and the bytes of the numeral, or the refusal.
-fn written_told(w: Written) -> CStatus
+fn written_told(w: Result<usize, WriteRefusal>) -> CStatus
     ensures { result ≡ written_told w }
 {
     match w {
-        Written::Bytes(len) => CStatus {
+        Ok(len) => CStatus {
             status: 0,
             at: len as u64,
         },
-        Written::AboveTop => CStatus { status: 10, at: 0 },
-        Written::TooShort => CStatus { status: 8, at: 0 },
+        Err(WriteRefusal::AboveTop) => CStatus { status: 10, at: 0 },
+        Err(WriteRefusal::TooShort) => CStatus { status: 8, at: 0 },
     }
 }
 
@@ -51,16 +51,27 @@ fn field(status: u32, number: u8, at: u64) -> CField
     CField { status, number, at }
 }
 
+// Refusals 2 and 3 of a field with the offset, 7 with place 0.
+fn field_refusal_told(r: FieldRefusal) -> CStatus
+    ensures { result ≡ field_refusal_told r }
+{
+    match r {
+        FieldRefusal::AboveTop => CStatus { status: 7, at: 0 },
+        FieldRefusal::Line(line) => refusal_told(Refusal::from(line)),
+    }
+}
+
 // Yes and the value, no, or the refusal.
-fn field_told(f: Field) -> CField
+fn field_told(f: Result<Option<u64>, FieldRefusal>) -> CField
     ensures { result ≡ field_told f }
 {
     match f {
-        Field::Number(v) => field(0, 1, v),
-        Field::NotANumber => field(0, 0, 0),
-        Field::AboveTop => field(7, 0, 0),
-        Field::IllFormed(at) => field(2, 0, at.0 as u64),
-        Field::TooLong(at) => field(3, 0, at.0 as u64),
+        Ok(Some(v)) => field(0, 1, v),
+        Ok(None) => field(0, 0, 0),
+        Err(r) => {
+            let refused = field_refusal_told(r);
+            field(refused.status, 0, refused.at)
+        }
     }
 }
 
@@ -77,24 +88,16 @@ pub fn rilvostam_read_field(line: &[u8], is_number: &mut u8, at: &mut u64) -> u3
 }
 
 // 0 and the count of the weights, or the refusal.
-fn weights_told(w: Weighed) -> CStatus
+fn weights_told(w: Result<usize, WeighRefusal>) -> CStatus
     ensures { result ≡ weights_told w }
 {
     match w {
-        Weighed::Count(n) => CStatus {
+        Ok(n) => CStatus {
             status: 0,
             at: n as u64,
         },
-        Weighed::AboveTop => CStatus { status: 7, at: 0 },
-        Weighed::TooShort => CStatus { status: 8, at: 0 },
-        Weighed::IllFormed(at) => CStatus {
-            status: 2,
-            at: at.0 as u64,
-        },
-        Weighed::TooLong(at) => CStatus {
-            status: 3,
-            at: at.0 as u64,
-        },
+        Err(WeighRefusal::Field(r)) => field_refusal_told(r),
+        Err(WeighRefusal::TooShort) => CStatus { status: 8, at: 0 },
     }
 }
 
@@ -112,25 +115,18 @@ pub fn rilvostam_weights(line: &[u8], out: &mut [u8], at: &mut u64) -> u32
 }
 
 // 0 and the bytes of the rows, or the refusal.
-fn worn_told(w: Worn) -> CStatus
+fn worn_told(w: Result<usize, WornRefusal>) -> CStatus
     ensures { result ≡ worn_told w }
 {
     match w {
-        Worn::Rows(len) => CStatus {
+        Ok(len) => CStatus {
             status: 0,
             at: len as u64,
         },
-        Worn::IllFormed(at) => CStatus {
-            status: 2,
-            at: at.0 as u64,
-        },
-        Worn::TooLong(at) => CStatus {
-            status: 3,
-            at: at.0 as u64,
-        },
-        Worn::NotOneMark => CStatus { status: 12, at: 0 },
-        Worn::TooShort => CStatus { status: 8, at: 0 },
-        Worn::NoneServes => CStatus { status: 13, at: 0 },
+        Err(WornRefusal::Line(line)) => refusal_told(Refusal::from(line)),
+        Err(WornRefusal::NotOneMark) => CStatus { status: 12, at: 0 },
+        Err(WornRefusal::TooShort) => CStatus { status: 8, at: 0 },
+        Err(WornRefusal::NoneServes) => CStatus { status: 13, at: 0 },
     }
 }
 

@@ -9,19 +9,20 @@ ghost use Rattle.rilvostam.specs.Exported.{call_told};
 ghost use Rattle.regular.specs.CheckRegular.{check_regular};
 ghost use Rattle.rilvostam.specs.Tables.{supplied, regular_told};
 
-use answers::{Answer, CStatus, Refusal};
-use regular::RegularCheck;
+use answers::{CStatus, Refusal};
+use table::shape::TableRefusal;
+use text::Offset;
 
 // A table's bytes at the start of the output; where the output is shorter than they are, 8.
-fn put_table(table: &[u8], out: &mut [u8]) -> Answer
+fn put_table(table: &[u8], out: &mut [u8]) -> Result<usize, Refusal>
     ensures { AnswerIs out.old out.new result
         (supplied table.now (length out.old)) }
 {
     if out.len() < table.len() {
-        return Answer::Refused(Refusal::TooLong);
+        return Err(Refusal::TooLong);
     }
     fields::copy::copy_in(out, 0, table);
-    Answer::Listing(table.len())
+    Ok(table.len())
 }
 
 // The plain table.
@@ -51,21 +52,21 @@ pub fn rilvostam_formal_table(out: &mut [u8], at: &mut u64) -> u32
 }
 
 // What C is told of the check: 0 with NONE for a regular table, 0 with the offset of its first record of none of the four kinds for any other; or the refusal.
-fn regular_told(a: RegularCheck) -> CStatus
+fn regular_told(a: Result<Option<Offset>, TableRefusal>) -> CStatus
     ensures { result ≡ regular_told a }
 {
     match a {
-        RegularCheck::Regular => CStatus {
+        Ok(None) => CStatus {
             status: 0,
             at: 18446744073709551615,
         },
-        RegularCheck::Irregular(at) => CStatus {
+        Ok(Some(at)) => CStatus {
             status: 0,
             at: at.0 as u64,
         },
-        RegularCheck::Refused(number, at) => CStatus {
-            status: number as u32,
-            at: at.0 as u64,
+        Err(r) => CStatus {
+            status: r.cause.number() as u32,
+            at: r.at.0 as u64,
         },
     }
 }

@@ -12,7 +12,7 @@ ghost use Rattle.edge.specs.Write.{Put};
 ghost use Rattle.rows.specs.Columns.{ended};
 ghost use Rattle.rows.specs.Rows.{row_bytes, view_mark, view_row};
 
-use edge::{EdgeView, Written, bits};
+use edge::{EdgeView, bits};
 use fields::Part;
 
 // A part of a slice and the byte that ends it.

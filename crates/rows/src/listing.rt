@@ -8,13 +8,12 @@ pub fn put_rows(text: &mut [u8], s: &[u8]) -> usize
     requires { RowsFit s.now text.old }
     ensures { TextIs text.old text.new result (listing s.now) }
 {
-    let mut left = fields::u16_at(s, 0) as usize;
+    let count = fields::u16_at(s, 0) as usize;
     let mut from = 2;
     let mut at = 0;
-    while 0 < left {
+    for _ in 0..count {
         at = crate::put_row(text, at, s, from);
         from = edge::next::next_at(s, from);
-        left -= 1;
     }
     at
 }

@@ -21,8 +21,7 @@ use Rattle.numbers.specs.Marks.{any_at}
 use Rattle.numbers.proofs.stages.SoundLaws.{sound_of}
 use Rattle.numbers.specs.Fractions.{is_numeric}
 use Rattle.numbers.specs.Separators.{ends_before}
-use Rattle.marks.specs.declared.Asked.TheVariants.{DigitEnds}
-use Rattle.marks.specs.Marked.{asks, place_by}
+use Rattle.marks.specs.Marked.{digit_ends, ending}
 use Rattle.marks.proofs.ReadLaws.{txt_read}
 use Rattle.separators.specs.Marks.{apart_by}
 
@@ -71,7 +70,7 @@ module _ (s : List ℕ) (at : ℕ) {v : EdgeView} (read : v ≡ view_at s at) wh
         go false = refl
 
 -- ---- texts of legal edges are well-formed, and so the last bytes are the last character
-pub ends_agree : {n : ℕ} (es : List Edge) (p : ℕ) → Legals n es → any_at (asks DigitEnds) (place_by DigitEnds) es p ≡ ends_before es p
+pub ends_agree : {n : ℕ} (es : List Edge) (p : ℕ) → Legals n es → any_at digit_ends ending es p ≡ ends_before es p
 unfolding any_at ends_before
 ends_agree [] p nil = refl
 ends_agree {n} (e ∷ es) p (cons l ls) = rw (ends_last e.txt (sound_of n e l.content).txt, ends_agree es p ls)

@@ -16,7 +16,6 @@ ghost use Rattle.text.specs.Line.{max_chars};
 
 use edge::bits;
 use lattice::Lattice;
-use marks::Asked;
 use text::check::PLACES;
 
 // Whether an edge is numeric, starts at a place that has a mark, and begins with a digit: few of them have to be asked for the last.
@@ -94,12 +93,9 @@ fn set_all_apart(work: &mut [u8], lattice: Lattice, marks: &[bool; PLACES]) -> L
         → Holds work.old lattice es → length es ≡ lattice.count → CallEdges n es
         → Holds work.new result (all_apart marks.now es 0 (length es))) }
 {
-    let count = lattice.count;
     let mut grown = lattice;
-    let mut i = 0;
-    while i < count {
+    for i in 0..lattice.count {
         grown = set_apart(work, grown, i, marks);
-        i += 1;
     }
     grown
 }
@@ -114,6 +110,6 @@ pub fn separate(work: &mut [u8], lattice: Lattice) -> Lattice
         return lattice;
     }
     let mut marks = [false; PLACES];
-    marks::mark_places(work, lattice, Asked::DigitEnds, &mut marks);
+    marks::mark_places(work, lattice, |at| marks::digit_end(work, at), &mut marks);
     set_all_apart(work, lattice, &marks)
 }

@@ -15,23 +15,23 @@ use Rattle.passes.specs.declared.ratio.Ratio.{Ratio}
 use Rattle.passes.specs.Characters.{gcd, lowest}
 use Rattle.passes.proofs.LowestLaws.{gcd_divides, lowest_coprime}
 use Rattle.passes.proofs.ratio.RatioLaws.{gcd_positive, gcd_turn, lowest_at_most, lowest_positive}
-use Rattle.shares.specs.declared.Pooled.TheVariants as Pooled
 use Rattle.shares.specs.Pool.{Fraction, sum, fits, unless_above, pool}
 use Rattle.shares.specs.Answers.{fraction_of, Reduced, pooled}
 use Rattle.shares.proofs.GcdLaws.{Coprime}
 use Rattle.shares.proofs.PoolLaws.{sum_by_common, sum_lowest_right, lowest_again}
+use Rattle.std.specs.Prelude.{Some, None}
 
 -- ---- two numbers in parts
 module _ (above below : Wide) (n d : ℕ) (is-n : above ≡ wide n) (is-d : below ≡ wide d) where
   pub both_fit : {p q : Bool} → p ≡ leb (wide_of above) TOP → q ≡ leb (wide_of below) TOP → (p && q) ≡ fits (n, d)
   both_fit a b = rw (a, b, value_of n is-n, value_of d is-d)
 
-  pub narrow_fits : fits (n, d) ≡ true → Pooled.Sum (record { numerator = above.lo; denominator = below.lo }) ≡ pooled (unless_above (n, d))
+  pub narrow_fits : fits (n, d) ≡ true → Some (record { numerator = above.lo; denominator = below.lo }) ≡ pooled (unless_above (n, d))
   narrow_fits t =
       let (p, q) = and-true (leb n TOP) (leb d TOP) t in
       rw (t, is-n, is-d, narrow n (leb-true n TOP p), narrow d (leb-true d TOP q))
 
-pub narrow_above : (n d : ℕ) → fits (n, d) ≡ false → Pooled.Above ≡ pooled (unless_above (n, d))
+pub narrow_above : (n d : ℕ) → fits (n, d) ≡ false → None ≡ pooled (unless_above (n, d))
 narrow_above n d t = rw t
 
 -- ---- the divisors

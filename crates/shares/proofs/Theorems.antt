@@ -25,7 +25,6 @@ use Rattle.passes.proofs.LowestLaws.{lowest_same, lowest_coprime}
 use Rattle.passes.proofs.ratio.RatioLaws.{lowest_positive}
 use Rattle.edge.specs.Edge.{Edge}
 use Rattle.edge.specs.Layout.{listed}
-use Rattle.shares.specs.declared.Shares.TheVariants.{Sum, Above}
 use Rattle.shares.specs.Pool.{Fraction, sum, fits, unless_above, pool}
 use Rattle.shares.specs.Answers.{fraction_of, ratio_of}
 use Rattle.shares.specs.Listing.{pool_edges, pool_shares}
@@ -33,6 +32,8 @@ use Rattle.shares.specs.Total.{left_first, right_first, shares_of, total, Positi
 use Rattle.shares.proofs.GcdLaws.{Coprime}
 use Rattle.shares.proofs.TotalLaws.{total_reordered, total_positive, exact_from, first_above_lem, none_pooled, by_edges, call_positive}
 use Rattle.shares.proofs.PoolLaws.{sum_comm, sum_assoc, pool_is, pool_then}
+use Rattle.std.specs.Prelude.{Ok, Err}
+use Rattle.shares.specs.declared.SharesRefusal.TheVariants as SharesRefusal
 
 module _ (a b c d : ℕ) (b-pos : 0 < b) (d-pos : 0 < d) where
   pub sum_ratio : (sum (a, b) (c, d)).0 * (b * d) ≡ (a * d + c * b) * (sum (a, b) (c, d)).1
@@ -62,31 +63,31 @@ module _ (f g h : Fraction) (f-pos : 0 < f.1) (g-pos : 0 < g.1) (h-pos : 0 < h.1
       cc (pool_is f g l, pool_is left h lh, pool_is g h r, pool_is f right fr, sum_groups)
 
 -- ---- a whole listing
-pub pool_exact : (es : List Edge) (r : Ratio) → Positive (shares_of es) → pool_edges es ≡ Sum r → fraction_of r ≡ lowest (total (0, 1) (shares_of es))
+pub pool_exact : (es : List Edge) (r : Ratio) → Positive (shares_of es) → pool_edges es ≡ Ok r → fraction_of r ≡ lowest (total (0, 1) (shares_of es))
 unfolding lowest gcd gcd_within
 pool_exact es r h e = exact_from es r 0 (0, 1) (omega arith) h e
 
 pub pool_reordered : (es fs : List Edge) (r t : Ratio) → Positive (shares_of es) → Positive (shares_of fs) → Permᴰ (shares_of es) (shares_of fs) →
-    pool_edges es ≡ Sum r → pool_edges fs ≡ Sum t → r ≡ t
+    pool_edges es ≡ Ok r → pool_edges fs ≡ Ok t → r ≡ t
 pool_reordered es fs r t h k same p q = ap ratio_of (pool_exact es r h p ∙ ap lowest (total_reordered (0, 1) same) ∙ sym (pool_exact fs t k q))
 
-pub pool_first : (es : List Edge) (i : ℕ) → pool_edges es ≡ Above i → FirstAbove 0 (0, 1) es i
+pub pool_first : (es : List Edge) (i : ℕ) → pool_edges es ≡ Err (SharesRefusal.Above i) → FirstAbove 0 (0, 1) es i
 pool_first es i e = first_above_lem es i 0 (0, 1) e
 
-pub pool_none : (es : List Edge) → shares_of es ≡ [] → pool_edges es ≡ Sum (record { numerator = 0; denominator = 1 })
+pub pool_none : (es : List Edge) → shares_of es ≡ [] → pool_edges es ≡ Ok (record { numerator = 0; denominator = 1 })
 pool_none es h = none_pooled 0 (0, 1) es h
 
 -- ---- the call
-pub call_exact : (line s : List ℕ) (r : Ratio) → pool_shares line s ≡ Sum r → fraction_of r ≡ lowest (total (0, 1) (shares_of (listed s)))
+pub call_exact : (line s : List ℕ) (r : Ratio) → pool_shares line s ≡ Ok r → fraction_of r ≡ lowest (total (0, 1) (shares_of (listed s)))
 call_exact line s r =
-    by_edges line s (λ a. a ≡ Sum r → fraction_of r ≡ lowest (total (0, 1) (shares_of (listed s)))) (λ x e. let z : ◌≡◌ {A = ℕ} 0 1 = cc in absurd (omega arith))
+    by_edges line s (λ a. a ≡ Ok r → fraction_of r ≡ lowest (total (0, 1) (shares_of (listed s)))) (λ x e. let z : ◌≡◌ {A = ℕ} 0 1 = cc in absurd (omega arith))
     (λ h. pool_exact (listed s) r h)
 
-pub call_first : (line s : List ℕ) (i : ℕ) → pool_shares line s ≡ Above i → FirstAbove 0 (0, 1) (listed s) i
+pub call_first : (line s : List ℕ) (i : ℕ) → pool_shares line s ≡ Err (SharesRefusal.Above i) → FirstAbove 0 (0, 1) (listed s) i
 call_first line s i =
-    by_edges line s (λ a. a ≡ Above i → FirstAbove 0 (0, 1) (listed s) i) (λ x e. let z : ◌≡◌ {A = ℕ} 0 1 = cc in absurd (omega arith)) (λ _. pool_first (listed s) i)
+    by_edges line s (λ a. a ≡ Err (SharesRefusal.Above i) → FirstAbove 0 (0, 1) (listed s) i) (λ x e. let z : ◌≡◌ {A = ℕ} 0 1 = cc in absurd (omega arith)) (λ _. pool_first (listed s) i)
 
-pub call_ratio : (line s : List ℕ) (r : Ratio) → pool_shares line s ≡ Sum r →
+pub call_ratio : (line s : List ℕ) (r : Ratio) → pool_shares line s ≡ Ok r →
     let all = total (0, 1) (shares_of (listed s)) in
     Coprime r.numerator r.denominator × (r.numerator * all.1 ≡ all.0 * r.denominator)
 call_ratio line s r e =

@@ -10,19 +10,18 @@ use Rattle.edge.specs.Edge.{Edge}
 use Rattle.edge.specs.Layout.{next_at, edge_at, edges_at, listed}
 use Rattle.edge.specs.Check.{each, sound_fraction}
 use Rattle.paths.specs.declared.ReadRefusal.{ReadRefusal}
-use Rattle.paths.specs.declared.ReadCheck.{ReadCheck}
 use Rattle.paths.specs.Reading.{Spans, readable, read_check}
 use Rattle.paths.proofs.ReadingLaws.{reads}
 use Rattle.passes.specs.declared.ratio.Ratio.{Ratio}
 use Rattle.passes.specs.Characters.{lowest}
-use Rattle.shares.specs.declared.Shares.{Shares}
-use Rattle.shares.specs.declared.Shares.TheVariants.{Sum, Above, Refused}
 use Rattle.shares.specs.Pool.{Fraction, sum, pool}
 use Rattle.shares.specs.Answers.{fraction_of, ratio_of}
 use Rattle.shares.specs.Listing.{share, join_share, join, pool_from, pool_edges, pool_shares}
 use Rattle.shares.specs.Total.{shares_of, total, Positive, FirstAbove}
 use Rattle.shares.proofs.PoolLaws.{sum_lowest_left, pool_is}
 use Rattle.shares.proofs.ListingLaws.{share_sound, fraction_sound, pool_on, readable_spans}
+use Rattle.std.specs.Prelude.{Result, Ok, Err}
+use Rattle.shares.specs.declared.SharesRefusal.{SharesRefusal}
 
 -- ---- the sum in any order
 pub total_reordered : (f : Fraction) {gs hs : List Fraction} → Permᴰ gs hs → total f gs ≡ total f hs
@@ -49,18 +48,18 @@ unfolding shares_of
 shares_on e es o p = ap (λ (x : Option Fraction). elim x [ none ↦ shares_of es | some g ↦ g ∷ shares_of es ]) p
 
 abbrev Exact : List Edge → Ratio → Type 0
-Exact es r = (i : ℕ) (f : Fraction) → 0 < f.1 → Positive (shares_of es) → pool_from i (lowest f) es ≡ Sum r → fraction_of r ≡ lowest (total f (shares_of es))
+Exact es r = (i : ℕ) (f : Fraction) → 0 < f.1 → Positive (shares_of es) → pool_from i (lowest f) es ≡ Ok r → fraction_of r ≡ lowest (total f (shares_of es))
 
 module _ (x : Edge) (es : List Edge) (r : Ratio) (rest : Exact es r) (i : ℕ) (f : Fraction) (f-pos : 0 < f.1) where
   by_step : (g : Fraction) (o : Option Fraction) → 0 < g.1 → Positive (shares_of es) → pool (lowest f) g ≡ o →
-      elim o [ none ↦ Above i | some k ↦ pool_from (suc i) k es ] ≡ Sum r → fraction_of r ≡ lowest (total f (g ∷ shares_of es))
+      ◌≡◌ {A = Result Ratio SharesRefusal} (elim o [ none ↦ Err (SharesRefusal.Above i) | some k ↦ pool_from (suc i) k es ]) (Ok r) → fraction_of r ≡ lowest (total f (g ∷ shares_of es))
   unfolding total sum
   by_step g none g-pos h p e = let z : ◌≡◌ {A = ℕ} 0 1 = cc in absurd (omega arith)
   by_step g (some k) g-pos h p e =
       let is_sum : k ≡ sum f g = pool_is (lowest f) g p ∙ sum_lowest_left f.0 f.1 g f-pos g-pos in
       rest (suc i) (f.0 * g.1 + g.0 * f.1, f.1 * g.1) (mul-pos f-pos g-pos) h (rw is_sum at e)
 
-  by_share : (o : Option Fraction) → share x ≡ o → Positive (shares_of (x ∷ es)) → pool_from i (lowest f) (x ∷ es) ≡ Sum r → fraction_of r ≡ lowest (total f (shares_of (x ∷ es)))
+  by_share : (o : Option Fraction) → share x ≡ o → Positive (shares_of (x ∷ es)) → pool_from i (lowest f) (x ∷ es) ≡ Ok r → fraction_of r ≡ lowest (total f (shares_of (x ∷ es)))
   unfolding Positive
   by_share none p h e =
       let q = shares_on x es none p in
@@ -79,7 +78,7 @@ exact_from (x ∷ es) r i f f-pos h e = by_share x es r (exact_from es r) i f f-
 
 -- ---- a listing that is refused
 abbrev Stops : List Edge → ℕ → Type 0
-Stops es j = (i : ℕ) (f : Fraction) → pool_from i f es ≡ Above j → FirstAbove i f es j
+Stops es j = (i : ℕ) (f : Fraction) → pool_from i f es ≡ Err (SharesRefusal.Above j) → FirstAbove i f es j
 
 module _ (x : Edge) (es : List Edge) (j : ℕ) (rest : Stops es j) (i : ℕ) (f : Fraction) where
   -- a step that is refused has a share
@@ -113,7 +112,7 @@ module _ (x : Edge) (es : List Edge) (j : ℕ) (rest : Stops es j) (i : ℕ) (f 
     refused = w.refused;
   }
 
-  stops_on : (o : Option Fraction) → join f x ≡ o → elim o [ none ↦ Above i | some g ↦ pool_from (suc i) g es ] ≡ Above j → FirstAbove i f (x ∷ es) j
+  stops_on : (o : Option Fraction) → join f x ≡ o → ◌≡◌ {A = Result Ratio SharesRefusal} (elim o [ none ↦ Err (SharesRefusal.Above i) | some g ↦ pool_from (suc i) g es ]) (Err (SharesRefusal.Above j)) → FirstAbove i f (x ∷ es) j
   stops_on none p e = here (share x) refl p (cc)
   stops_on (some g) p e = later g p (rest (suc i) g e)
 
@@ -123,12 +122,12 @@ first_above_lem [] j i f e = let z : ◌≡◌ {A = ℕ} 0 1 = cc in absurd (ome
 first_above_lem (x ∷ es) j i f e = stops_on x es j (first_above_lem es j) i f (join f x) refl e
 
 -- ---- a listing without shares
-pub none_pooled : (i : ℕ) (f : Fraction) (es : List Edge) → shares_of es ≡ [] → pool_from i f es ≡ Sum (ratio_of f)
+pub none_pooled : (i : ℕ) (f : Fraction) (es : List Edge) → shares_of es ≡ [] → pool_from i f es ≡ Ok (ratio_of f)
 unfolding pool_from
 none_pooled i f [] h = refl
 none_pooled i f (x ∷ es) h = go (share x) refl (none_pooled (suc i) f es)
   where
-    go : (o : Option Fraction) → share x ≡ o → (shares_of es ≡ [] → pool_from (suc i) f es ≡ Sum (ratio_of f)) → pool_from i f (x ∷ es) ≡ Sum (ratio_of f)
+    go : (o : Option Fraction) → share x ≡ o → (shares_of es ≡ [] → pool_from (suc i) f es ≡ Ok (ratio_of f)) → pool_from i f (x ∷ es) ≡ Ok (ratio_of f)
     go none p rest = pool_on i f x es (some f) (ap (join_share f) p) ∙ rest (sym (shares_on x es none p) ∙ h)
     go (some g) p rest = let q : g ∷ shares_of es ≡ [] = sym (shares_on x es (some g) p) ∙ h in let z : ◌≡◌ {A = ℕ} 0 1 = cc in absurd (omega arith)
 
@@ -146,15 +145,15 @@ spans_positive (suc k) s at h = go (share (edge_at s at)) refl (spans_positive k
     go (some g) p rest = rw (shares_on (edge_at s at) es (some g) p) ((fraction_sound g.0 g.1 (ap (each sound_fraction) (sym p) ∙ share_sound (edge_at s at).num h.0.numeric)).2, rest)
 
 -- what holds of the edges of every listing that is read, where it is not refused, holds of the call's answer
-module _ (line s : List ℕ) (P : Shares → Type 0) (refused : (x : ReadRefusal) → P (Refused x)) where
+module _ (line s : List ℕ) (P : Result Ratio SharesRefusal → Type 0) (refused : (x : ReadRefusal) → P (Err (SharesRefusal.Reading x))) where
   pub by_edges : (Positive (shares_of (listed s)) → P (pool_edges (listed s))) → P (pool_shares line s)
   unfolding pool_shares
   by_edges f = go (read_check line s) refl
     where
-      go : (c : ReadCheck) → read_check line s ≡ c → P (readable Refused (λ n k. pool_edges (listed s)) c)
-      go (ReadCheck.Refused x) e = refused x
-      go (ReadCheck.Readable n k) e = f (rw (reads line s n k e).edges at (spans_positive k s 2 (readable_spans line s e)))
+      go : (c : Result (ℕ × ℕ) ReadRefusal) → read_check line s ≡ c → P (readable (λ r. Err (SharesRefusal.Reading r)) (λ n k. pool_edges (listed s)) c)
+      go (Err x) e = refused x
+      go (Ok (n, k)) e = f (rw (reads line s n k e).edges at (spans_positive k s 2 (readable_spans line s e)))
 
-pub call_positive : (line s : List ℕ) (r : Ratio) → pool_shares line s ≡ Sum r → Positive (shares_of (listed s))
+pub call_positive : (line s : List ℕ) (r : Ratio) → pool_shares line s ≡ Ok r → Positive (shares_of (listed s))
 call_positive line s r =
-    by_edges line s (λ a. a ≡ Sum r → Positive (shares_of (listed s))) (λ x e. let z : ◌≡◌ {A = ℕ} 0 1 = cc in absurd (omega arith)) (λ h _. h)
+    by_edges line s (λ a. a ≡ Ok r → Positive (shares_of (listed s))) (λ x e. let z : ◌≡◌ {A = ℕ} 0 1 = cc in absurd (omega arith)) (λ h _. h)

@@ -5,14 +5,13 @@
 --     pooled o        the answer for one step
 --     said o          what an edge has to add
 -- Assumes nothing.
-use Rattle.std.specs.Prelude.{◌≤◌, ◌<◌, ◌≡◌}
+use Rattle.std.specs.Prelude.{ℕ, ◌≤◌, ◌<◌, ◌≡◌, Some, None}
 use Rattle.std.proofs.Math.Option.{Option, none, some}
 use Rattle.whole.specs.Whole.{TOP}
 use Rattle.passes.specs.declared.ratio.Ratio.{Ratio}
 use Rattle.passes.specs.Characters.{lowest}
-use Rattle.shares.specs.declared.Pooled.{Pooled}
-use Rattle.shares.specs.declared.Share.{Share}
 use Rattle.shares.specs.Pool.{Fraction}
+use Rattle.std.specs.Prelude as std
 
 abbrev pub fraction_of : Ratio → Fraction
 fraction_of r = (r.numerator, r.denominator)
@@ -26,10 +25,10 @@ pub record Reduced (r : Ratio) : Type 0 where
   pub positive : 0 < r.denominator
   pub same : lowest (fraction_of r) ≡ fraction_of r
 
-abbrev pub pooled : Option Fraction → Pooled
-pooled none = Pooled.Above
-pooled (some f) = Pooled.Sum (ratio_of f)
+abbrev pub pooled : Option Fraction → std.Option Ratio
+pooled none = None
+pooled (some f) = Some (ratio_of f)
 
-abbrev pub said : Option Fraction → Share
-said none = Share.Nothing
-said (some f) = Share.Of f.0 f.1
+abbrev pub said : Option Fraction → std.Option (ℕ × ℕ)
+said none = None
+said (some f) = Some (f.0, f.1)

@@ -5,15 +5,15 @@
 --     pool_edges es        what the edges es come to
 --     pool_shares line s   what the listing s over a line comes to, or the refusal
 -- Assumes nothing.
-use Rattle.std.specs.Prelude.{ℕ, suc, cond, List, [], ◌∷◌}
+use Rattle.std.specs.Prelude.{ℕ, suc, cond, List, [], ◌∷◌, Result, Ok, Err}
 use Rattle.std.proofs.Math.Option.{Option, none, some}
 use Rattle.edge.specs.Edge.{Numeric, Edge}
 use Rattle.edge.specs.Layout.{listed}
 use Rattle.paths.specs.Reading.{readable, read_check}
-use Rattle.shares.specs.declared.Shares.{Shares}
-use Rattle.shares.specs.declared.Shares.TheVariants.{Sum, Above, Refused}
 use Rattle.shares.specs.Pool.{Fraction, pool}
 use Rattle.shares.specs.Answers.{ratio_of}
+use Rattle.passes.specs.declared.ratio.Ratio.{Ratio}
+use Rattle.shares.specs.declared.SharesRefusal.{SharesRefusal}
 
 -- "active edges that have a fraction (bit 2)"
 abbrev pub share_of : Option Numeric → Option Fraction
@@ -31,14 +31,14 @@ abbrev pub join : Fraction → Edge → Option Fraction
 join f e = join_share f (share e)
 
 -- "in listing order"; "It refuses with 11 at the first step .., naming that edge's index in the listing, counted from 0"
-unfoldable pub pool_from : ℕ → Fraction → List Edge → Shares
-pool_from i f [] = Sum (ratio_of f)
-pool_from i f (e ∷ es) = elim (join f e) [ none ↦ Above i | some g ↦ pool_from (suc i) g es ]
+unfoldable pub pool_from : ℕ → Fraction → List Edge → Result Ratio SharesRefusal
+pool_from i f [] = Ok (ratio_of f)
+pool_from i f (e ∷ es) = elim (join f e) [ none ↦ Err (SharesRefusal.Above i) | some g ↦ pool_from (suc i) g es ]
 
 -- "none gives 0/1"
-abbrev pub pool_edges : List Edge → Shares
+abbrev pub pool_edges : List Edge → Result Ratio SharesRefusal
 pool_edges es = pool_from 0 (0, 1) es
 
 -- "Pool one listing's ..", "after any fault 6": the checks of a call that reads a listing come first
-unfoldable pub pool_shares : List ℕ → List ℕ → Shares
-pool_shares line s = readable Refused (λ n k. pool_edges (listed s)) (read_check line s)
+unfoldable pub pool_shares : List ℕ → List ℕ → Result Ratio SharesRefusal
+pool_shares line s = readable (λ r. Err (SharesRefusal.Reading r)) (λ n k. pool_edges (listed s)) (read_check line s)

@@ -7,10 +7,9 @@
 --     FirstAbove i f es j    of the edges es, of which the first has index i, the edge of index j has a share; the edges before it come to a sum with f, and the
 --                        step from that sum is refused
 -- Assumes nothing.
-use Rattle.std.specs.Prelude.{ℕ, ◌+◌, ◌*◌, ◌<◌, ◌≡◌, List, [], ◌∷◌, ◌++◌, length}
+use Rattle.std.specs.Prelude.{ℕ, ◌+◌, ◌*◌, ◌<◌, ◌≡◌, List, [], ◌∷◌, ◌++◌, length, Ok}
 use Rattle.std.proofs.Math.Option.{Option, none, some}
 use Rattle.edge.specs.Edge.{Edge}
-use Rattle.shares.specs.declared.Shares.TheVariants.{Sum}
 use Rattle.shares.specs.Pool.{Fraction, pool}
 use Rattle.shares.specs.Answers.{ratio_of}
 use Rattle.shares.specs.Listing.{share, pool_from}
@@ -45,7 +44,7 @@ pub record FirstAbove (i : ℕ) (f : Fraction) (es : List Edge) (j : ℕ) : Type
   pub parts : es ≡ before ++ (edge ∷ behind)
   pub index : j ≡ i + length before
   pub so_far : Fraction
-  pub summed : pool_from i f before ≡ Sum (ratio_of so_far)
+  pub summed : pool_from i f before ≡ Ok (ratio_of so_far)
   pub its_share : Fraction
   pub has : share edge ≡ some its_share
   pub refused : pool so_far its_share ≡ none

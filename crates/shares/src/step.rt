@@ -5,27 +5,26 @@ ghost use Rattle.wide.specs.Numbers.{wide};
 ghost use Rattle.shares.specs.Pool as Pool;
 ghost use Rattle.shares.specs.Answers.{Reduced, fraction_of, pooled};
 
-use crate::Pooled;
 use passes::ratio::{Ratio, gcd, lowest};
 use wide::Wide;
 
 // A fraction of two numbers in parts, unless one is above TOP.
-fn narrow(above: Wide, below: Wide) -> Pooled
+fn narrow(above: Wide, below: Wide) -> Option<Ratio>
     ensures { (n d : ℕ) → above ≡ wide n → below ≡ wide d → result ≡ pooled (Pool.unless_above (n, d)) }
 {
     if wide::fits(above) & wide::fits(below) {
-        Pooled::Sum(Ratio {
+        Some(Ratio {
             numerator: above.lo,
             denominator: below.lo,
         })
     } else {
-        Pooled::Above
+        None
     }
 }
 
 // The sum of two fractions in lowest terms. What the denominators have in common counts once; of that alone a part can divide the sum's numerator
 // and denominator (Knuth, The Art of Computer Programming, volume 2, 4.5.1).
-fn add(f: Ratio, g: Ratio) -> Pooled
+fn add(f: Ratio, g: Ratio) -> Option<Ratio>
     requires { Reduced f × Reduced g }
     ensures { result ≡ pooled (Pool.pool (fraction_of f) (fraction_of g)) }
 {
@@ -40,7 +39,7 @@ fn add(f: Ratio, g: Ratio) -> Pooled
 }
 
 // The sum and a fraction as it is listed, perhaps not in lowest terms.
-pub fn pool(sum: Ratio, n: u64, d: u64) -> Pooled
+pub fn pool(sum: Ratio, n: u64, d: u64) -> Option<Ratio>
     requires { Reduced sum × (n ≤ TOP) × (d ≤ TOP) × (0 < d) }
     ensures { result ≡ pooled (Pool.pool (fraction_of sum) (n, d)) }
 {

@@ -2,7 +2,8 @@
 ghost use Rattle.std.specs.Prelude.{◌≡◌};
 ghost use Rattle.shares.specs.Told.{shares_told};
 
-use crate::Shares;
+use crate::SharesRefusal;
+use passes::ratio::Ratio;
 
 // The sum's numerator and denominator, 0 where there is none; and the offset or index that a refusal returns, 0 where there is none.
 #[derive(Clone, Copy)]
@@ -14,23 +15,23 @@ pub struct CShares {
 }
 
 // The sum, or 02's number of the refusal and its offset or index.
-pub fn shares_told(a: Shares) -> CShares
+pub fn shares_told(a: Result<Ratio, SharesRefusal>) -> CShares
     ensures { result ≡ shares_told a }
 {
     match a {
-        Shares::Sum(r) => CShares {
+        Ok(r) => CShares {
             status: 0,
             numerator: r.numerator,
             denominator: r.denominator,
             at: 0,
         },
-        Shares::Above(i) => CShares {
+        Err(SharesRefusal::Above(i)) => CShares {
             status: 11,
             numerator: 0,
             denominator: 0,
             at: i as u64,
         },
-        Shares::Refused(r) => {
+        Err(SharesRefusal::Reading(r)) => {
             let t = answers::reading::refusal_told(r);
             CShares {
                 status: t.status,

@@ -2,15 +2,8 @@
 // with a space before each. What C is told goes to standard output with the same words, one row each.
 #![tactic(auto)]
 
-use vectors::ROWS;
-
 fn main() {
-    let mut input = io::large_buffer();
-    let mut ends = [0usize; ROWS];
-    let rows = vectors::read_rows(&mut input, &mut ends);
-    for i in 0..rows {
-        answer(vectors::row(&input, &ends, i));
-    }
+    vectors::each_row(|row| answer(row));
 }
 
 fn report(line: &[u8], listing: &[u8]) {

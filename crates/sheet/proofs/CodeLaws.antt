@@ -2,6 +2,7 @@
 -- In order: a word that is put; what a candidate gives; behind a candidate; candidates and blocks that are passed.
 use Prim.Native.Nat.{ℕ, zero, suc, ◌+◌, ◌*◌, ◌-◌, ◌/◌, ◌%◌, ◌≤◌, ◌<◌}
 use mathlib.Core.Path.{◌≡◌, refl, sym, ap, ◌∙◌}
+use mathlib.Core.Bool.{true, false}
 use mathlib.Core.List.{List, [], ◌∷◌, ◌++◌}
 use mathlib.Core.Option.{Option, none, some}
 use native.Mathlib.Omega.{arith}
@@ -13,16 +14,18 @@ use Rattle.edge.proofs.WriteLaws.{put_then}
 use Rattle.grammar.specs.Plain.{Char, utf8}
 use Rattle.grammar.proofs.PlainText.{utf8_nil, utf8_append, utf8_length}
 use Rattle.numeral.specs.Field.{field_of}
-use Rattle.sheet_rows.specs.declared.Found.{Found}
-use Rattle.sheet_rows.specs.Rows.{char_at, numeral_within, number_of, found}
+use Rattle.numeral.specs.Walk.{valued}
+use Rattle.sheet_rows.specs.Rows.{char_at, numeral_within, number_of}
 use Rattle.sheet_rows.proofs.RowLaws.{number_within}
 use Rattle.sheet_rows.proofs.CodeLaws.{put_read}
 use Rattle.sheet_counts.specs.Numbered.{word_of, candidate, rows_in}
 use Rattle.sheet_counts.proofs.CountLaws.{short_rows}
-use Rattle.sheet.specs.declared.candidates.Candidate.{Candidate}
-use Rattle.sheet.specs.declared.candidates.Candidate.TheVariants.{Row, Nothing}
 use Rattle.sheet.specs.Walk.{tried_as, tried, AtFront, At, PassedIs}
 use Rattle.sheet.proofs.NumberedLaws.{at_front, at_none, at_some, at_more, at_end}
+use Rattle.std.specs.Prelude.{Some, None}
+use Rattle.std.specs.Prelude as std
+use Rattle.std.specs.Option.{is_some, option_map}
+use Rattle.std.proofs.lemmas.Option.{some_pair_parts}
 
 -- ---- a word that is put
 put_nothing : (s : List ℕ) → Put s s 0 0 (utf8 [])
@@ -81,40 +84,48 @@ module _ (i : ℕ) {s t : List ℕ} {len : ℕ} (room : 12 ≤ length s) (put : 
   read : take len t ≡ utf8 (candidate i)
   read = put_read s (utf8 (word_of 4 (i + 1))) put (omega (arith, put.next, word_size 4 (i + 1))) ∙ ap utf8 (sym (candidate_is i))
 
-  value : {f : Found} → f ≡ found (number_of (field_of (take len t))) → f ≡ found (numeral_within (candidate i))
-  value e = e ∙ ap found (ap (λ (l : List ℕ). number_of (field_of l)) read ∙ number_within (candidate i) (omega (arith, candidate_short i)))
+  value : {f : std.Option ℕ} → f ≡ valued (number_of (field_of (take len t))) → f ≡ valued (numeral_within (candidate i))
+  value e = e ∙ ap valued (ap (λ (l : List ℕ). number_of (field_of l)) read ∙ number_within (candidate i) (omega (arith, candidate_short i)))
 
   long : len ≡ length (utf8 (candidate i))
   long = rw (candidate_is i) (put.next ∙ omega arith)
 
-  value_of : (o : Option ℕ) (v : ℕ) → Found.Value v ≡ found o → Row len v ≡ tried_as (length (utf8 (candidate i))) o
-  value_of none v e = let z : ◌≡◌ {A = ℕ} 0 1 = cc in absurd (omega arith)
-  value_of (some u) v e = let p : v ≡ u = cc in rw (p, long)
+  lengthened : (o : Option ℕ) → option_map (λ (v : ℕ). (len, v)) (valued o) ≡ tried_as (length (utf8 (candidate i))) o
+  lengthened none = refl
+  lengthened (some v) = ap (λ (n : ℕ). Some (n, v)) long
 
-  nothing_of : (o : Option ℕ) → Found.Nothing ≡ found o → Nothing ≡ tried_as (length (utf8 (candidate i))) o
-  nothing_of none e = refl
-  nothing_of (some u) e = let z : ◌≡◌ {A = ℕ} 0 1 = cc in absurd (omega arith)
-
-  pub tried_row : {f : Found} (v : ℕ) → f ≡ found (number_of (field_of (take len t))) → f ≡ Found.Value v → Row len v ≡ tried (candidate i)
-  tried_row v e k = value_of (numeral_within (candidate i)) v (sym k ∙ value e)
-
-  pub tried_none : {f : Found} → f ≡ found (number_of (field_of (take len t))) → f ≡ Found.Nothing → Nothing ≡ tried (candidate i)
-  tried_none e k = nothing_of (numeral_within (candidate i)) (sym k ∙ value e)
+  pub tried_value : {f : std.Option ℕ} → f ≡ valued (number_of (field_of (take len t))) → option_map (λ (v : ℕ). (len, v)) f ≡ tried (candidate i)
+  tried_value e = ap (option_map (λ (v : ℕ). (len, v))) (value e) ∙ lengthened (numeral_within (candidate i))
 
 -- ---- behind a candidate
-row_is_tried : (w : List Char) (o : Option ℕ) (n v : ℕ) → Row n v ≡ tried_as (length (utf8 w)) o → (o ≡ some v) × (n ≡ length (utf8 w))
-row_is_tried w none n v e = let z : ◌≡◌ {A = ℕ} 0 1 = cc in absurd (omega arith)
-row_is_tried w (some u) n v e = let p : u ≡ v = cc in let q : n ≡ length (utf8 w) = cc in (ap some p, q)
+row_is_tried : (w : List Char) (o : Option ℕ) (n v : ℕ) → Some (n, v) ≡ tried_as (length (utf8 w)) o → (o ≡ some v) × (n ≡ length (utf8 w))
+row_is_tried w none n v e = absurd cc
+row_is_tried w (some u) n v e = let k = some_pair_parts n (length (utf8 w)) v u e in (ap some (sym k.1), k.0)
 
-nothing_is_tried : (w : List Char) (o : Option ℕ) → Nothing ≡ tried_as (length (utf8 w)) o → o ≡ none
+nothing_is_tried : (w : List Char) (o : Option ℕ) → None ≡ tried_as (length (utf8 w)) o → o ≡ none
 nothing_is_tried w none e = refl
-nothing_is_tried w (some u) e = let z : ◌≡◌ {A = ℕ} 0 1 = cc in absurd (omega arith)
+nothing_is_tried w (some u) e = absurd cc
 
-pub row_tried : (i : ℕ) {f : Candidate} (n v : ℕ) → f ≡ tried (candidate i) → f ≡ Row n v → (numeral_within (candidate i) ≡ some v) × (n ≡ length (utf8 (candidate i)))
+pub row_tried : (i : ℕ) {f : std.Option (ℕ × ℕ)} (n v : ℕ) → f ≡ tried (candidate i) → f ≡ Some (n, v) → (numeral_within (candidate i) ≡ some v) × (n ≡ length (utf8 (candidate i)))
 row_tried i n v e k = row_is_tried (candidate i) (numeral_within (candidate i)) n v (sym k ∙ e)
 
-pub none_tried : (i : ℕ) {f : Candidate} → f ≡ tried (candidate i) → f ≡ Nothing → numeral_within (candidate i) ≡ none
+pub none_tried : (i : ℕ) {f : std.Option (ℕ × ℕ)} → f ≡ tried (candidate i) → f ≡ None → numeral_within (candidate i) ≡ none
 none_tried i e k = nothing_is_tried (candidate i) (numeral_within (candidate i)) (sym k ∙ e)
+
+-- whether it has a row
+some_is_tried : (n : ℕ) (o : Option ℕ) → is_some (tried_as n o) ≡ true → (v : ℕ) × (o ≡ some v)
+some_is_tried n none e = absurd cc
+some_is_tried n (some v) e = (v, refl)
+
+none_is_tried : (n : ℕ) (o : Option ℕ) → is_some (tried_as n o) ≡ false → o ≡ none
+none_is_tried n none e = refl
+none_is_tried n (some v) e = absurd cc
+
+pub some_counted : (i : ℕ) {f : std.Option (ℕ × ℕ)} → f ≡ tried (candidate i) → is_some f ≡ true → (v : ℕ) × (numeral_within (candidate i) ≡ some v)
+some_counted i e k = some_is_tried (length (utf8 (candidate i))) (numeral_within (candidate i)) (rw e at k)
+
+pub none_counted : (i : ℕ) {f : std.Option (ℕ × ℕ)} → f ≡ tried (candidate i) → is_some f ≡ false → numeral_within (candidate i) ≡ none
+none_counted i e k = none_is_tried (length (utf8 (candidate i))) (numeral_within (candidate i)) (rw e at k)
 
 -- ---- candidates that are passed
 module _ (position i p : ℕ) (a : PassedIs position i p) where
@@ -127,8 +138,8 @@ module _ (position i p : ℕ) (a : PassedIs position i p) where
   pub passed_there : p ≡ position → (i ≤ 69904) × At i position
   passed_there e = (a.inside, rw e at a.there)
 
-  pub passed_end : 69904 ≤ i → (i ≤ 69904) × At i position
-  passed_end h = (a.inside, at_end i p position h a.before a.there)
+  pub passed_end : 69904 ≤ i → (69904 ≤ 69904) × At 69904 position
+  passed_end h = let e : i ≡ 69904 = omega (arith, a.inside) in (omega arith, rw e at (at_end i p position h a.before a.there))
 
 -- ---- blocks that are passed
 pub at_three : At 272 257

@@ -18,14 +18,13 @@ use Rattle.sheet_rows.proofs.RowLaws.{rows_at_most, length_row, rows_bytes_more}
 use Rattle.sheet_rows.proofs.CodeLaws.{put_length, put_read, row_is}
 use Rattle.sheet_counts.specs.Numbered.{candidate}
 use Rattle.sheet.specs.declared.Page.{Page}
-use Rattle.sheet.specs.declared.candidates.Candidate.{Candidate}
-use Rattle.sheet.specs.declared.candidates.Candidate.TheVariants.{Row}
 use Rattle.sheet.specs.Sheet.{candidates, sheet, fitting, page, after}
 use Rattle.sheet.specs.Answer.{answer, output}
 use Rattle.sheet.specs.Walk.{tried, AtFront, rows_from, At, Fills}
 use Rattle.sheet.proofs.PageLaws.{fitting_part, fitting_next, fitting_stops, fitting_nil}
 use Rattle.sheet.proofs.NumberedLaws.{length_candidates, rows_first}
 use Rattle.sheet.proofs.CodeLaws.{candidate_short, row_tried}
+use Rattle.std.specs.Prelude.{Option, Some}
 
 -- ---- the rows that are left
 
@@ -136,7 +135,7 @@ pub record RowFound (i n v : ℕ) (t : List ℕ) : Type 0 where
   pub text : take n t ≡ utf8 (candidate i)
   pub size : length (row_bytes (candidate i, v)) ≡ n + length (decimal v) + 2
 
-pub row_found : (i : ℕ) {f : Candidate} {s t : List ℕ} {n v : ℕ} → f ≡ tried (candidate i) → f ≡ Row n v → AtFront s t (utf8 (candidate i)) → length s ≡ 12 → RowFound i n v t
+pub row_found : (i : ℕ) {f : Option (ℕ × ℕ)} {s t : List ℕ} {n v : ℕ} → f ≡ tried (candidate i) → f ≡ Some (n, v) → AtFront s t (utf8 (candidate i)) → length s ≡ 12 → RowFound i n v t
 row_found i {f} {s} {t} {n} {v} e k p twelve =
     let (h, l) = row_tried i n v e k in
     let small : n ≤ 12 = omega (arith, utf8_length (candidate i), candidate_short i) in

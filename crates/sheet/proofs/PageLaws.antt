@@ -47,7 +47,7 @@ fitting_fits n (r ∷ rs) = go (leb (size r) n) refl (fitting_fits (n - size r) 
 
 pub fitting_full : (n : ℕ) (rs : Rows) (r : List Char × ℕ) (t : Rows) → fitting n rs ++ (r ∷ t) ≡ rs → n < length (rows_bytes (fitting n rs)) + length (row_bytes r)
 unfolding fitting rows_bytes
-fitting_full n [] r t h = let z : ◌≡◌ {A = ℕ} 0 1 = cc in absurd (omega arith)
+fitting_full n [] r t h = absurd cc
 fitting_full n (q ∷ rs) r t h = go (leb (size q) n) refl (fitting_full (n - size q) rs r t) h
   where
     go : (b : Bool) → leb (size q) n ≡ b

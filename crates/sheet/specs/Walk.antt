@@ -6,21 +6,20 @@
 --     PassedIs ..        i candidates are passed, with p rows, none of them behind the position asked for
 --     Fills rs s t ..    of the rows rs as many are put at the front of s as fit; t is s then
 --     Assumes nothing.
-use Rattle.std.specs.Prelude.{ℕ, ◌≤◌, ◌≡◌, List, length, drop}
+use Rattle.std.specs.Prelude.{ℕ, ◌≤◌, ◌≡◌, List, length, drop, Some, None}
 use Rattle.std.proofs.Math.Option.{Option, none, some}
 use Rattle.std.proofs.lemmas.List.Edits.{sets}
 use Rattle.edge.specs.Write.{Put}
 use Rattle.grammar.specs.Plain.{Char, utf8}
 use Rattle.sheet_rows.specs.Rows.{numeral_within, rows_of, rows_bytes}
-use Rattle.sheet.specs.declared.candidates.Candidate.{Candidate}
-use Rattle.sheet.specs.declared.candidates.Candidate.TheVariants.{Row, Nothing}
 use Rattle.sheet.specs.Sheet.{candidates, sheet, fitting}
+use Rattle.std.specs.Prelude as std
 
-abbrev pub tried_as : ℕ → Option ℕ → Candidate
-tried_as n none = Nothing
-tried_as n (some v) = Row n v
+abbrev pub tried_as : ℕ → Option ℕ → std.Option (ℕ × ℕ)
+tried_as n none = None
+tried_as n (some v) = Some (n, v)
 
-abbrev pub tried : List Char → Candidate
+abbrev pub tried : List Char → std.Option (ℕ × ℕ)
 tried w = tried_as (length (utf8 w)) (numeral_within w)
 
 abbrev pub AtFront : List ℕ → List ℕ → List ℕ → Type 0

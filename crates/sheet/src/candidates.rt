@@ -5,17 +5,8 @@ ghost use Rattle.grammar.specs.Plain.{utf8};
 ghost use Rattle.sheet_counts.specs.Numbered.{word_of, candidate};
 ghost use Rattle.sheet.specs.Walk.{AtFront, tried};
 
-use sheet_rows::Found;
-
 // How many there are: 16 + 16² + 16³ + 16⁴.
 pub const COUNT: usize = 69904;
-
-// What a candidate gives: a row, with the length of its text and its value; or none.
-#[derive(Clone, Copy)]
-pub enum Candidate {
-    Row(usize, u64),
-    Nothing,
-}
 
 // Puts the word of a number, of so many characters at most, at the front of the buffer.
 fn put_word(buf: &mut [u8], most: usize, number: usize) -> usize
@@ -33,15 +24,11 @@ fn put_word(buf: &mut [u8], most: usize, number: usize) -> usize
 }
 
 // Whether a candidate has a row; its text is then at the front of the buffer.
-pub fn try_candidate(buf: &mut [u8], index: usize) -> Candidate
+pub fn try_candidate(buf: &mut [u8], index: usize) -> Option<(usize, u64)>
     requires { (12 ≤ length buf.old) × (index < 69904) }
     ensures answer { result ≡ tried (candidate index) }
     ensures put { AtFront buf.old buf.new (utf8 (candidate index)) }
 {
     let len = put_word(buf, 4, index + 1);
-    let found = sheet_rows::value_within(&buf[..len]);
-    match found {
-        Found::Value(v) => Candidate::Row(len, v),
-        Found::Nothing => Candidate::Nothing,
-    }
+    sheet_rows::value_within(&buf[..len]).map(|value| (len, value))
 }

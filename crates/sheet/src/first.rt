@@ -2,7 +2,7 @@
 ghost use Rattle.std.specs.Prelude.{◌≤◌};
 ghost use Rattle.sheet.specs.Walk.{At, PassedIs};
 
-use crate::candidates::{COUNT, Candidate, try_candidate};
+use crate::candidates::{COUNT, try_candidate};
 use sheet_counts::{BLOCK, BLOCKS, SHORT, SHORT_ROWS};
 
 // So many candidates are passed, with so many rows.
@@ -21,15 +21,13 @@ fn pass_blocks(position: u64) -> Passed
     }
     let mut index = SHORT;
     let mut rows = SHORT_ROWS;
-    let mut block = 0;
-    while block < BLOCKS {
+    for block in 0..BLOCKS {
         let n = sheet_counts::rows_in(block);
         if position - rows < n {
             return Passed { index, rows };
         }
         index += BLOCK;
         rows += n;
-        block += 1;
     }
     Passed { index, rows }
 }
@@ -40,22 +38,14 @@ pub fn first_candidate(position: u64) -> usize
 {
     let passed = pass_blocks(position);
     let mut buf = [0u8; 12];
-    let mut index = passed.index;
     let mut rows = passed.rows;
-    while index < COUNT {
+    for index in passed.index..COUNT {
         if rows == position {
             return index;
         }
-        let candidate = try_candidate(&mut buf, index);
-        match candidate {
-            Candidate::Row(_, _) => {
-                rows += 1;
-                index += 1;
-            }
-            Candidate::Nothing => {
-                index += 1;
-            }
+        if try_candidate(&mut buf, index).is_some() {
+            rows += 1;
         }
     }
-    index
+    COUNT
 }

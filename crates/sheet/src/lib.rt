@@ -9,7 +9,7 @@ ghost use Rattle.std.specs.Prelude.{◌≡◌, ◌≤◌, length};
 ghost use Rattle.sheet.specs.Answer.{answer, output};
 ghost use Rattle.sheet.specs.Walk.{rows_from, Fills};
 
-use crate::candidates::{COUNT, Candidate, try_candidate};
+use crate::candidates::{COUNT, try_candidate};
 use crate::first::first_candidate;
 
 // How many bytes and rows were written.
@@ -32,24 +32,17 @@ fn fill(out: &mut [u8], from: usize) -> Filled
     ensures { Fills (rows_from from) out.old out.new result.bytes result.rows }
 {
     let mut buf = [0u8; 12];
-    let mut index = from;
     let mut at = 0;
     let mut rows: u64 = 0;
-    while index < COUNT {
-        let candidate = try_candidate(&mut buf, index);
-        match candidate {
-            Candidate::Row(len, value) => {
-                if out.len() - at < sheet_rows::row_len(len, value) {
-                    return Filled { bytes: at, rows };
-                }
-                at = sheet_rows::put_row(out, at, &buf[..len], value);
-                rows += 1;
-                index += 1;
-            }
-            Candidate::Nothing => {
-                index += 1;
-            }
+    for index in from..COUNT {
+        let Some((len, value)) = try_candidate(&mut buf, index) else {
+            continue;
+        };
+        if out.len() - at < sheet_rows::row_len(len, value) {
+            return Filled { bytes: at, rows };
         }
+        at = sheet_rows::put_row(out, at, &buf[..len], value);
+        rows += 1;
     }
     Filled { bytes: at, rows }
 }

@@ -10,9 +10,7 @@ use Rattle.whole.proofs.SetsLaws.{sets_then}
 use Rattle.edge.specs.Write.{Put}
 use Rattle.grammar.specs.Plain.{Char, utf8}
 use Rattle.grammar.proofs.PlainText.{utf8_append, utf8_length}
-use Rattle.numeral.specs.declared.Field.{Field}
-use Rattle.numeral.specs.Field.{field_of}
-use Rattle.sheet_rows.specs.Rows.{order, char_at, number_of, found, row_of, row_bytes}
+use Rattle.sheet_rows.specs.Rows.{order, char_at, row_of, row_bytes}
 use Rattle.sheet_rows.proofs.RowLaws.{length_row_of}
 
 -- ---- what is put
@@ -63,7 +61,3 @@ row_put s {a} {b} {c} t v at tab {end} p q e f g =
 pub row_is : {s u : List ℕ} {at r : ℕ} (w : List Char) (v : ℕ) {t : List ℕ} → t ≡ utf8 w → Put s u at r (row_of t v) → Put s u at r (row_bytes (w, v))
 unfolding row_bytes
 row_is w v e p = rw e at p
-
--- ---- the value of a text
-pub found_field : {f : Field} (g : Field) (s : List ℕ) → f ≡ g → f ≡ field_of s → found (number_of g) ≡ found (number_of (field_of s))
-found_field g s e k = ap (λ (h : Field). found (number_of h)) (sym e ∙ k)

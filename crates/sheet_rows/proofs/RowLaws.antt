@@ -16,13 +16,14 @@ use Rattle.whole.proofs.DecimalLaws.{length_decimal_top}
 use Rattle.grammar.specs.Plain.{Char, utf8}
 use Rattle.grammar.proofs.Sixteen.{each}
 use Rattle.grammar.proofs.PlainText.{utf8_length}
-use Rattle.numeral.specs.declared.Field.TheVariants.{Number, AboveTop}
 use Rattle.numeral.specs.Numeral.{numeral_of, Valued}
 use Rattle.numeral.specs.Field.{answered, field_of}
 use Rattle.numeral.proofs.OneNumber.{numeral_of_lem}
 use Rattle.numeral.proofs.FieldLaws.{utf8_field}
 use Rattle.sheet_rows.specs.Rows.{order, rank, within_top, numeral_within, number_of, row_if, rows_of, row_of, row_bytes, rows_bytes}
 use Rattle.sheet_rows.proofs.Rising.{Rises}
+use Rattle.std.specs.Prelude.{Some, Ok, Err}
+use Rattle.numeral.specs.declared.FieldRefusal.TheVariants as FieldRefusal
 
 -- ---- the sheet's order
 
@@ -147,7 +148,7 @@ number_answered : (o : Option ℕ) → number_of (answered o) ≡ within_top o
 number_answered none = refl
 number_answered (some v) = go (leb v TOP)
   where
-    go : (b : Bool) → number_of (cond b (Number v) AboveTop) ≡ cond b (some v) none
+    go : (b : Bool) → number_of (cond b (Ok (Some v)) (Err FieldRefusal.AboveTop)) ≡ cond b (some v) none
     go true = refl
     go false = refl
 

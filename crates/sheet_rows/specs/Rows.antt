@@ -1,20 +1,17 @@
 -- Rows of a numeral, or a character, and its value (02, S-8 and S-10). Definitions only.
 --     order             the sixteen characters, in the sheet's order; char_at r: the one at place r; rank c: the place of c in it
 --     numeral_within w   the value of w, where w is a numeral of value at most TOP; number_of f: the same by the answer for a field (S-4)
---     found o           the value o as the code answers it
 --     rows_of f l        those of l that have a value by f, each with it, in their order
 --     row_of t v         the row of a text and a value; row_bytes r: of a numeral and its value; rows_bytes rs: rows, one behind the other
 --     Assumes nothing.
-use Rattle.std.specs.Prelude.{ℕ, cond, List, [], ◌∷◌, ◌++◌, leb, get_or}
+use Rattle.std.specs.Prelude.{ℕ, cond, List, [], ◌∷◌, ◌++◌, leb, get_or, Some, None, Result, Ok, Err}
 use Rattle.std.proofs.Math.Option.{Option, none, some}
 use Rattle.whole.specs.Whole.{TOP}
 use Rattle.whole.specs.Decimal.{decimal}
 use Rattle.grammar.specs.Plain.{Char, digit, ten, large, digit_value, utf8, 零, 一, 二, 三, 四, 五, 六, 七, 八, 九, 十, 百, 千, 万, 億, 兆}
-use Rattle.numeral.specs.declared.Field.{Field}
-use Rattle.numeral.specs.declared.Field.TheVariants.{Number, AboveTop, NotANumber, IllFormed, TooLong}
 use Rattle.numeral.specs.Numeral.{numeral_of}
-use Rattle.sheet_rows.specs.declared.Found.{Found}
-use Rattle.sheet_rows.specs.declared.Found.TheVariants.{Value, Nothing}
+use Rattle.std.specs.Prelude as std
+use Rattle.numeral.specs.declared.FieldRefusal.{FieldRefusal}
 
 -- "in the order 零 to 九, 十百千, 万億兆"
 abbrev pub order : List Char
@@ -44,16 +41,10 @@ within_top (some v) = cond (leb v TOP) (some v) none
 unfoldable pub numeral_within : List Char → Option ℕ
 numeral_within w = within_top (numeral_of w)
 
-abbrev pub number_of : Field → Option ℕ
-number_of (Number v) = some v
-number_of AboveTop = none
-number_of NotANumber = none
-number_of (IllFormed at) = none
-number_of (TooLong at) = none
-
-abbrev pub found : Option ℕ → Found
-found none = Nothing
-found (some v) = Value v
+abbrev pub number_of : Result (std.Option ℕ) FieldRefusal → Option ℕ
+number_of (Ok (Some v)) = some v
+number_of (Err r) = none
+number_of (Ok None) = none
 
 -- ---- rows
 module _ {A : Type 0} where

@@ -7,16 +7,8 @@ ghost use Rattle.whole.specs.Decimal.{decimal};
 ghost use Rattle.edge.specs.Write.{Put};
 ghost use Rattle.grammar.specs.Plain.{utf8};
 ghost use Rattle.numeral.specs.Field.{field_of};
-ghost use Rattle.sheet_rows.specs.Rows.{char_at, number_of, found, row_of};
-
-use numeral::Field;
-
-// What a text gives: the value of a numeral, at most TOP; or nothing.
-#[derive(Clone, Copy)]
-pub enum Found {
-    Value(u64),
-    Nothing,
-}
+ghost use Rattle.numeral.specs.Walk.{valued};
+ghost use Rattle.sheet_rows.specs.Rows.{char_at, number_of, row_of};
 
 // Puts the character of a rank: the sixteen have three bytes each.
 pub fn put_char(buf: &mut [u8], at: usize, rank: usize) -> usize
@@ -32,17 +24,10 @@ pub fn put_char(buf: &mut [u8], at: usize, rank: usize) -> usize
 }
 
 // The value of a text, where it is a numeral of value at most TOP.
-pub fn value_within(line: &[u8]) -> Found
-    ensures { result ≡ found (number_of (field_of line.now)) }
+pub fn value_within(line: &[u8]) -> Option<u64>
+    ensures { result ≡ valued (number_of (field_of line.now)) }
 {
-    let field = numeral::read::one_number(line);
-    match field {
-        Field::Number(v) => Found::Value(v),
-        Field::AboveTop => Found::Nothing,
-        Field::NotANumber => Found::Nothing,
-        Field::IllFormed(_) => Found::Nothing,
-        Field::TooLong(_) => Found::Nothing,
-    }
+    numeral::read::one_number(line).unwrap_or(None)
 }
 
 // How long the row of a text of so many bytes is.

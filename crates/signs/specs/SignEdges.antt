@@ -2,7 +2,7 @@
 --     Signs line t x c ms ..      the lattice is the one before with the edges that the signs ms give before the code's edge x, and what is behind it is as it was
 --     Begins s r t                s begins with the r bytes t
 --     Assumes nothing.
-use Rattle.std.specs.Prelude.{ℕ, ◌≤◌, ◌≡◌, List, [], ◌∷◌, ◌++◌, length, take, drop}
+use Rattle.std.specs.Prelude.{ℕ, ◌≤◌, ◌≡◌, List, length, take}
 use Rattle.text.specs.Text.{chars}
 use Rattle.table.specs.Table.{Text}
 use Rattle.edge.specs.Edge.{Edge}

@@ -3,8 +3,6 @@ ghost use Rattle.std.specs.Prelude.{◌≡◌, true, List, ◌∷◌, [], ◌++�
 ghost use Rattle.text.specs.Text.{chars, well_formed};
 ghost use Rattle.text.specs.Line.{max_chars};
 ghost use Rattle.table.specs.Layout.{list_at, max_string};
-ghost use Rattle.fields.specs.Part.{part_of};
-ghost use Rattle.table.specs.Answers.{Within};
 ghost use Rattle.edge.specs.Edge.{Edge};
 ghost use Rattle.lattice.specs.Lattice.{add};
 ghost use Rattle.lattice.specs.Kept.{Holds, SameBehind};
@@ -18,11 +16,8 @@ ghost use Rattle.pass_edge.specs.Adding.{Addable};
 ghost use Rattle.markers.specs.Marks.{Formed};
 ghost use Rattle.signs.specs.SignEdges.{Signs, Begins};
 
-use fields::Part;
 use lattice::Lattice;
-use markers::Sign;
 use pass_list::record::PassEdge;
-use table::layout::TextAt;
 use text::Place;
 use text::check::PLACES;
 
@@ -91,17 +86,14 @@ fn add_sign(
     table: &[u8],
     edge: PassEdge,
     sign: u8,
-    marker: Part,
+    text: &[u8],
 ) -> Lattice
-    requires { Addable work.old lattice line.now offs.now table.now edge × Within table.now marker
-        × (well_formed (part_of table.now marker) ≡ true) }
-    ensures { Signs line.now table.now edge sign (part_of table.now marker ∷ [])
-        work.old lattice work.new result }
+    requires { Addable work.old lattice line.now offs.now table.now edge
+        × (well_formed text.now ≡ true) }
+    ensures { Signs line.now table.now edge sign (text.now ∷ []) work.old lattice work.new result }
 {
-    let from = marker.at.0;
-    let to = from + marker.len;
-    match markers::sign_before(line, offs, edge.start, &table[from..to]) {
-        Sign::Before(size) => add_signed(
+    match markers::sign_before(line, offs, edge.start, text) {
+        Some(size) => add_signed(
             work,
             lattice,
             line,
@@ -111,7 +103,7 @@ fn add_sign(
             sign,
             Place(edge.start.0 - size),
         ),
-        Sign::NoSign => lattice,
+        None => lattice,
     }
 }
 
@@ -131,23 +123,9 @@ pub fn add_signs_of(
     ensures { Signs line.now table.now edge sign (list_at table.now list)
         work.old lattice work.new result }
 {
-    if table.len() <= list {
-        return lattice;
-    }
     let mut grown = lattice;
-    let mut next = list + 1;
-    let mut left = table[list] as usize;
-    while 0 < left {
-        match table::layout::text_at(table, next) {
-            TextAt::Text(m, behind) => {
-                grown = add_sign(work, grown, line, offs, table, edge, sign, m);
-                next = behind;
-                left -= 1;
-            }
-            TextAt::Fault => {
-                return grown;
-            }
-        }
+    for text in markers::texts::texts_of(table, list) {
+        grown = add_sign(work, grown, line, offs, table, edge, sign, text);
     }
     grown
 }

@@ -43,23 +43,20 @@ fn add_edge_signs(
         (signs_of (table_of table.now shape) (chars line.now)
         (edge_of (chars line.now) table.now i)))) }
 {
-    if edge.start.0 == 0 {
+    if edge.start.0 == 0 || !edge.num.has_value {
         return lattice;
     }
-    if edge.num.has_value {
-        let minus = crate::edges::add_signs_of(
-            work,
-            lattice,
-            line,
-            offs,
-            table,
-            shape.minus,
-            edge,
-            b'-',
-        );
-        return crate::edges::add_signs_of(work, minus, line, offs, table, shape.plus, edge, b'+');
-    }
-    lattice
+    let minus = crate::edges::add_signs_of(
+        work,
+        lattice,
+        line,
+        offs,
+        table,
+        shape.minus,
+        edge,
+        b'-',
+    );
+    crate::edges::add_signs_of(work, minus, line, offs, table, shape.plus, edge, b'+')
 }
 
 // G6: the edges for the signs before the stored edges of the pass list after G4.
@@ -85,11 +82,9 @@ pub fn add_signs(
 {
     let list = lattice::END;
     let mut grown = lattice;
-    let mut i = 0;
-    while i < stored {
+    for i in 0..stored {
         let x = pass_list::read::read_edge(&work[list..], i * SIZE);
         grown = add_edge_signs(work, grown, line, offs, table, shape, x);
-        i += 1;
     }
     grown
 }

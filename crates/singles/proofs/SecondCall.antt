@@ -16,7 +16,6 @@ use Rattle.passes.specs.Passes.{fifth_list, above_at}
 use Rattle.edge.specs.Edge.{Edge, listing_bytes}
 use Rattle.edge.specs.Layout.{listed}
 use Rattle.edge.specs.Check.{check_listing}
-use Rattle.edge.specs.declared.ListingCheck.TheVariants.{Edges}
 use Rattle.lattice.specs.Lattice.{overfull}
 use Rattle.numbers.specs.Call.{Answer, listing, refused, finished, unless_above, lattice_by, lattice_of, after_checks, add_numbers, add_numbers_without_singles}
 use Rattle.numbers.specs.Singles.{silence}
@@ -26,6 +25,7 @@ use Rattle.singles.proofs.SilenceLaws.{length_silenced}
 use Rattle.singles.proofs.GivenLaws.{checked_given}
 use Rattle.singles.proofs.SecondLattice.{those, second_lattice}
 use Rattle.singles.proofs.ByPlace.{second_by_place}
+use Rattle.std.specs.Prelude.{Ok}
 
 -- The second call is refused exactly where the first is, with the same number and place. A listing stands exactly where the first's does, of the same length,
 -- and its edges are the first's in their order: those one place long, at the place of an edge of G4's list that may not stand, are inactive
@@ -41,7 +41,7 @@ same_length t w given = ap (λ (es : List Edge). length (listing_bytes es)) (sec
 same_count : (t : Table) (w : List ℕ) (given : List Edge) → length (lattice_by true t w given) ≡ length (lattice_of t w given)
 same_count t w given = ap length (second_lattice t w given) ∙ length-map (lattice_of t w given) (silence (those t w given))
 
-both_finished : (line table given : List ℕ) (out : ℕ) (t : Table) (at n : ℕ) → read_table table ≡ Fine t at → check_listing true (length (chars line)) given ≡ Edges n
+both_finished : (line table given : List ℕ) (out : ℕ) (t : Table) (at n : ℕ) → read_table table ≡ Fine t at → check_listing true (length (chars line)) given ≡ Ok n
     → Beside line table given (finished out (lattice_of t (chars line) (listed given))) (finished out (lattice_by true t (chars line) (listed given)))
 unfolding overfull
 both_finished line table given out t at n e c =
@@ -54,7 +54,7 @@ both_finished line table given out t at n e c =
     go true = refusals
     go false = listings t at _ _ e refl (second_by_place t (chars line) (listed given) (checked_given (length (chars line)) given n c)) (same_length t (chars line) (listed given))
 
-both_stages : (line table given : List ℕ) (out : ℕ) (t : Table) (at n : ℕ) → read_table table ≡ Fine t at → check_listing true (length (chars line)) given ≡ Edges n
+both_stages : (line table given : List ℕ) (out : ℕ) (t : Table) (at n : ℕ) → read_table table ≡ Fine t at → check_listing true (length (chars line)) given ≡ Ok n
     → Beside line table given (after_checks false t (chars line) out (listed given)) (after_checks true t (chars line) out (listed given))
 unfolding after_checks
 both_stages line table given out t at n e c = go (above_at t (chars line))

@@ -1,7 +1,7 @@
 -- 02, S-12: "The first call stays as it is; the second equals it but for the active bits of those edges", of the lattices. `proofs/ByPlace.antt` says which edges
 -- those are, `proofs/SecondCall.antt` says it of the answers.
 use mathlib.Core.Path.{◌≡◌, refl, sym, ap, ◌∙◌}
-use mathlib.Core.Bool.{true, false}
+use mathlib.Core.Bool.{true}
 use mathlib.Core.List.{List, map}
 use Prim.Native.Nat.{ℕ}
 use lib.ListN.{get_or, get_or-map}

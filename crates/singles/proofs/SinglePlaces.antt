@@ -17,7 +17,6 @@ use Rattle.passes.specs.NumEdge.{NumEdge, has}
 use Rattle.passes.specs.Characters.{first_list}
 use Rattle.passes.specs.Passes.{fifth_list, joined_edges}
 use Rattle.edge.specs.Edge.{Edge, Numeric}
-use Rattle.edge.specs.Write.{regular}
 use Rattle.lattice.specs.Lattice.{same_key, inactive, turn_off}
 use Rattle.paths.specs.Best.{Best, right_neighbor, left_neighbor}
 use Rattle.paths.proofs.BestLaws.{OfBest}

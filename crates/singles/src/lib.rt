@@ -87,11 +87,10 @@ fn mark_all_barred(
         (stored_list_at (drop END work.now) 0 count)) place }
 {
     let list = lattice::END;
-    let mut i = 0;
-    while i < count {
+    // Kept beside `signs::add_signs`: they share these two lines, and a closure there would write the work space that is read here.
+    for i in 0..count {
         let edge = pass_list::read::read_edge(&work[list..], i * SIZE);
         mark_barred(line, offs, edge, marks);
-        i += 1;
     }
 }
 
@@ -132,11 +131,8 @@ fn silence_all(work: &mut [u8], lattice: Lattice, marks: &[bool; PLACES])
         → Holds work.old lattice es → Legals n es
         → Holds work.new lattice (silenced_by marks.now es)) }
 {
-    let count = lattice.count;
-    let mut i = 0;
-    while i < count {
+    for i in 0..lattice.count {
         silence_one(work, lattice, i, marks);
-        i += 1;
     }
 }
 

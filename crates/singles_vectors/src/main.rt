@@ -4,48 +4,37 @@
 // tools/model/singles.py makes both files.
 #![tactic(auto)]
 
-use answers::Answer;
+use answers::Refusal;
 use call::WORK_SIZE;
-use edge::bits;
+use edge::{EdgeView, bits};
 use lattice::MOST_BYTES;
-use vectors::ROWS;
-use walker::steps::Here;
 
-fn bit_word(map: u16) {
-    if !edge::bit(map, bits::NUMERIC) {
-        io::write_all(1, b"=");
-    } else if edge::bit(map, bits::ACTIVE) {
-        io::write_all(1, b"+");
-    } else {
-        io::write_all(1, b".");
-    }
-}
-
-fn show_edge(here: Here) {
+fn show_edge(here: Option<EdgeView>) {
     match here {
-        Here::Edge(e) => {
+        Some(e) => {
             vectors::say(b" ", e.start.0 as u64);
             vectors::say(b"-", e.end.0 as u64);
-            bit_word(e.map);
+            vectors::edge_mark(
+                edge::bit(e.map, bits::NUMERIC),
+                edge::bit(e.map, bits::ACTIVE),
+            );
         }
-        Here::End => {
+        None => {
             io::write_all(1, b" end");
         }
     }
 }
 
 fn show_edges(listing: &[u8], count: usize) {
-    let mut i = 0;
-    while i < count {
+    for i in 0..count {
         show_edge(walker::nth(listing, i));
-        i += 1;
     }
 }
 
-fn show(answer: Answer, out: &[u8; MOST_BYTES]) {
+fn show(answer: Result<usize, Refusal>, out: &[u8; MOST_BYTES]) {
     match answer {
-        Answer::Listing(_) => show_edges(out, fields::u16_at(out, 0) as usize),
-        Answer::Refused(r) => {
+        Ok(_) => show_edges(out, fields::u16_at(out, 0) as usize),
+        Err(r) => {
             let told = call::refusal_told(r);
             vectors::say(b" refused ", told.status as u64);
             vectors::say(b" ", told.at);
@@ -102,11 +91,6 @@ fn report_short() {
 }
 
 fn main() {
-    let mut input = io::large_buffer();
-    let mut ends = [0usize; ROWS];
-    let rows = vectors::read_rows(&mut input, &mut ends);
-    for i in 0..rows {
-        answer(vectors::row(&input, &ends, i));
-    }
+    vectors::each_row(|row| answer(row));
     report_short();
 }

@@ -6,21 +6,20 @@ use mathlib.Core.List.{List, [], ◌∷◌}
 use Prim.Native.Nat.{ℕ, zero, suc, ◌+◌, ◌-◌, ◌≤◌, ◌<◌}
 use native.Mathlib.Omega.{arith}
 use lib.ListN.{length, get_or}
-use lib.Dec.{eqb}
 use borrow.Author.Tests.{eq-eqb, ne_eqb}
 use Rattle.fields.specs.Fields.{le_at}
-use Rattle.table.specs.Table.{Text, Record, Table}
+use Rattle.table.specs.Table.{Text, Record}
 use Rattle.table.specs.Layout.{Field, Is, Fault, on_field, number, text, read_record, many_at, texts_at, records_at, list_at}
-use Rattle.table.specs.Check.{Checked, Fine, Refused, then_item, item, legal_mark, legal_record, read_texts, read_list, read_records, read_table}
-use Rattle.table.specs.Answers.{end_of, table_of}
-use Rattle.table.specs.declared.shape.ItemsCheck.{ItemsCheck}
-use Rattle.table.specs.declared.shape.ItemsCheck.TheVariants as ItemsCheck
-use Rattle.table.specs.declared.shape.Shape.{Shape}
+use Rattle.table.specs.Check.{Checked, Fine, Refused, then_item, item, legal_mark, legal_record, read_texts, read_list, read_records, read_table, bad_layout, bad_content, refusal_at}
+use Rattle.table.specs.Answers.{end_of}
 use Rattle.table.proofs.LayoutLaws.{number_cut, number_is, byte_is}
+use Rattle.std.specs.Prelude.{Result, Ok, Err}
+use Rattle.table.specs.declared.shape.Cause.{Cause}
+use Rattle.table.specs.declared.shape.TableRefusal.{TableRefusal}
 
 -- ---- one item
 module _ {A : Type 0} (at : ℕ) (legal : A → Bool) where
-  pub item_fault : {f : Field A} → f ≡ Fault → Refused 4 at ≡ item at legal f
+  pub item_fault : {f : Field A} → f ≡ Fault → Refused bad_layout at ≡ item at legal f
   unfolding item
   item_fault e = rw e
 
@@ -29,7 +28,7 @@ module _ {A : Type 0} (at : ℕ) (legal : A → Bool) where
     unfolding item
     item_legal h = rw (e, h)
 
-    pub item_illegal : legal a ≡ false → Refused 5 at ≡ item at legal f
+    pub item_illegal : legal a ≡ false → Refused bad_content at ≡ item at legal f
     unfolding item
     item_illegal h = rw (e, h)
 
@@ -38,32 +37,32 @@ end_same : {A B : Type 0} (f : A → B) (x : Checked A) → end_of (then_item x 
 end_same f (Fine a next) = refl
 end_same f (Refused number at) = refl
 
-end_then : {A : Type 0} (x : Checked A) {next : ℕ} (rest : ℕ → Checked (List A)) → end_of x ≡ ItemsCheck.End next
+end_then : {A : Type 0} (x : Checked A) {next : ℕ} (rest : ℕ → Checked (List A)) → end_of x ≡ Ok next
     → end_of (then_item x (λ a at. then_item (rest at) (λ l end. Fine (a ∷ l) end))) ≡ end_of (rest next)
 end_then (Fine a m) {next} rest e = let q : m ≡ next = cc in rw q (end_same (λ l. a ∷ l) (rest next))
 end_then (Refused number at) rest e = let z : ◌≡◌ {A = ℕ} 0 1 = cc in absurd (omega arith)
 
-end_stop : {A B : Type 0} (x : Checked A) {k o : ℕ} (rest : A → ℕ → Checked B) → end_of x ≡ ItemsCheck.Refused k o → end_of (then_item x rest) ≡ ItemsCheck.Refused k o
+end_stop : {A B : Type 0} (x : Checked A) {r : TableRefusal} (rest : A → ℕ → Checked B) → end_of x ≡ Err r → end_of (then_item x rest) ≡ Err r
 end_stop (Fine a m) rest e = let z : ◌≡◌ {A = ℕ} 0 1 = cc in absurd (omega arith)
 end_stop (Refused number at) rest e = e
 
 module _ (s : List ℕ) (at : ℕ) where
-  pub texts_none : (left : ℕ) → left ≤ 0 → ItemsCheck.End at ≡ end_of (read_texts left s at)
+  pub texts_none : (left : ℕ) → left ≤ 0 → Ok at ≡ end_of (read_texts left s at)
   unfolding read_texts
   texts_none zero h = refl
   texts_none (suc n) h = absurd (omega arith)
 
-  pub texts_turn : (left : ℕ) {next : ℕ} → 0 < left → end_of (item at legal_mark (text s at)) ≡ ItemsCheck.End next → end_of (read_texts left s at) ≡ end_of (read_texts (left - 1) s next)
+  -- the string after the first i of n
+  pub texts_turn : (n i : ℕ) {next : ℕ} → i < n → Ok next ≡ end_of (item at legal_mark (text s at)) → end_of (read_texts (n - i) s at) ≡ end_of (read_texts (n - (i + 1)) s next)
   unfolding read_texts
-  texts_turn zero h e = absurd (omega arith)
-  texts_turn (suc n) h e = let m : suc n - 1 ≡ n = omega arith in rw m (end_then (item at legal_mark (text s at)) (λ next. read_texts n s next) e)
+  texts_turn n i h e = let m : n - i ≡ suc (n - (i + 1)) = omega arith in rw m (end_then (item at legal_mark (text s at)) (λ next. read_texts (n - (i + 1)) s next) (sym e))
 
-  pub texts_stop : (left : ℕ) {k o : ℕ} → 0 < left → end_of (item at legal_mark (text s at)) ≡ ItemsCheck.Refused k o → ItemsCheck.Refused k o ≡ end_of (read_texts left s at)
+  pub texts_stop : (left : ℕ) {r : TableRefusal} → 0 < left → Err r ≡ end_of (item at legal_mark (text s at)) → Err r ≡ end_of (read_texts left s at)
   unfolding read_texts
   texts_stop zero h e = absurd (omega arith)
-  texts_stop (suc n) h e = sym (end_stop (item at legal_mark (text s at)) _ e)
+  texts_stop (suc n) h e = sym (end_stop (item at legal_mark (text s at)) _ (sym e))
 
-  pub list_missing : length s ≤ at → ItemsCheck.Refused 4 at ≡ end_of (read_list s at)
+  pub list_missing : length s ≤ at → Err (refusal_at bad_layout at) ≡ end_of (read_list s at)
   unfolding read_list item
   list_missing h = rw (number_cut s at 1 (omega arith))
 
@@ -72,7 +71,7 @@ module _ (s : List ℕ) (at : ℕ) where
   list_is h = rw (byte_is s at h)
 
 module _ (s : List ℕ) (at least : ℕ) where
-  pub records_none : (left : ℕ) → left ≤ 0 → ItemsCheck.End at ≡ end_of (read_records left least s at)
+  pub records_none : (left : ℕ) → left ≤ 0 → Ok at ≡ end_of (read_records left least s at)
   unfolding read_records
   records_none zero h = refl
   records_none (suc n) h = absurd (omega arith)
@@ -83,15 +82,15 @@ module _ (s : List ℕ) (at least : ℕ) where
   records_turn zero h e = absurd (omega arith)
   records_turn (suc n) {r} {next} h e = let m : suc n - 1 ≡ n = omega arith in rw (m, e) (end_same (λ l. r ∷ l) (read_records n (r.code_point + 1) s next))
 
-  pub records_stop : (left : ℕ) {k o : ℕ} → 0 < left → item at (legal_record least) (read_record s at) ≡ Refused k o → ItemsCheck.Refused k o ≡ end_of (read_records left least s at)
+  pub records_stop : (left : ℕ) {k : Cause} {o : ℕ} → 0 < left → item at (legal_record least) (read_record s at) ≡ Refused k o → Err (refusal_at k o) ≡ end_of (read_records left least s at)
   unfolding read_records
   records_stop zero h e = absurd (omega arith)
   records_stop (suc n) h e = rw e
 
 -- ---- items that end are the items that stand there
-abbrev with_value : {A : Type 0} → A → ItemsCheck → Checked A
-with_value a (ItemsCheck.End next) = Fine a next
-with_value a (ItemsCheck.Refused number at) = Refused number at
+abbrev with_value : {A : Type 0} → A → Result ℕ TableRefusal → Checked A
+with_value a (Ok next) = Fine a next
+with_value a (Err r) = Refused r.cause r.at.0
 
 cons_value : {A : Type 0} (a : A) (l : List A) (x : Checked (List A)) → x ≡ with_value l (end_of x)
     → then_item x (λ m end. Fine (a ∷ m) end) ≡ with_value (a ∷ l) (end_of (then_item x (λ m end. Fine (a ∷ m) end)))
@@ -108,7 +107,7 @@ module _ {A : Type 0} (at : ℕ) (legal : A → Bool) (rest : A → ℕ → Chec
   one_value Fault = refl
   one_value (Is a next) = go (legal a)
     where
-      go : (b : Bool) → both (cond b (Fine a next) (Refused 5 at)) ≡ with_value (a ∷ values next) (end_of (both (cond b (Fine a next) (Refused 5 at))))
+      go : (b : Bool) → both (cond b (Fine a next) (Refused bad_content at)) ≡ with_value (a ∷ values next) (end_of (both (cond b (Fine a next) (Refused bad_content at))))
       go true = cons_value a (values next) (rest a next) (h a next)
       go false = refl
 
@@ -132,50 +131,52 @@ list_value s at = go (number 1 s at)
     go (Is n next) = texts_value n s next
     go Fault = refl
 
-pub list_ends : (s : List ℕ) (at : ℕ) {x : ItemsCheck} {next : ℕ} → x ≡ end_of (read_list s at) → x ≡ ItemsCheck.End next → read_list s at ≡ Fine (list_at s at) next
-list_ends s at e t = list_value s at ∙ ap (with_value (list_at s at)) (sym e ∙ t)
+module _ (s : List ℕ) (at : ℕ) where
+  pub list_ends : {next : ℕ} → Ok next ≡ end_of (read_list s at) → read_list s at ≡ Fine (list_at s at) next
+  list_ends e = list_value s at ∙ ap (with_value (list_at s at)) (sym e)
 
-pub list_refused : (s : List ℕ) (at : ℕ) {x : ItemsCheck} {k o : ℕ} → x ≡ end_of (read_list s at) → x ≡ ItemsCheck.Refused k o → read_list s at ≡ Refused k o
-list_refused s at e t = list_value s at ∙ ap (with_value (list_at s at)) (sym e ∙ t)
+  pub list_refused : {r : TableRefusal} → Err r ≡ end_of (read_list s at) → read_list s at ≡ Refused r.cause r.at.0
+  list_refused e = list_value s at ∙ ap (with_value (list_at s at)) (sym e)
 
-pub records_end : (n : ℕ) (s : List ℕ) (at : ℕ) {x : ItemsCheck} {next : ℕ} → x ≡ end_of (read_records n 0 s at) → x ≡ ItemsCheck.End next → read_records n 0 s at ≡ Fine (records_at n s at) next
-records_end n s at e t = records_value n 0 s at ∙ ap (with_value (records_at n s at)) (sym e ∙ t)
+module _ (n : ℕ) (s : List ℕ) (at : ℕ) where
+  pub records_end : {next : ℕ} → Ok next ≡ end_of (read_records n 0 s at) → read_records n 0 s at ≡ Fine (records_at n s at) next
+  records_end e = records_value n 0 s at ∙ ap (with_value (records_at n s at)) (sym e)
 
-pub records_refused : (n : ℕ) (s : List ℕ) (at : ℕ) {x : ItemsCheck} {k o : ℕ} → x ≡ end_of (read_records n 0 s at) → x ≡ ItemsCheck.Refused k o → read_records n 0 s at ≡ Refused k o
-records_refused n s at e t = records_value n 0 s at ∙ ap (with_value (records_at n s at)) (sym e ∙ t)
+  pub records_refused : {r : TableRefusal} → Err r ≡ end_of (read_records n 0 s at) → read_records n 0 s at ≡ Refused r.cause r.at.0
+  records_refused e = records_value n 0 s at ∙ ap (with_value (records_at n s at)) (sym e)
 
 -- ---- the table
-pub table_short : (s : List ℕ) → length s < 2 → Refused 4 0 ≡ read_table s
+pub table_short : (s : List ℕ) → length s < 2 → Refused bad_layout 0 ≡ read_table s
 unfolding read_table item
 table_short s h = rw (number_cut s 0 2 h)
 
 module _ (s : List ℕ) (h : 2 ≤ length s) {count : ℕ} (n : count ≡ le_at s 0 2) where
-  pub first_refused : {k o : ℕ} → read_list s 2 ≡ Refused k o → Refused k o ≡ read_table s
+  pub first_refused : {k : Cause} {o : ℕ} → read_list s 2 ≡ Refused k o → Refused k o ≡ read_table s
   unfolding read_table item
   first_refused e = rw (number_is s 0 2 h, e)
 
   module _ {p : List Text} {a : ℕ} (e1 : read_list s 2 ≡ Fine p a) where
-    pub second_refused : {k o : ℕ} → read_list s a ≡ Refused k o → Refused k o ≡ read_table s
+    pub second_refused : {k : Cause} {o : ℕ} → read_list s a ≡ Refused k o → Refused k o ≡ read_table s
     unfolding read_table item
     second_refused e = rw (number_is s 0 2 h, e1, e)
 
     module _ {f : List Text} {b : ℕ} (e2 : read_list s a ≡ Fine f b) where
-      pub third_refused : {k o : ℕ} → read_list s b ≡ Refused k o → Refused k o ≡ read_table s
+      pub third_refused : {k : Cause} {o : ℕ} → read_list s b ≡ Refused k o → Refused k o ≡ read_table s
       unfolding read_table item
       third_refused e = rw (number_is s 0 2 h, e1, e2, e)
 
       module _ {u : List Text} {c : ℕ} (e3 : read_list s b ≡ Fine u c) where
-        pub fourth_refused : {k o : ℕ} → read_list s c ≡ Refused k o → Refused k o ≡ read_table s
+        pub fourth_refused : {k : Cause} {o : ℕ} → read_list s c ≡ Refused k o → Refused k o ≡ read_table s
         unfolding read_table item
         fourth_refused e = rw (number_is s 0 2 h, e1, e2, e3, e)
 
         module _ {m : List Text} {d : ℕ} (e4 : read_list s c ≡ Fine m d) where
-          pub record_refused : {k o : ℕ} → read_records count 0 s d ≡ Refused k o → Refused k o ≡ read_table s
+          pub record_refused : {k : Cause} {o : ℕ} → read_records count 0 s d ≡ Refused k o → Refused k o ≡ read_table s
           unfolding read_table item
           record_refused e = rw (number_is s 0 2 h, ← n, e1, e2, e3, e4, e)
 
           module _ {rs : List Record} {end : ℕ} (e5 : read_records count 0 s d ≡ Fine rs end) where
-            pub table_left : (end ≡ length s → ⊥) → Refused 4 end ≡ read_table s
+            pub table_left : (end ≡ length s → ⊥) → Refused bad_layout end ≡ read_table s
             unfolding read_table item
             table_left l = rw (number_is s 0 2 h, ← n, e1, e2, e3, e4, e5) (simp (ne_eqb end (length s) l))
 

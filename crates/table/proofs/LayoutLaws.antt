@@ -20,8 +20,8 @@ use Rattle.table.specs.Table.{Text, Record}
 use Rattle.table.specs.Layout.{Field, Is, Fault, then_field, map_field, bit, number, text_of, text, fraction, optional, Numbers, read_numbers, record_with, read_fields, read_record, many_at, texts_at, list_at}
 use Rattle.table.specs.Answers.{Within, TextWithin, optionally, text_field, opt_text, number_if, numbers_of}
 use Rattle.fields.specs.declared.Part.{Part}
-use Rattle.table.specs.declared.layout.TextAt.{TextAt}
-use Rattle.table.specs.declared.layout.TextAt.TheVariants as TextAt
+use Rattle.std.specs.Prelude.{Some, None}
+use Rattle.std.specs.Prelude as std
 
 -- ---- a field that was read, and what is behind it
 pub no_fault : {A P : Type 0} {f : Field A} {a : A} {next : ℕ} → f ≡ Fault → f ≡ Is a next → P
@@ -86,12 +86,12 @@ pub optional_there : {A : Type 0} (p : List ℕ → ℕ → Field A) (s : List �
 unfolding optional
 optional_there p s at e = rw e
 
-pub opt_text_there : (s : List ℕ) (at : ℕ) (r : TextAt) {b : Bool} → b ≡ true → text_field s r ≡ text s at → opt_text b s r ≡ optional b text s at
+pub opt_text_there : (s : List ℕ) (at : ℕ) (r : std.Option (Part × ℕ)) {b : Bool} → b ≡ true → text_field s r ≡ text s at → opt_text b s r ≡ optional b text s at
 opt_text_there s at r {b} e f = there r ∙ ap (map_field some) f ∙ sym (optional_there text s at e)
   where
-    there : (r : TextAt) → opt_text b s r ≡ map_field some (text_field s r)
-    there (TextAt.Text p next) = rw e
-    there TextAt.Fault = refl
+    there : (r : std.Option (Part × ℕ)) → opt_text b s r ≡ map_field some (text_field s r)
+    there (Some (p, next)) = rw e
+    there None = refl
 
 pub opt_absent : {A : Type 0} (p : List ℕ → ℕ → Field A) (s : List ℕ) (at : ℕ) (a : A) {b : Bool} → b ≡ false → Is (optionally b a) at ≡ optional b p s at
 unfolding optional
@@ -289,7 +289,7 @@ told f e t = sym e ∙ ap f t
 pub ends_at : {A : Type 0} (s : List ℕ) {f : Field A} {a : A} {next : ℕ} → Ends s f → f ≡ Is a next → next ≤ length s
 ends_at s h e = subst (Ends s) e h
 
-pub within_told : (s : List ℕ) {r : TextAt} {p : Part} {next : ℕ} → TextWithin s r → r ≡ TextAt.Text p next → Within s p
+pub within_told : (s : List ℕ) {r : std.Option (Part × ℕ)} {p : Part} {next : ℕ} → TextWithin s r → r ≡ Some (p, next) → Within s p
 within_told s h e = subst (TextWithin s) e h
 
 -- ---- items of one kind one after the other, strings or records: for callers that walk over them

@@ -3,15 +3,15 @@
 use mathlib.Core.Path.{◌≡◌, refl, sym, ap, ◌∙◌}
 use mathlib.Core.Bool.{Bool, true, false, cond, ◌&&◌}
 use mathlib.Core.List.{List, [], ◌∷◌}
-use mathlib.Core.Option.{Option, none, some}
-use Prim.Native.Nat.{ℕ, zero, suc, ◌+◌, ◌-◌, ◌≤◌, ◌<◌}
+use mathlib.Core.Option.{none, some}
+use Prim.Native.Nat.{ℕ, zero, suc, ◌+◌, ◌≤◌, ◌<◌}
 use native.Mathlib.Omega.{arith}
 use lib.ListN.{length}
 use lib.Dec.{leb, ltb, eqb}
-use borrow.Author.Tests.{le-leb, lt-ltb, le-ltb, ltb-true, ltb-false, leb-true, ne_eqb, eq-eqb}
+use borrow.Author.Tests.{le-leb, le-ltb, ltb-true, ltb-false, leb-true, ne_eqb}
 use Rattle.table.specs.Table.{Text, Record, Table, find}
-use Rattle.table.specs.Layout.{Field, Is, Fault, number, read_record, records_at}
-use Rattle.table.specs.Check.{Checked, Fine, Refused, then_item, item, legal_record, legal_code_point, rising, read_list, read_records, read_table}
+use Rattle.table.specs.Layout.{Field, Is, Fault, number, read_record}
+use Rattle.table.specs.Check.{Checked, Fine, Refused, then_item, item, legal_record, legal_code_point, rising, read_list, read_records, read_table, bad_layout, bad_content}
 
 -- ---- the records from the first on whose code point is not below c
 unfoldable pub drop_below : ℕ → List Record → List Record
@@ -111,7 +111,7 @@ unfolding item
 item_fine at legal Fault e = let z : ◌≡◌ {A = ℕ} 0 1 = cc in absurd (omega arith)
 item_fine at legal (Is b m) {a} {next} e = go (legal b) refl e
   where
-    go : (t : Bool) → legal b ≡ t → cond t (Fine b m) (Refused 5 at) ≡ Fine a next → (Is b m ≡ Is a next) × (legal a ≡ true)
+    go : (t : Bool) → legal b ≡ t → cond t (Fine b m) (Refused bad_content at) ≡ Fine a next → (Is b m ≡ Is a next) × (legal a ≡ true)
     go true t f = let q : b ≡ a = cc in (cc, ap legal (sym q) ∙ t)
     go false t f = let z : ◌≡◌ {A = ℕ} 0 1 = cc in absurd (omega arith)
 
@@ -151,7 +151,7 @@ table_rises s {t} {end} e =
     go p.value f.value u.value m.value rs.value rs.next (eqb rs.next (length s)) rs.rest (records_rise count.value 0 s m.next rs.first)
   where
     go : (p f u m : List Text) (rs : List Record) (k : ℕ) (b : Bool)
-        → cond b (Fine (record { percentage_markers = p; fraction_connectors = f; plus_signs = u; minus_signs = m; records = rs }) k) (Refused 4 k) ≡ Fine t end
+        → cond b (Fine (record { percentage_markers = p; fraction_connectors = f; plus_signs = u; minus_signs = m; records = rs }) k) (Refused bad_layout k) ≡ Fine t end
         → rising 0 rs ≡ true → rising 0 t.records ≡ true
     go p f u m rs k true g h = let q : record { percentage_markers = p; fraction_connectors = f; plus_signs = u; minus_signs = m; records = rs } ≡ t = cc in rw (← q) h
     go p f u m rs k false g h = let z : ◌≡◌ {A = ℕ} 0 1 = cc in absurd (omega arith)

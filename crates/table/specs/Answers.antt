@@ -4,7 +4,7 @@
 --     text_field, opt_text   an answer as a field (`specs/Layout.antt`)
 --     end_of             checked items as an answer that keeps no values; table_answer: an answer as a checked table
 --     Within, Inside    a part, the parts of a NumProp lie within the bytes
-use Rattle.std.specs.Prelude.{ℕ, ◌+◌, ◌≤◌, Bool, true, false, cond, List, [], ◌∷◌, length}
+use Rattle.std.specs.Prelude.{ℕ, ◌+◌, ◌≤◌, Bool, true, false, cond, List, [], ◌∷◌, length, Some, None, Result, Ok, Err}
 use Rattle.std.proofs.Math.Option.{Option, none, some}
 use Rattle.fields.specs.Fields.{le_at}
 use Rattle.fields.specs.Part.{part_of}
@@ -14,27 +14,23 @@ use Rattle.table.specs.Layout.{Field, Is, bit, texts_at, records_at, list_at}
 use Rattle.table.specs.Check.{Checked, Fine}
 use Rattle.table.specs.Check as Check
 use Rattle.fields.specs.declared.Part.{Part}
-use Rattle.table.specs.declared.layout.TextAt.{TextAt}
-use Rattle.table.specs.declared.layout.TextAt.TheVariants as TextAt
 use Rattle.table.specs.declared.layout.Numbers.{Numbers}
 use Rattle.table.specs.declared.layout.NumProp.{NumProp}
-use Rattle.table.specs.declared.shape.ItemsCheck.{ItemsCheck}
-use Rattle.table.specs.declared.shape.ItemsCheck.TheVariants as ItemsCheck
 use Rattle.table.specs.declared.shape.Shape.{Shape}
-use Rattle.table.specs.declared.shape.TableCheck.{TableCheck}
-use Rattle.table.specs.declared.shape.TableCheck.TheVariants as TableCheck
+use Rattle.std.specs.Prelude as std
+use Rattle.table.specs.declared.shape.TableRefusal.{TableRefusal}
 
 abbrev pub optionally : {A : Type 0} → Bool → A → Option A
 optionally b a = cond b (some a) none
 
 -- ---- fields
-abbrev pub text_field : List ℕ → TextAt → Field Text
-text_field s (TextAt.Text p next) = Is (part_of s p) next
-text_field s TextAt.Fault = Layout.Fault
+abbrev pub text_field : List ℕ → std.Option (Part × ℕ) → Field Text
+text_field s (Some (p, next)) = Is (part_of s p) next
+text_field s None = Layout.Fault
 
-abbrev pub opt_text : Bool → List ℕ → TextAt → Field (Option Text)
-opt_text there s (TextAt.Text p next) = Is (optionally there (part_of s p)) next
-opt_text there s TextAt.Fault = Layout.Fault
+abbrev pub opt_text : Bool → List ℕ → std.Option (Part × ℕ) → Field (Option Text)
+opt_text there s (Some (p, next)) = Is (optionally there (part_of s p)) next
+opt_text there s None = Layout.Fault
 
 -- a number that is there, or 0
 abbrev pub number_if : Bool → List ℕ → ℕ → ℕ
@@ -64,14 +60,14 @@ pub record Inside (s : List ℕ) (p : NumProp) : Type 0 where
   pub rom_within : Within s p.rom
   pub script_within : Within s p.script
 
-abbrev pub TextWithin : List ℕ → TextAt → Type 0
-TextWithin s (TextAt.Text p next) = Within s p
-TextWithin s TextAt.Fault = Unit {0}
+abbrev pub TextWithin : List ℕ → std.Option (Part × ℕ) → Type 0
+TextWithin s (Some (p, next)) = Within s p
+TextWithin s None = Unit {0}
 
 -- ---- items
-abbrev pub end_of : {A : Type 0} → Checked A → ItemsCheck
-end_of (Fine a next) = ItemsCheck.End next
-end_of (Check.Refused number at) = ItemsCheck.Refused number at
+abbrev pub end_of : {A : Type 0} → Checked A → Result ℕ TableRefusal
+end_of (Fine a next) = Ok next
+end_of (Check.Refused cause at) = Err (Check.refusal_at cause at)
 
 unfoldable pub table_of : List ℕ → Shape → Table
 table_of s h = record {
@@ -82,6 +78,6 @@ table_of s h = record {
   records = records_at h.count s h.records;
 }
 
-abbrev pub table_answer : List ℕ → TableCheck → Checked Table
-table_answer s (TableCheck.Table h) = Fine (table_of s h) (length s)
-table_answer s (TableCheck.Refused number at) = Check.Refused number at.0
+abbrev pub table_answer : List ℕ → Result Shape TableRefusal → Checked Table
+table_answer s (Ok h) = Fine (table_of s h) (length s)
+table_answer s (Err r) = Check.Refused r.cause r.at.0

@@ -1,10 +1,11 @@
 -- Which bytes are a table (01, causes 4 and 5): the items in order, the first faulty one decides. Definitions only.
 --     Checked A     what checking items gives: their value with the offset behind them, or the refusal's number and offset
---     bad_layout, bad_content    the numbers of the two refusals
+--     bad_layout, bad_content, cause_number    the causes of the two refusals, and 01's number of a cause
+--     refusal_at     a refusal by its cause and offset
 --     item          one item: its layout before its content, at the offset where it begins
 --     legal_mark, legal_record   the content of a string of a list, and of a record whose code point must be at least `least`
 --     read_table s   the table whose bytes are s, or the refusal
-use Rattle.std.specs.Prelude.{ℕ, zero, suc, ◌+◌, Bool, true, false, cond, not, ◌&&◌, ◌||◌, List, [], ◌∷◌, length, leb, ltb, eqb}
+use Rattle.std.specs.Prelude.{ℕ, zero, suc, ◌+◌, Bool, true, cond, ◌&&◌, ◌||◌, List, [], ◌∷◌, length, leb, ltb, eqb}
 use Rattle.std.proofs.Math.Option.{Option, none, some}
 use Rattle.text.specs.Bytes.{same}
 use Rattle.text.specs.Text.{well_formed}
@@ -12,6 +13,8 @@ use Rattle.text.specs.Sequence.{scalar}
 use Rattle.whole.specs.Whole.{TOP}
 use Rattle.table.specs.Table.{Text, Record, Table}
 use Rattle.table.specs.Layout.{Field, Is, Fault, Numbers, numbers_in, number, text, read_record}
+use Rattle.table.specs.declared.shape.Cause.{Cause}
+use Rattle.table.specs.declared.shape.TableRefusal.{TableRefusal}
 
 -- the bytes of the type "digit"
 abbrev pub digit : Text
@@ -19,19 +22,26 @@ digit = 100 ∷ 105 ∷ 103 ∷ 105 ∷ 116 ∷ []
 
 -- ---- items
 -- 01's numbers of a table's refusals: its layout, or bytes left over; its content
-abbrev pub bad_layout : ℕ
-bad_layout = 4
+abbrev pub bad_layout : Cause
+bad_layout = Cause.Layout
 
-abbrev pub bad_content : ℕ
-bad_content = 5
+abbrev pub bad_content : Cause
+bad_content = Cause.Content
+
+abbrev pub cause_number : Cause → ℕ
+cause_number Cause.Layout = 4
+cause_number Cause.Content = 5
+
+abbrev pub refusal_at : Cause → ℕ → TableRefusal
+refusal_at cause at = record { cause = cause; at = record { 0 = at } }
 
 pub data Checked (A : Type 0) : Type 0 where
   Fine : A → ℕ → Checked A
-  Refused : ℕ → ℕ → Checked A
+  Refused : Cause → ℕ → Checked A
 
 abbrev pub then_item : {A B : Type 0} → Checked A → (A → ℕ → Checked B) → Checked B
 then_item (Fine a next) k = k a next
-then_item (Refused number at) k = Refused number at
+then_item (Refused cause at) k = Refused cause at
 
 unfoldable pub item : {A : Type 0} → ℕ → (A → Bool) → Field A → Checked A
 item at legal (Is a next) = cond (legal a) (Fine a next) (Refused bad_content at)

@@ -12,7 +12,7 @@
 --     IndexIf t at all os n            if all records from the offset at on are laid out and rise, then os is the index over them, with n entries
 --     Filtering t rs os at left        while the filter is made: a code point whose bit is not set has in rs the record that it has among the left records from the offset at on
 -- Assumes nothing.
-use Rattle.std.specs.Prelude.{◌≡◌, true, List, ℕ, ◌+◌, ◌-◌, ◌*◌, ◌/◌, ◌≤◌, ◌<◌, length, get_or}
+use Rattle.std.specs.Prelude.{◌≡◌, true, List, ℕ, ◌+◌, ◌-◌, ◌*◌, ◌/◌, ◌≤◌, ◌<◌, length, get_or, Option, Some, None}
 use Rattle.std.proofs.Math.Option.{none, some}
 use Rattle.fields.specs.Fields.{le_at}
 use Rattle.table.specs.Table.{Record, find}
@@ -22,17 +22,15 @@ use Rattle.table.specs.Filter.{most_entries, index_size, Unmarked, Filtered}
 use Rattle.table.specs.Answers.{record_of, Inside}
 use Rattle.table.specs.declared.layout.NumProp.{NumProp}
 use Rattle.table.specs.declared.index.Index.{Index}
-use Rattle.table.specs.declared.index.CharRecord.{CharRecord}
-use Rattle.table.specs.declared.index.CharRecord.TheVariants.{At, Nothing}
 
 pub record FoundAt (t : List ℕ) (rs : List Record) (c : ℕ) (p : NumProp) (at : ℕ) : Type 0 where
   pub found : find rs c ≡ some (record_of t p)
   pub reads : Is (record_of t p) p.next ≡ read_record t at
   pub inside : Inside t p
 
-abbrev pub FoundIs : List ℕ → List Record → ℕ → CharRecord → Type 0
-FoundIs t rs c (At p at) = FoundAt t rs c p at
-FoundIs t rs c Nothing = find rs c ≡ none
+abbrev pub FoundIs : List ℕ → List Record → ℕ → Option (NumProp × ℕ) → Type 0
+FoundIs t rs c (Some (p, at)) = FoundAt t rs c p at
+FoundIs t rs c None = find rs c ≡ none
 
 pub record Whole (t : List ℕ) (at left : ℕ) : Type 0 where
   pub full : length (records_at left t at) ≡ left

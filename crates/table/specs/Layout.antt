@@ -7,7 +7,7 @@
 --     bit m i          bit i of the map m
 --     read_record s at  the record at an offset, whatever its content
 --     texts_at n s at, records_at n s at   n strings, n records from an offset on, as far as their layout holds
-use Rattle.std.specs.Prelude.{ℕ, zero, suc, ◌+◌, ◌/◌, ◌%◌, ◌^◌, Bool, true, false, cond, List, [], ◌∷◌, length, leb, ltb, eqb}
+use Rattle.std.specs.Prelude.{ℕ, zero, suc, ◌+◌, ◌/◌, ◌%◌, ◌^◌, Bool, cond, List, [], ◌∷◌, length, leb, ltb, eqb}
 use Rattle.std.proofs.Math.Option.{Option, none, some}
 use Rattle.fields.specs.Fields.{le_at}
 use Rattle.fields.specs.Part.{part}

@@ -6,8 +6,7 @@
 --     table_bytes t     u16 count of records, the four lists in order, then the records
 --     legal_strings, legal_list, legal_records, legal   what may stand in a list, among the records, in a table
 --     Assumes nothing.
-use Rattle.std.specs.Prelude.{ℕ, ◌+◌, ◌*◌, Bool, true, false, ◌&&◌, List, [], ◌∷◌, ◌++◌, length, leb, ltb}
-use Rattle.std.proofs.Math.Option.{Option, none, some}
+use Rattle.std.specs.Prelude.{ℕ, ◌+◌, ◌*◌, Bool, true, ◌&&◌, List, [], ◌∷◌, ◌++◌, length, leb, ltb}
 use Rattle.fields.specs.Fields.{bytes_of, u16_limit}
 use Rattle.fields.specs.Flag.{there, flag, bytes_if}
 use Rattle.table.specs.Table.{Text, Record, Table}

@@ -32,32 +32,23 @@ pub struct Index {
     pub due: usize,
 }
 
-// The record of a character and its offset, where it has one.
-#[derive(Clone, Copy)]
-pub enum CharRecord {
-    At(NumProp, usize),
-    Nothing,
-}
-
 // The record of a character, by a walk that ends at the first code point above it. Only the character's own record is read whole.
-fn find_from(table: &[u8], from: RecordRun, c: u32) -> CharRecord
+fn find_from(table: &[u8], from: RecordRun, c: u32) -> Option<(NumProp, usize)>
     requires { Whole table.now from.at from.left }
     ensures { FoundIs table.now (records_at from.left table.now from.at) c result }
 {
     let mut at = from.at;
-    let mut left = from.left;
-    while 0 < left {
+    for _ in 0..from.left {
         let code = fields::u32_at(table, at);
         if code == c {
-            return CharRecord::At(record_here(table, at), at);
+            return Some((record_here(table, at), at));
         }
         if c < code {
-            return CharRecord::Nothing;
+            return None;
         }
         at = record_end(table, at);
-        left -= 1;
     }
-    CharRecord::Nothing
+    None
 }
 
 // How many records there are from one entry of the index to the next, for n records.
@@ -65,18 +56,6 @@ fn stride_of(n: usize) -> usize
     ensures { result ≡ stride_of n }
 {
     1 + n / MOST_ENTRIES
-}
-
-fn less(a: usize, b: usize) -> usize
-    ensures { result ≡ a - b }
-{
-    if a < b { 0 } else { a - b }
-}
-
-fn wide(x: u32) -> usize
-    ensures { result ≡ x }
-{
-    x as usize
 }
 
 // Takes a record into the index over so many records, where it is its turn. An offset that takes more than 32 bits ends the index.
@@ -90,14 +69,13 @@ pub fn index_record(offs: &mut [u32], index: Index, all: usize, here: RecordRun)
     if here.left != index.due {
         return index;
     }
-    if 0xFFFF_FFFF < here.at {
+    let Ok(at) = u32::try_from(here.at) else {
         return index;
-    }
-    let n = index.n;
-    offs[n] = here.at as u32;
+    };
+    offs[index.n] = at;
     Index {
-        n: n + 1,
-        due: less(here.left, stride_of(all)),
+        n: index.n + 1,
+        due: here.left.saturating_sub(stride_of(all)),
     }
 }
 
@@ -118,9 +96,10 @@ fn nearest_entry(
     let mut from = all;
     let mut lo: usize = 0;
     let mut hi = n;
+    // Kept as a loop: `partition_point` wants a test that takes any offset, and reading the table asks that a record stands there.
     while lo < hi {
         let mid = lo + (hi - lo) / 2;
-        let at = wide(offs[mid]);
+        let at = offs[mid] as usize;
         if fields::u32_at(table, at) <= c {
             from = RecordRun {
                 at: at,
@@ -135,19 +114,20 @@ fn nearest_entry(
 }
 
 // The record of a character among all records, whose index has n entries. The filter is asked first.
+// Kept as parameters: `first_stages` has the four apart, so a struct of them would be made for each call and taken apart in it.
 pub fn find_char(
     table: &[u8],
     all: RecordRun,
     offs: &[u32; INDEX_SIZE],
     n: usize,
     c: u32,
-) -> CharRecord
+) -> Option<(NumProp, usize)>
     requires { Whole table.now all.at all.left
         × Indexed table.now (records_at all.left table.now all.at) offs.now all.left n }
     ensures { FoundIs table.now (records_at all.left table.now all.at) c result }
 {
     if !may_have(offs, c) {
-        return CharRecord::Nothing;
+        return None;
     }
     let from = nearest_entry(table, all, offs, n, c);
     find_from(table, from, c)
@@ -161,8 +141,5 @@ pub fn is_absent(table: &[u8], all: RecordRun, offs: &[u32; INDEX_SIZE], n: usiz
     ensures { result ≡ is_none (find (records_at all.left table.now all.at) c) }
 {
     let from = nearest_entry(table, all, offs, n, c);
-    match find_from(table, from, c) {
-        CharRecord::At(_, _) => false,
-        CharRecord::Nothing => true,
-    }
+    find_from(table, from, c).is_none()
 }

@@ -9,14 +9,8 @@ use text::Offset;
 // The most bytes of a string.
 pub const MAX_STRING: usize = 60;
 
-// A string, with the offset behind it.
-#[derive(Clone, Copy)]
-pub enum TextAt {
-    Text(Part, usize),
-    Fault,
-}
-
 // The numbers of a record, 0 where the map says that one is absent, and the offset behind them.
+// Kept as numbers and not Options: the map beside them says which are there, and an Option of each would say it a second time.
 #[derive(Clone, Copy)]
 pub struct Numbers {
     pub value: u64,
@@ -40,26 +34,24 @@ pub struct NumProp {
 }
 
 // The string at an offset.
-pub fn text_at(s: &[u8], at: usize) -> TextAt
+pub fn text_at(s: &[u8], at: usize) -> Option<(Part, usize)>
     ensures result_value { text_field s.now result ≡ text s.now at }
     ensures within { TextWithin s.now result }
 {
     if s.len() <= at {
-        return TextAt::Fault;
+        return None;
     }
     let len = s[at] as usize;
     if len > MAX_STRING {
-        return TextAt::Fault;
+        return None;
     }
     let start = at + 1;
     if s.len() - start < len {
-        return TextAt::Fault;
+        return None;
     }
-    TextAt::Text(
-        Part {
-            at: Offset(start),
-            len: len,
-        },
-        start + len,
-    )
+    let part = Part {
+        at: Offset(start),
+        len: len,
+    };
+    Some((part, start + len))
 }

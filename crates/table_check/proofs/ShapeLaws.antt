@@ -5,7 +5,6 @@ use Prim.Native.Nat.{ℕ}
 use Rattle.fields.specs.Fields.{le_at}
 use Rattle.table.specs.Table.{Text}
 use Rattle.table.specs.Check.{Fine, read_list}
-use Rattle.table.specs.declared.shape.Shape.{Shape}
 use Rattle.table_check.specs.Shape.{shape_of}
 
 pub shape_is : (s : List ℕ) {n a b c d : ℕ} {p f u m : List Text} → n ≡ le_at s 0 2

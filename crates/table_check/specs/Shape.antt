@@ -4,17 +4,16 @@
 --     ShapeIs s r   where the check of s answers a shape, it is this one
 --     TableIs s r   the check of s answers the table that s is, by its shape, or the refusal
 -- Assumes nothing.
-use Rattle.std.specs.Prelude.{◌≡◌, List, ℕ}
+use Rattle.std.specs.Prelude.{◌≡◌, List, ℕ, Result, Ok, Err}
 use Rattle.fields.specs.Fields.{le_at}
 use Rattle.table.specs.Check.{Checked, Fine, Refused, read_list, read_table}
 use Rattle.table.specs.Answers.{table_answer}
 use Rattle.table.specs.declared.shape.Shape.{Shape}
-use Rattle.table.specs.declared.shape.TableCheck.{TableCheck}
-use Rattle.table.specs.declared.shape.TableCheck.TheVariants as TableCheck
+use Rattle.table.specs.declared.shape.TableRefusal.{TableRefusal}
 
 abbrev pub behind : {A : Type 0} → Checked A → ℕ
 behind (Fine a next) = next
-behind (Refused number at) = 0
+behind (Refused cause at) = 0
 
 abbrev pub list_end : List ℕ → ℕ → ℕ
 list_end s at = behind (read_list s at)
@@ -29,10 +28,10 @@ shape_of s = record {
   records = list_end s (list_end s (list_end s (list_end s 2)));
 }
 
-unfoldable pub ShapeIs : List ℕ → TableCheck → Type 0
-ShapeIs s (TableCheck.Table h) = h ≡ shape_of s
-ShapeIs s (TableCheck.Refused number at) = Unit {0}
+unfoldable pub ShapeIs : List ℕ → Result Shape TableRefusal → Type 0
+ShapeIs s (Ok h) = h ≡ shape_of s
+ShapeIs s (Err r) = Unit {0}
 
-pub record TableIs (s : List ℕ) (r : TableCheck) : Type 0 where
+pub record TableIs (s : List ℕ) (r : Result Shape TableRefusal) : Type 0 where
   pub table : table_answer s r ≡ read_table s
   pub shape : ShapeIs s r

@@ -8,7 +8,6 @@ use mathlib.Core.Path.{◌≡◌, refl, sym, ap, ◌∙◌, subst}
 use mathlib.Core.Logic.{◌↔◌}
 use mathlib.Core.List.{List, [], ◌∷◌, map}
 use mathlib.Core.Option.{Option, none, some, some-ne-none}
-use native.Mathlib.Omega.{arith}
 use Rattle.table_grammar.specs.Row.{Row, one, ◌▷◌, last}
 use Rattle.table_grammar.specs.Grammar.{CharOf, digit, ten, large, AtomOf, run, times, power, MemberOf, small, block, lone, DivisionOf, Alphabet, run_value, atom_value, atom_base, small_value, small_base, member_value, member_base, IsAtom, Follows, lone_zero, near_base, IsSmall, IsMember, IsBlock, single_digit, count_value, count_base, IsNumeral, division_value, run_text, atom_text, small_text, member_text, division_text, ReadingOf}
 use Rattle.table_grammar.proofs.Pieces.{row_map}
@@ -84,21 +83,21 @@ module _ {D T L D' T' L' : Type 0} (f : D → D') (g : T → T') (h : L → L') 
   large_text l v = large l ∷ v
 
   digit_spelled : (d : D') (X : List (CharOf D' T' L')) (v : List (CharOf D T L)) → digit d ∷ X ≡ map char_by v → Spelled f digit_text d X v
-  digit_spelled d X [] e = let z : ◌≡◌ {A = ℕ} 0 1 = cc in absurd (omega arith)
+  digit_spelled d X [] e = absurd cc
   digit_spelled d X (digit q ∷ v) e = record { piece = q; rest = v; is = cc; spells = refl; behind = cc }
-  digit_spelled d X (ten q ∷ v) e = let z : ◌≡◌ {A = ℕ} 0 1 = cc in absurd (omega arith)
-  digit_spelled d X (large q ∷ v) e = let z : ◌≡◌ {A = ℕ} 0 1 = cc in absurd (omega arith)
+  digit_spelled d X (ten q ∷ v) e = absurd cc
+  digit_spelled d X (large q ∷ v) e = absurd cc
 
   ten_spelled : (t : T') (X : List (CharOf D' T' L')) (v : List (CharOf D T L)) → ten t ∷ X ≡ map char_by v → Spelled g ten_text t X v
-  ten_spelled t X [] e = let z : ◌≡◌ {A = ℕ} 0 1 = cc in absurd (omega arith)
-  ten_spelled t X (digit q ∷ v) e = let z : ◌≡◌ {A = ℕ} 0 1 = cc in absurd (omega arith)
+  ten_spelled t X [] e = absurd cc
+  ten_spelled t X (digit q ∷ v) e = absurd cc
   ten_spelled t X (ten q ∷ v) e = record { piece = q; rest = v; is = cc; spells = refl; behind = cc }
-  ten_spelled t X (large q ∷ v) e = let z : ◌≡◌ {A = ℕ} 0 1 = cc in absurd (omega arith)
+  ten_spelled t X (large q ∷ v) e = absurd cc
 
   large_spelled : (l : L') (X : List (CharOf D' T' L')) (v : List (CharOf D T L)) → large l ∷ X ≡ map char_by v → Spelled h large_text l X v
-  large_spelled l X [] e = let z : ◌≡◌ {A = ℕ} 0 1 = cc in absurd (omega arith)
-  large_spelled l X (digit q ∷ v) e = let z : ◌≡◌ {A = ℕ} 0 1 = cc in absurd (omega arith)
-  large_spelled l X (ten q ∷ v) e = let z : ◌≡◌ {A = ℕ} 0 1 = cc in absurd (omega arith)
+  large_spelled l X [] e = absurd cc
+  large_spelled l X (digit q ∷ v) e = absurd cc
+  large_spelled l X (ten q ∷ v) e = absurd cc
   large_spelled l X (large q ∷ v) e = record { piece = q; rest = v; is = cc; spells = refl; behind = cc }
 
   -- a piece made of two: the first, then the second in what is left behind it
@@ -164,7 +163,7 @@ module _ {D T L D' T' L' : Type 0} (f : D → D') (g : T → T') (h : L → L') 
 
   no_rest : (v : List (CharOf D T L)) → [] ≡ map char_by v → v ≡ []
   no_rest [] e = refl
-  no_rest (c ∷ v) e = let z : ◌≡◌ {A = ℕ} 0 1 = cc in absurd (omega arith)
+  no_rest (c ∷ v) e = absurd cc
 
   module _ (A : Alphabet D T L) (B : Alphabet D' T' L') (same : Same A B) where
     -- ---- values and bases

@@ -339,7 +339,7 @@ one_chain_numeral (m ∷ L) (b ∷ l) i j n d c x C N S A (k, R, t) e = go (next
     go none h s ih =
         let (u, us, f) = from_not_empty begin (next G4) (begin b) l in
         let e' : c.edge ∷ u.edge ∷ map (λ c. c.edge) us ≡ x ∷ [] = rw f at (rw (h, from) at e) in
-        let z : ◌≡◌ {A = ℕ} 0 1 = cc in absurd (omega arith)
+        absurd cc
     go (some y) h s ih = ih i k n (d ▷ m) y x s.1 s.0 A.1 A.2 t (rw (h, from) at e)
 
 -- a member joins where the grammar says so

@@ -2,7 +2,7 @@
 -- `proofs/Pieces.antt` makes of the characters.
 -- TokenEdge, PieceEdge, PartEdge and MemberEdge say of a piece and an edge that the edge lies on the piece's places, with its value and base. Each is carried through
 -- a pass by `sim` of `proofs/ChainParts.antt`, since the edges' chain takes the next exactly where the pieces' chain does (TokenChain, .., MemberChain).
-use Prim.Native.Nat.{ℕ, zero, suc, ◌+◌, ◌*◌, ◌≤◌}
+use Prim.Native.Nat.{ℕ, suc, ◌+◌, ◌*◌, ◌≤◌}
 use mathlib.Core.Path.{◌≡◌, refl, sym, ap, ◌∙◌}
 use mathlib.Core.Bool.{Bool, true, false, cond, ◌&&◌, and-true, and-false, ◌||◌}
 use mathlib.Core.List.{List, [], ◌∷◌, ◌++◌}

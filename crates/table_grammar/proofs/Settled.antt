@@ -4,7 +4,6 @@ use mathlib.Core.Path.{◌≡◌, refl, sym, ap, ◌∙◌}
 use mathlib.Core.List.{List, [], ◌∷◌}
 use mathlib.Core.Option.{some, some-injective}
 use lib.ListN.{length}
-use native.Mathlib.Omega.{arith}
 use Rattle.table.specs.Table.{Table}
 use Rattle.passes.specs.NumEdge.{NumEdge}
 use Rattle.passes.specs.Characters.{first_list}
@@ -28,7 +27,7 @@ module _ (t : Table) (w : List ℕ) where
   read : (s : List Char) (L : List Member) (l : List NumEdge) (e : NumEdge) → chars_of t.records w ≡ some s → members kinds s ≡ L → Along (IsMember kinds) (Apart₄ kinds) L
       → Tiles MemberEdge 0 L l (length w) → after G4 l ≡ e ∷ [] → (r : Reading t w) × Counts 0 r.division e (length w)
   unfolding after chains_of chains begin
-  read s [] [] e y h A q g = let z : ◌≡◌ {A = ℕ} 0 1 = cc in absurd (omega arith)
+  read s [] [] e y h A q g = absurd cc
   read s [] (b ∷ l) e y h A q g = absurd q
   read s (m ∷ L) [] e y h A q g = absurd q
   read s (m ∷ L) (b ∷ l) e y h A (j, R, q) g =

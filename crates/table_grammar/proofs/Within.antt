@@ -1,6 +1,6 @@
 -- A numeral whose value is at most TOP is not refused 7: no edge that the five passes join is above TOP, since each is a part of the numeral.
 -- In order: what holds of each; `first_above` of lists and of a pass; each member, part, piece and token is at most TOP; the passes.
-use Prim.Native.Nat.{ℕ, ◌+◌, ◌*◌, ◌/◌, ◌≤◌}
+use Prim.Native.Nat.{ℕ, ◌*◌, ◌/◌, ◌≤◌}
 use mathlib.Core.Path.{◌≡◌, refl}
 use mathlib.Core.Bool.{Bool, true, false, cond, ◌&&◌, and-false}
 use mathlib.Core.List.{List, [], ◌∷◌, ◌++◌}

@@ -5,7 +5,7 @@
 --     head r    the first
 --     last r    the last
 --     Assumes nothing.
-use Rattle.std.specs.Prelude.{List, [], ◌∷◌}
+use Rattle.std.specs.Prelude.{List, ◌∷◌}
 
 infixl 66 ◌▷◌
 pub data Row (A : Type 0) : Type 0 where

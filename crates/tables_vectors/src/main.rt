@@ -25,53 +25,22 @@ fn print_row(name: &[u8], status: u32, at: u64, out: &[u8])
     io::write_all(1, b"\n");
 }
 
-fn plain_short() {
-    let mut out = [170u8; 581];
+// The answer for an output of N bytes.
+fn ask<const N: usize, F: FnOnce(&mut [u8], &mut u64) -> u32>(name: &[u8], table: F)
+    requires room { (581 ≤ N) × (N ≤ 4096) }
+    requires callable { F.IsAlwaysCallable table }
+{
+    let mut out = [170u8; N];
     let mut at: u64 = 9;
-    let status = tables::rilvostam_plain_table(&mut out, &mut at);
-    print_row(b"plain", status, at, &out);
-}
-
-fn plain_just() {
-    let mut out = [170u8; 582];
-    let mut at: u64 = 9;
-    let status = tables::rilvostam_plain_table(&mut out, &mut at);
-    print_row(b"plain", status, at, &out);
-}
-
-fn plain_longer() {
-    let mut out = [170u8; 600];
-    let mut at: u64 = 9;
-    let status = tables::rilvostam_plain_table(&mut out, &mut at);
-    print_row(b"plain", status, at, &out);
-}
-
-fn formal_short() {
-    let mut out = [170u8; 581];
-    let mut at: u64 = 9;
-    let status = tables::rilvostam_formal_table(&mut out, &mut at);
-    print_row(b"formal", status, at, &out);
-}
-
-fn formal_just() {
-    let mut out = [170u8; 582];
-    let mut at: u64 = 9;
-    let status = tables::rilvostam_formal_table(&mut out, &mut at);
-    print_row(b"formal", status, at, &out);
-}
-
-fn formal_longer() {
-    let mut out = [170u8; 600];
-    let mut at: u64 = 9;
-    let status = tables::rilvostam_formal_table(&mut out, &mut at);
-    print_row(b"formal", status, at, &out);
+    let status = table(&mut out, &mut at);
+    print_row(name, status, at, &out);
 }
 
 fn main() {
-    plain_short();
-    plain_just();
-    plain_longer();
-    formal_short();
-    formal_just();
-    formal_longer();
+    ask::<581, _>(b"plain", |out, at| tables::rilvostam_plain_table(out, at));
+    ask::<582, _>(b"plain", |out, at| tables::rilvostam_plain_table(out, at));
+    ask::<600, _>(b"plain", |out, at| tables::rilvostam_plain_table(out, at));
+    ask::<581, _>(b"formal", |out, at| tables::rilvostam_formal_table(out, at));
+    ask::<582, _>(b"formal", |out, at| tables::rilvostam_formal_table(out, at));
+    ask::<600, _>(b"formal", |out, at| tables::rilvostam_formal_table(out, at));
 }

@@ -1,7 +1,7 @@
 -- Laws of a text as characters (`specs/Text.antt`), for this crate's proofs and its callers'.
 -- In order: a step of `decode`; every text by cases; a text is its characters' bytes and what is left; texts one after the other; some of the characters.
 use mathlib.Core.Path.{◌≡◌, refl, sym, ap, ◌∙◌, subst}
-use mathlib.Core.Bool.{true, false, true≢false}
+use mathlib.Core.Bool.{true, true≢false}
 use mathlib.Core.List.{List, [], ◌∷◌, ◌++◌, append_assoc, append-nil}
 use Prim.Native.Nat.{ℕ, zero, suc, ◌-◌, ◌≤◌, ◌<◌}
 use native.Mathlib.Omega.{arith}

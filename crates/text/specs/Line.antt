@@ -6,11 +6,10 @@
 --     line_check s     refusal 2, then refusal 3, or the count of characters
 --     line_refusal r, line_at r    01's number of an answer, 0 where the line is accepted; its offset, or the count
 --     LineAnswer s r  r is the answer for the line s, and says its number and its offset or count
-use Rattle.std.specs.Prelude.{ℕ, ◌≡◌, cond, List, length, take, leb}
+use Rattle.std.specs.Prelude.{ℕ, ◌≡◌, cond, List, length, take, leb, Result, Ok, Err}
 use Rattle.text.specs.declared.Walked.{Walked}
-use Rattle.text.specs.declared.LineCheck.{LineCheck}
-use Rattle.text.specs.declared.LineCheck.TheVariants.{Chars, IllFormed, TooLong}
 use Rattle.text.specs.Text.{chars, well_formed, offset_of, ill_at}
+use Rattle.text.specs.declared.LineRefusal.{LineRefusal}
 
 abbrev pub walked : List ℕ → ℕ → Walked
 walked s p = record { count = length (take p (chars s)); at = record { 0 = offset_of s p } }
@@ -30,23 +29,23 @@ line_place s = cond (well_formed s) (cond (leb (length (chars s)) max_chars) (le
 abbrev pub PLACES : ℕ
 PLACES = 257
 
-abbrev pub line_check : List ℕ → LineCheck
+abbrev pub line_check : List ℕ → Result ℕ LineRefusal
 line_check s =
     cond (well_formed s)
-    (cond (leb (length (chars s)) max_chars) (Chars (length (chars s))) (TooLong (record { 0 = offset_of s max_chars })))
-    (IllFormed (record { 0 = ill_at s }))
+    (cond (leb (length (chars s)) max_chars) (Ok (length (chars s))) (Err (LineRefusal.TooLong (record { 0 = offset_of s max_chars }))))
+    (Err (LineRefusal.IllFormed (record { 0 = ill_at s })))
 
-abbrev pub line_refusal : LineCheck → ℕ
-line_refusal (Chars n) = 0
-line_refusal (IllFormed at) = 2
-line_refusal (TooLong at) = 3
+abbrev pub line_refusal : Result ℕ LineRefusal → ℕ
+line_refusal (Ok n) = 0
+line_refusal (Err (LineRefusal.IllFormed at)) = 2
+line_refusal (Err (LineRefusal.TooLong at)) = 3
 
-abbrev pub line_at : LineCheck → ℕ
-line_at (Chars n) = n
-line_at (IllFormed at) = at.0
-line_at (TooLong at) = at.0
+abbrev pub line_at : Result ℕ LineRefusal → ℕ
+line_at (Ok n) = n
+line_at (Err (LineRefusal.IllFormed at)) = at.0
+line_at (Err (LineRefusal.TooLong at)) = at.0
 
-pub record LineAnswer (s : List ℕ) (r : LineCheck) : Type 0 where
+pub record LineAnswer (s : List ℕ) (r : Result ℕ LineRefusal) : Type 0 where
   pub is : r ≡ line_check s
   pub number : line_refusal r ≡ line_number s
   pub place : line_at r ≡ line_place s

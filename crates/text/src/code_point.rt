@@ -17,6 +17,7 @@ fn append_six_bits(c: u32, x: u8) -> u32
 }
 
 // The code point of a sequence of two, three and four bytes at an offset: lead has the bits of the first.
+// Kept as three: each takes the one before it and one byte more, under a bound for lead of its own.
 pub fn of_two(s: &[u8], at: usize, lead: u32) -> u32
     requires { (at + 1 < length s.now) × (lead < 32) }
     ensures { result ≡ bits s.now at lead 1 }

@@ -5,6 +5,7 @@ ghost use Rattle.text.specs.Table.{row_of};
 use crate::Row;
 
 // The row for a lead byte; of length 0 where no sequence begins with it.
+// Kept as a length and not an Option: `seq_at` matches on the lengths 1 to 4, and 0 goes to its last arm with no arm more.
 pub fn row_of(b: u8) -> Row
     ensures { result ≡ row_of b }
 {

@@ -24,6 +24,7 @@ pub struct Offset(pub usize);
 pub struct Row(pub usize, pub u8, pub u8);
 
 // What stands at an offset: a character, by its code point and its length in bytes; an ill-formed sequence; the end.
+// An enum of its own: it tells three kinds apart, and an Option or a Result tells two.
 #[derive(Clone, Copy)]
 pub enum Seq {
     Char(u32, usize),
@@ -38,10 +39,9 @@ pub struct Walked {
     pub at: Offset,
 }
 
-// What a line is: so many characters; not UTF-8, with the offset of its first ill-formed sequence; over MAX_CHARS, with the offset of the next one.
+// Why a line is refused: not UTF-8, with the offset of its first ill-formed sequence; over MAX_CHARS characters, with the offset of the next one.
 #[derive(Clone, Copy)]
-pub enum LineCheck {
-    Chars(usize),
+pub enum LineRefusal {
     IllFormed(Offset),
     TooLong(Offset),
 }
@@ -50,15 +50,5 @@ pub enum LineCheck {
 pub fn same_bytes(a: &[u8], b: &[u8]) -> bool
     ensures { result ≡ same a.now b.now }
 {
-    if a.len() != b.len() {
-        return false;
-    }
-    let mut i = 0;
-    while i < a.len() {
-        if a[i] != b[i] {
-            return false;
-        }
-        i += 1;
-    }
-    true
+    a == b
 }

@@ -4,43 +4,28 @@ ghost use Rattle.std.specs.Prelude.{◌≡◌};
 ghost use Rattle.text.specs.Text.{well_formed, offset_of};
 ghost use Rattle.text.specs.Line.{walked};
 
-use crate::sequence::common_len;
+use crate::sequence::{common_len, seq_at};
 use crate::{Offset, Place, Seq, Walked};
 
 // Over the characters from the start, at most so many, up to the end or an ill-formed sequence. The common ones are told by fewer tests.
 pub fn walk(s: &[u8], most: usize) -> Walked
     ensures { result ≡ walked s.now most }
 {
-    let mut count = 0;
     let mut at = 0;
-    while count < most {
-        let common = common_len(s, at);
-        if 0 < common {
-            count += 1;
+    for count in 0..most {
+        if let Some(common) = common_len(s, at) {
             at += common;
+        } else if let Seq::Char(_, len) = seq_at(s, Offset(at)) {
+            at += len;
         } else {
-            match crate::sequence::seq_at(s, Offset(at)) {
-                Seq::Char(_, len) => {
-                    count += 1;
-                    at += len;
-                }
-                Seq::Ill => {
-                    return Walked {
-                        count,
-                        at: Offset(at),
-                    };
-                }
-                Seq::End => {
-                    return Walked {
-                        count,
-                        at: Offset(at),
-                    };
-                }
-            }
+            return Walked {
+                count,
+                at: Offset(at),
+            };
         }
     }
     Walked {
-        count,
+        count: most,
         at: Offset(at),
     }
 }

@@ -1,5 +1,5 @@
 // One UTF-8 sequence (Unicode Standard, table 3-7). The words of the contracts are those of `text`, in its specs/Table.antt and specs/Sequence.antt.
-ghost use Rattle.std.specs.Prelude.{◌≡◌, cond, ◌+◌, ◌<◌, length, drop};
+ghost use Rattle.std.specs.Prelude.{◌≡◌, cond, ◌+◌, ◌<◌, length, drop, IfSome};
 ghost use Rattle.text.specs.Table.{within};
 ghost use Rattle.text.specs.Sequence.{seq, trailing, HasLength};
 
@@ -24,6 +24,7 @@ fn char_if(good: bool, c: u32, len: usize) -> Seq
 }
 
 // The sequences of two, three and four bytes at an offset: lead has the bits of the first byte, the second is from lo to hi.
+// Kept as three: one loop over the trailing bytes would carry the test and the code point from byte to byte, which is longer than these bytes written out.
 fn two(s: &[u8], at: usize, lead: u32, lo: u8, hi: u8) -> Seq
     requires { (at < length s.now) × (lead < 32) }
     ensures { result ≡ trailing 1 lo hi lead 1 (drop (at + 1) s.now) }
@@ -83,24 +84,24 @@ pub fn seq_at(s: &[u8], at: Offset) -> Seq
     }
 }
 
-// The length of the sequence at an offset, where it is ASCII or of three bytes with a lead byte of E1 to EC, as Han and Kana are: fixed limits tell these. 0 of any other.
-pub fn common_len(s: &[u8], at: usize) -> usize
-    ensures { 0 < result → HasLength s.now at result }
+// The length of the sequence at an offset, where it is ASCII or of three bytes with a lead byte of E1 to EC, as Han and Kana are: fixed limits tell these. None of any other.
+pub fn common_len(s: &[u8], at: usize) -> Option<usize>
+    ensures { IfSome result (λ len. HasLength s.now at len) }
 {
     if s.len() <= at {
-        return 0;
+        return None;
     }
     let b = s[at];
     if b < 0x80 {
-        return 1;
+        return Some(1);
     }
     if s.len() - at < 3 {
-        return 0;
+        return None;
     }
     let c = s[at + 1];
     let d = s[at + 2];
     if between(0xE1, 0xEC, b) & between(0x80, 0xBF, c) & between(0x80, 0xBF, d) {
-        return 3;
+        return Some(3);
     }
-    0
+    None
 }

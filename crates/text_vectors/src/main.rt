@@ -2,16 +2,10 @@
 // Of each text it writes the refusal and its offset, or how many characters it has and then each one's offset and code point.
 #![tactic(auto)]
 
-use text::{LineCheck, Offset, Place, Seq};
-use vectors::ROWS;
+use text::{LineRefusal, Offset, Place, Seq};
 
 fn main() {
-    let mut input = io::large_buffer();
-    let mut ends = [0usize; ROWS];
-    let rows = vectors::read_rows(&mut input, &mut ends);
-    for i in 0..rows {
-        answer(vectors::row(&input, &ends, i));
-    }
+    vectors::each_row(|row| answer(row));
 }
 
 fn answer(line: &[u8]) {
@@ -35,12 +29,12 @@ fn take_apart(digits: &[u8], bytes: &mut [u8]) {
 
 fn show(line: &[u8]) {
     match text::check::check_line(line) {
-        LineCheck::Chars(n) => {
+        Ok(n) => {
             vectors::say(b"chars ", n as u64);
             each(line, n);
         }
-        LineCheck::IllFormed(at) => vectors::say(b"refused 2 ", at.0 as u64),
-        LineCheck::TooLong(at) => vectors::say(b"refused 3 ", at.0 as u64),
+        Err(LineRefusal::IllFormed(at)) => vectors::say(b"refused 2 ", at.0 as u64),
+        Err(LineRefusal::TooLong(at)) => vectors::say(b"refused 3 ", at.0 as u64),
     }
 }
 
@@ -54,9 +48,7 @@ fn show_char(line: &[u8], at: Offset) {
 }
 
 fn each(line: &[u8], n: usize) {
-    let mut p = 0;
-    while p < n {
+    for p in 0..n {
         show_char(line, text::line::offset_of(line, Place(p)));
-        p += 1;
     }
 }

@@ -1,8 +1,15 @@
 // What the programs share: the rows of standard input, where a word ends, bytes written in hexadecimal, a word and a number printed, a refusal, the end of a row.
 #![tactic(auto)]
 
-ghost use Rattle.std.specs.Prelude.{◌≡◌, ◌+◌, ◌≤◌, ◌<◌, length, drop};
+ghost use Rattle.std.specs.Prelude.{◌≡◌, ◌==◌, ◌+◌, ◌≤◌, ◌<◌, length, drop, position};
 ghost use Rattle.vectors.specs.Until.{until_byte};
+
+// The offset of the first `stop`.
+fn first_at(s: &[u8], stop: u8) -> Option<usize>
+    ensures { result ≡ position (λ x. x == stop) s.now }
+{
+    s.iter().position(|b| *b == stop)
+}
 
 // The offset of the first `stop` from an offset on, or the end.
 pub fn until(s: &[u8], from: usize, stop: u8) -> usize
@@ -10,14 +17,10 @@ pub fn until(s: &[u8], from: usize, stop: u8) -> usize
     ensures { (result ≡ from + length (until_byte stop (drop from s.now)))
         × (result ≤ length s.now) }
 {
-    let mut at = from;
-    while at < s.len() {
-        if s[at] == stop {
-            return at;
-        }
-        at += 1;
+    match first_at(&s[from..], stop) {
+        Some(i) => from + i,
+        None => s.len(),
     }
-    at
 }
 
 // The first word of a row, up to a space or the end.
@@ -51,17 +54,20 @@ fn hex_value(b: u8) -> u8
 pub fn unhex(digits: &[u8], out: &mut [u8]) -> usize
     ensures { result ≤ length out.new }
 {
-    let mut n = 0;
-    while n < digits.len() / 2 {
-        if out.len() <= n {
-            return n;
-        }
-        let high = hex_value(digits[2 * n]);
-        let low = hex_value(digits[2 * n + 1]);
-        out[n] = high * 16 + low;
-        n += 1;
+    let n = (digits.len() / 2).min(out.len());
+    for i in 0..n {
+        out[i] = hex_value(digits[2 * i]) * 16 + hex_value(digits[2 * i + 1]);
     }
     n
+}
+
+// Passes on the bytes that the digits of a row's first word say, as many as a buffer holds, and what stands behind the word.
+pub fn with_bytes<F: FnOnce(&[u8], &[u8])>(row: &[u8], answer: F)
+    requires { F.IsAlwaysCallable answer }
+{
+    let mut bytes = io::buffer();
+    let n = unhex(word(row), &mut bytes);
+    answer(&bytes[..n], rest(row))
 }
 
 // A word and a number, to standard output.
@@ -83,59 +89,36 @@ pub fn end_row(row: &[u8]) {
     io::write_all(1, b"\n");
 }
 
-// How many rows a program takes at most.
-pub const ROWS: usize = 4096;
-
-// Keeps where each row of s ends, at most ROWS of them: how many.
-fn index_rows(s: &[u8], ends: &mut [usize; ROWS]) -> usize {
+// Passes each row of s on, without its newline.
+// Kept as a while: a row has a length of its own, and `split` gives one more row, empty, behind the last newline.
+pub fn rows_of<F: FnMut(&[u8])>(s: &[u8], mut answer: F)
+    requires { F.IsAlwaysCallable answer }
+{
     let mut at = 0;
-    let mut n = 0;
     while at < s.len() {
-        if n == ROWS {
-            return n;
-        }
         let end = until(s, at, b'\n');
-        ends[n] = end;
-        n += 1;
+        answer(&s[at..end]);
         at = end + 1;
     }
-    n
 }
 
-// Reads standard input, and keeps where each of its rows ends: how many. `row` gives them.
-pub fn read_rows(input: &mut [u8], ends: &mut [usize; ROWS]) -> usize {
-    let got = io::read_full(0, input);
-    index_rows(&input[..got], ends)
-}
-
-// Where the i-th row ends, at most at an offset.
-fn row_end(ends: &[usize; ROWS], i: usize, most: usize) -> usize
-    ensures { result ≤ most }
+// Reads standard input, and passes each of its rows on.
+pub fn each_row<F: FnMut(&[u8])>(answer: F)
+    requires { F.IsAlwaysCallable answer }
 {
-    if ROWS <= i {
-        return 0;
-    }
-    let end = ends[i];
-    if end < most { end } else { most }
+    let mut input = io::large_buffer();
+    let got = io::read_full(0, &mut input);
+    rows_of(&input[..got], answer)
 }
 
-// Where it begins, at most at its end.
-fn row_start(ends: &[usize; ROWS], i: usize, end: usize) -> usize
-    ensures { result ≤ end }
-{
-    if i == 0 {
-        return 0;
-    }
-    if ROWS < i {
-        return 0;
-    }
-    let before = ends[i - 1];
-    if before < end { before + 1 } else { end }
-}
-
-// The i-th row, without its newline; no bytes where there is none.
-pub fn row<'a>(input: &'a [u8], ends: &[usize; ROWS], i: usize) -> &'a [u8] {
-    let to = row_end(ends, i, input.len());
-    let from = row_start(ends, i, to);
-    &input[from..to]
+// The mark of an edge: active or inactive where it is numeric, else regular.
+pub fn edge_mark(numeric: bool, active: bool) {
+    let mark = if !numeric {
+        b"="
+    } else if active {
+        b"+"
+    } else {
+        b"."
+    };
+    io::write_all(1, mark);
 }

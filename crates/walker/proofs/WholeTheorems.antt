@@ -1,5 +1,5 @@
 -- What is promised of whole edges beyond the contracts: over an accepted listing a caller that goes from the first edge to the next reads every edge listed, all its fields, and
--- then Nothing, at the listing's end.
+-- then None, at the listing's end.
 --     nth_whole     at step i stands edge i of the listing, and the offset given behind it is that of step i + 1
 --     whole_end     after the last edge the offset is the listing's length, and no whole edge stands there
 -- Assumes nothing.
@@ -14,17 +14,16 @@ use borrow.Author.Tests.{leb-true}
 use Rattle.fields.specs.Fields.{le_at}
 use Rattle.edge.specs.declared.EdgeView.{EdgeView}
 use Rattle.edge.specs.declared.NumFields.{NumFields}
-use Rattle.edge.specs.declared.ListingCheck.TheVariants.{Edges, Refused}
 use Rattle.edge.specs.Edge as E
 use Rattle.edge.specs.Layout.{stands, only, next_at, numeric_at, listed}
 use Rattle.edge.specs.Check.{check_edges, check_listing}
 use Rattle.edge.specs.View.{fields_at, numeric_of}
 use Rattle.edge.proofs.CheckLaws.{fields_say}
-use Rattle.walker.specs.declared.whole_edge.WholeEdge.TheVariants.{Edge, Nothing}
 use Rattle.walker.specs.Walk.{here_at, behind, onward}
 use Rattle.walker.specs.WholeEdge.{no_fields, fields_behind, whole_edge_at}
-use Rattle.walker.proofs.Theorems.{Says, Stands, nth_edge, nth_end, Walks, over, more, accepted, count_is, step_whole}
+use Rattle.walker.proofs.Theorems.{Says, nth_edge, nth_end, Walks, over, more, accepted, count_is, step_whole}
 use Rattle.walker.proofs.whole_edge.EdgeLaws.{edge_stands, nothing_stands}
+use Rattle.std.specs.Prelude.{Some, None, Ok, Err}
 
 -- the head v and the fields d say the edge e of the listing s
 pub record SaysAll (s : List ℕ) (v : EdgeView) (d : NumFields) (e : E.Edge) : Type 0 where
@@ -49,7 +48,7 @@ module _ (given : Bool) (n : ℕ) (s : List ℕ) (c : ℕ) where
   pub record StandsWhole (i : ℕ) (e : E.Edge) : Type 0 where
     pub head : EdgeView
     pub fields : NumFields
-    pub here : whole_edge_at s (onward i s 2) ≡ Edge head fields (record { 0 = onward (suc i) s 2 })
+    pub here : whole_edge_at s (onward i s 2) ≡ Some (head, fields, record { 0 = onward (suc i) s 2 })
     pub says : SaysAll s head fields e
 
   last_at : (k at : ℕ) → Walks given n s c k at → at ≤ length s → onward k s at ≡ length s
@@ -58,15 +57,15 @@ module _ (given : Bool) (n : ℕ) (s : List ℕ) (c : ℕ) where
   last_at (suc k) at (more h w) l = step_whole s at k h ∙ last_at k (next_at s at) w h
 
   -- an accepted listing has a count
-  counted : check_listing given n s ≡ Edges c → 2 ≤ length s
+  counted : check_listing given n s ≡ Ok c → 2 ≤ length s
   unfolding check_listing
   counted t = leb-true 2 (length s) (go (leb 2 (length s)) t)
     where
-      go : (b : Bool) → cond b (check_edges given n s (le_at s 0 2) 2) (Refused (record { 0 = 0 })) ≡ Edges c → b ≡ true
+      go : (b : Bool) → cond b (check_edges given n s (le_at s 0 2) 2) (Err (record { 0 = 0 })) ≡ Ok c → b ≡ true
       go true t = refl
       go false t = let z : ◌≡◌ {A = ℕ} 0 1 = cc in absurd (omega arith)
 
-  module _ (t : check_listing given n s ≡ Edges c) where
+  module _ (t : check_listing given n s ≡ Ok c) where
     pub nth_whole : (i : ℕ) (d : E.Edge) → i < c → StandsWhole i (get_or (listed s) i d)
     nth_whole i d h =
         let r = nth_edge given n s c t i d h in
@@ -78,7 +77,7 @@ module _ (given : Bool) (n : ℕ) (s : List ℕ) (c : ℕ) where
           says = record { head = r.says; fields = fields_behind_say v.map s v.fields.0 ∙ r.says.num };
         }
 
-    pub whole_end : (onward c s 2 ≡ length s) × (whole_edge_at s (length s) ≡ Nothing)
+    pub whole_end : (onward c s 2 ≡ length s) × (whole_edge_at s (length s) ≡ None)
     whole_end =
         let w = accepted given n s c t in
         let e = ap (λ (k : ℕ). onward k s 2) (count_is given n s c (le_at s 0 2) 2 w) ∙ last_at (le_at s 0 2) 2 w (counted t) in

@@ -8,7 +8,7 @@ pub mod whole_edge; // whole_edge.rt: a whole edge by its numbers
 ghost use Rattle.std.specs.Prelude.{◌≡◌};
 ghost use Rattle.walker.specs.Walk.{here_at, behind, onward};
 
-use crate::steps::Here;
+use edge::EdgeView;
 use text::Offset;
 
 // A walker: a listing, and the offset where the walk stands.
@@ -29,7 +29,7 @@ pub fn start<'a>(listing: &'a [u8]) -> Walker<'a>
 }
 
 // The edge where a walker stands.
-pub fn edge_here<'a>(w: Walker<'a>) -> Here
+pub fn edge_here<'a>(w: Walker<'a>) -> Option<EdgeView>
     ensures { result ≡ here_at w.entry.listing.now w.entry.at.0 }
 {
     crate::steps::here_at(w.listing, w.at)
@@ -57,7 +57,7 @@ fn start_at<'a>(listing: &'a [u8], i: usize) -> Walker<'a>
 }
 
 // Edge i of a listing, counted from 0.
-pub fn nth(listing: &[u8], i: usize) -> Here
+pub fn nth(listing: &[u8], i: usize) -> Option<EdgeView>
     ensures { result ≡ here_at listing.now (onward i listing.now 2) }
 {
     edge_here(start_at(listing, i))

@@ -9,13 +9,6 @@ use text::Offset;
 // Where the first edge of a listing stands.
 pub const FIRST: usize = 2;
 
-// What stands where a walker is: the head of an edge, or the end.
-#[derive(Clone, Copy)]
-pub enum Here {
-    Edge(EdgeView),
-    End,
-}
-
 // Whether the edge at an offset ends within the listing.
 fn whole_at(listing: &[u8], at: usize) -> bool
     ensures { result ≡ whole listing.now at }
@@ -27,14 +20,14 @@ fn whole_at(listing: &[u8], at: usize) -> bool
 }
 
 // What stands at an offset.
-pub fn here_at(listing: &[u8], at: Offset) -> Here
+pub fn here_at(listing: &[u8], at: Offset) -> Option<EdgeView>
     ensures { result ≡ here_at listing.now at.0 }
 {
     let from = at.0;
     if whole_at(listing, from) {
-        Here::Edge(edge::head::edge_at(listing, from))
+        Some(edge::head::edge_at(listing, from))
     } else {
-        Here::End
+        None
     }
 }
 
@@ -55,14 +48,12 @@ pub fn onward(listing: &[u8], i: usize) -> Offset
     ensures { result.0 ≡ onward i listing.now 2 }
 {
     let mut at = FIRST;
-    let mut left = i;
-    while 0 < left {
+    for _ in 0..i {
         let next = behind(listing, Offset(at));
         if next.0 == at {
             return Offset(at);
         }
         at = next.0;
-        left -= 1;
     }
     Offset(at)
 }

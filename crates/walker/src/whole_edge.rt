@@ -4,17 +4,9 @@ ghost use Rattle.std.specs.Prelude.{◌≡◌, true, ◌≤◌, length};
 ghost use Rattle.edge.specs.Layout.{stands, fields_end};
 ghost use Rattle.walker.specs.WholeEdge.{no_fields, fields_behind, whole_edge_at};
 
-use crate::steps::Here;
 use edge::{EdgeView, NumFields, bits};
 use fields::Part;
 use text::Offset;
-
-// What stands at an offset: the head of a whole edge, its fields, and the offset behind it; or no whole edge.
-#[derive(Clone, Copy)]
-pub enum WholeEdge {
-    Edge(EdgeView, NumFields, Offset),
-    Nothing,
-}
 
 // The fields of a regular edge: it has none.
 fn no_fields(map: u16) -> NumFields
@@ -51,14 +43,10 @@ fn fields_behind(map: u16, s: &[u8], at: usize) -> NumFields
 }
 
 // The whole edge at an offset.
-pub fn whole_edge_at(listing: &[u8], at: Offset) -> WholeEdge
+pub fn whole_edge_at(listing: &[u8], at: Offset) -> Option<(EdgeView, NumFields, Offset)>
     ensures { result ≡ whole_edge_at listing.now at.0 }
 {
-    match crate::steps::here_at(listing, at) {
-        Here::Edge(head) => {
-            let fields = fields_behind(head.map, listing, head.fields.0);
-            WholeEdge::Edge(head, fields, crate::steps::behind(listing, at))
-        }
-        Here::End => WholeEdge::Nothing,
-    }
+    let head = crate::steps::here_at(listing, at)?;
+    let fields = fields_behind(head.map, listing, head.fields.0);
+    Some((head, fields, crate::steps::behind(listing, at)))
 }

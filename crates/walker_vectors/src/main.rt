@@ -2,21 +2,21 @@
 // each edge, or the end. Then reads edges by their offsets as C does, and prints all their numbers. `stdout` has the expected answers, worked out by hand from the scope.
 #![tactic(auto)]
 
+use edge::EdgeView;
 use rilvostam::edges::{EDGE_NUMBERS, rilvostam_edge_at};
 use text::Offset;
-use walker::steps::Here;
 
 // What stands at a step.
-fn show(here: Here) {
+fn show(here: Option<EdgeView>) {
     match here {
-        Here::Edge(e) => {
+        Some(e) => {
             vectors::say(b"edge ", e.start.0 as u64);
             vectors::say(b" ", e.end.0 as u64);
             vectors::say(b" ", e.map as u64);
             vectors::say(b" ", e.txt.len as u64);
             io::write_all(1, b"\n");
         }
-        Here::End => {
+        None => {
             io::write_all(1, b"end\n");
         }
     }
@@ -24,21 +24,17 @@ fn show(here: Here) {
 
 // The first n edges, each looked for from the front.
 fn number(s: &[u8], n: usize) {
-    let mut i = 0;
-    while i < n {
+    for i in 0..n {
         show(walker::nth(s, i));
-        i += 1;
     }
 }
 
 // The first n steps, from edge to edge.
 fn step(s: &[u8], n: usize) {
     let mut at = Offset(walker::steps::FIRST);
-    let mut left = n;
-    while 0 < left {
+    for _ in 0..n {
         show(walker::steps::here_at(s, at));
         at = walker::steps::behind(s, at);
-        left -= 1;
     }
 }
 
@@ -53,10 +49,8 @@ fn walk(s: &[u8], n: usize) {
 
 // Numbers in a row.
 fn say_all(numbers: [u64; EDGE_NUMBERS]) {
-    let mut i = 0;
-    while i < EDGE_NUMBERS {
-        vectors::say(b" ", numbers[i]);
-        i += 1;
+    for n in numbers {
+        vectors::say(b" ", n);
     }
     io::write_all(1, b"\n");
 }

@@ -19,12 +19,14 @@ use Rattle.grammar.proofs.Demand3.{IsLine}
 use Rattle.numeral.specs.Field.{plain_line}
 use Rattle.numeral.proofs.FieldLaws.{plain_line_codes}
 use Rattle.numeral.proofs.OneNumber.{Accepted, outside, answers}
-use Rattle.weights.specs.declared.Weighed.TheVariants.{Count, AboveTop}
 use Rattle.weights.specs.Weights.{nines, weights}
 use Rattle.weights.specs.Weighed.{plain_weights, line_weights, counted, weigh}
 use Rattle.weights.proofs.WrongDigit.{one_weight_each}
 use Rattle.weights.proofs.LineLaws.{nines_within}
 use Rattle.weights.proofs.WeighedLaws.{by_reading, by_field, weight_within}
+use Rattle.std.specs.Prelude.{Ok, Err}
+use Rattle.numeral.specs.declared.FieldRefusal.TheVariants as FieldRefusal
+use Rattle.weights.specs.declared.WeighRefusal.TheVariants as WeighRefusal
 
 module _ (line : List ℕ) (w : List Char) (is : IsLine line w) (short : length (chars line) ≤ 256) (out : List ℕ) where
   pub numeral_weights : (r : Reading w) → line_weights line ≡ weights r.division
@@ -42,11 +44,11 @@ module _ (line : List ℕ) (w : List Char) (is : IsLine line w) (short : length 
       sym (by_field line out (((answers line w is short).yes v).1 ((r, refl), h)))
       ∙ ap (λ (n : ℕ). counted n (length out)) (ap length (numeral_weights r) ∙ one_weight_each w r)
 
-  pub above_answer : (r : Reading w) → TOP < division_value r.division → weigh line (length out) ≡ AboveTop
+  pub above_answer : (r : Reading w) → TOP < division_value r.division → weigh line (length out) ≡ Err (WeighRefusal.Field FieldRefusal.AboveTop)
   above_answer r h = sym (by_field line out ((answers line w is short).above.1 (division_value r.division, (r, refl), h)))
 
-  pub other_answer : (Reading w → ⊥) → weigh line (length out) ≡ Count 0
+  pub other_answer : (Reading w → ⊥) → weigh line (length out) ≡ Ok 0
   other_answer h = sym (by_field line out ((answers line w is short).no.1 h))
 
-pub outside_answer : (line out : List ℕ) → Accepted line → ((w : List Char) → chars line ≡ map code_point w → ⊥) → weigh line (length out) ≡ Count 0
+pub outside_answer : (line out : List ℕ) → Accepted line → ((w : List Char) → chars line ≡ map code_point w → ⊥) → weigh line (length out) ≡ Ok 0
 outside_answer line out a n = sym (by_field line out (outside line a n))

@@ -50,39 +50,39 @@ nines_within (c ∷ w) = omega (arith, one_more_lem c w, flag_within (is_weighed
 count_append : (x y : List Char) → length (nines (x ++ y)) ≡ length (nines x) + length (nines y)
 count_append x y = ap length (nines_append x y) ∙ length-append (nines x) (nines y)
 
--- ---- a line in two parts: at is the offset between them, n the count of 一 to 九 before it
+-- ---- a line in two parts: at is the place between them, n the count of 一 to 九 before it
 pub record Split (w : List Char) (at n : ℕ) : Type 0 where
   pub front : List Char
   pub rest : List Char
   pub whole : front ++ rest ≡ w
-  pub place : at ≡ 3 * length front
+  pub place : at ≡ length front
   pub count : n ≡ length (nines front)
 
 pub split_start : (w : List Char) → Split w 0 0
 split_start w = record { front = []; rest = w; whole = refl; place = refl; count = refl }
 
 -- the line's length
-long : (w : List Char) {line : List ℕ} {at n : ℕ} → line ≡ utf8 w → (s : Split w at n) → length line ≡ at + 3 * length s.rest
-long w e s = omega (arith, ap length e ∙ utf8_length w, ap length s.whole, length-append s.front s.rest, s.place)
+long : (w : List Char) {at n : ℕ} → (s : Split w at n) → length w ≡ at + length s.rest
+long w s = omega (arith, ap length s.whole, length-append s.front s.rest, s.place)
 
 -- the whole line before the place
-pub all_counted : (w : List Char) {line : List ℕ} {at n : ℕ} → line ≡ utf8 w → Split w at n → length line ≤ at → n ≡ length (nines w)
-all_counted w {n = n} e s h = go s.rest refl
+pub all_counted : (w : List Char) {at n : ℕ} → Split w at n → length w ≤ at → n ≡ length (nines w)
+all_counted w {n = n} s h = go s.rest refl
   where
     go : (y : List Char) → s.rest ≡ y → n ≡ length (nines w)
     go [] q = s.count ∙ ap (λ (v : List Char). length (nines v)) (sym (append-nil s.front) ∙ ap (λ (y : List Char). s.front ++ y) (sym q) ∙ s.whole)
-    go (c ∷ y) q = absurd (omega (arith, long w e s, ap length q))
+    go (c ∷ y) q = absurd (omega (arith, long w s, ap length q))
 
 -- one character more before the place
-pub split_right : (w : List Char) {line : List ℕ} {at n k : ℕ} {g : Glyph} → line ≡ utf8 w → Split w at n → at < length line → g ≡ glyph_at (drop at line)
-    → k ≡ flag (is_weighed g) → Split w (at + 3) (n + k)
+pub split_right : (w : List Char) {line : List ℕ} {at n k : ℕ} {g : Glyph} → line ≡ utf8 w → Split w at n → at < length w → g ≡ glyph_at (drop (3 * at) line)
+    → k ≡ flag (is_weighed g) → Split w (at + 1) (n + k)
 split_right w {line} {at} {n} {k} {g} e s h q f = go s.rest refl
   where
-    go : (y : List Char) → s.rest ≡ y → Split w (at + 3) (n + k)
-    go [] p = absurd (omega (arith, long w e s, ap length p))
+    go : (y : List Char) → s.rest ≡ y → Split w (at + 1) (n + k)
+    go [] p = absurd (omega (arith, long w s, ap length p))
     go (c ∷ y) p =
         let whole : s.front ++ (c ∷ y) ≡ w = ap (λ (z : List Char). s.front ++ z) (sym p) ∙ s.whole in
-        let is : g ≡ glyph c = glyph_behind s.front c y (e ∙ ap utf8 (sym whole)) s.place q in
+        let is : g ≡ glyph c = glyph_behind s.front c y (e ∙ ap utf8 (sym whole)) (omega (arith, s.place)) q in
         record {
           front = s.front ++ (c ∷ []);
           rest = y;
@@ -94,10 +94,9 @@ split_right w {line} {at} {n} {k} {g} e s h q f = go s.rest refl
 -- ---- one character less before the place
 pub record Left (w : List Char) (line : List ℕ) (at n : ℕ) (rest : List Char) : Type 0 where
   pub char : Char
-  pub room : 3 ≤ at
-  pub there : {g : Glyph} → g ≡ glyph_at (drop (at - 3) line) → g ≡ glyph char
+  pub there : {g : Glyph} → g ≡ glyph_at (drop (3 * (at - 1)) line) → g ≡ glyph char
   pub fewer : flag (is_weighed (glyph char)) ≤ n
-  pub split : Split w (at - 3) (n - flag (is_weighed (glyph char)))
+  pub split : Split w (at - 1) (n - flag (is_weighed (glyph char)))
   pub behind : split.rest ≡ char ∷ rest
 
 last_char : (x : List Char) → 0 < length x → (y : List Char) × (c : Char) × (x ≡ y ++ (c ∷ []))
@@ -111,11 +110,10 @@ split_left w {line} {at} {n} e s h =
     let whole : x ++ (c ∷ s.rest) ≡ w = sym (append_snoc x c s.rest) ∙ ap (λ (z : List Char). z ++ s.rest) (sym q) ∙ s.whole in
     let len : length s.front ≡ length x + 1 = ap length q ∙ length-append x (c ∷ []) in
     let more : n ≡ length (nines x) + flag (is_weighed (glyph c)) = omega (arith, s.count, ap (λ (z : List Char). length (nines z)) q, count_append x (c ∷ []), one_more_lem c []) in
-    let place : at - 3 ≡ 3 * length x = omega (arith, s.place, len) in
+    let place : at - 1 ≡ length x = omega (arith, s.place, len) in
     record {
       char = c;
-      room = omega (arith, s.place, len);
-      there = glyph_behind x c s.rest (e ∙ ap utf8 (sym whole)) place;
+      there = glyph_behind x c s.rest (e ∙ ap utf8 (sym whole)) (omega (arith, place));
       fewer = omega (arith, more);
       split = record { front = x; rest = c ∷ s.rest; whole = whole; place = place; count = omega (arith, more) };
       behind = refl;

@@ -1,6 +1,6 @@
 -- What the way over the line from the right stores, step by step, for the proofs of the code.
 -- In order: bytes stored before bytes; one step of the way.
-use Prim.Native.Nat.{ℕ, suc, ◌+◌, ◌*◌, ◌-◌, ◌≤◌, ◌<◌}
+use Prim.Native.Nat.{ℕ, suc, ◌+◌, ◌*◌, ◌-◌, ◌/◌, ◌≤◌, ◌<◌}
 use mathlib.Core.Path.{◌≡◌, refl, sym, ap, ◌∙◌}
 use mathlib.Core.Bool.{Bool, true, false, cond}
 use mathlib.Core.List.{List, [], ◌∷◌, ◌++◌, append-nil}
@@ -44,26 +44,26 @@ stored_if false s k n ks h = let e : k - 0 ≡ k = omega arith in rw e
 abbrev behind_all : List Char → Units
 behind_all w = start (last_unit w)
 
--- out was s; now the weights of the 一 to 九 behind the offset at are stored, from the k-th on
+-- out was s; now the weights of the 一 to 九 behind the place at are stored, from the k-th on
 pub record Walked (w : List Char) (s out : List ℕ) (units : Units) (at k : ℕ) : Type 0 where
   pub split : Split w at k
   pub found_units : units ≡ back capped split.rest (behind_all w)
   pub output : out ≡ sets s (8 * k) (weights_bytes (found capped split.rest (behind_all w)))
 
-pub walk_start : (w : List Char) {line s : List ℕ} {k u : ℕ} → line ≡ utf8 w → k ≡ length (nines w) → u ≡ last_unit w → Walked w s s (record { digit = u; member = 1 }) (length line) k
+pub walk_start : (w : List Char) {line s : List ℕ} {k u : ℕ} → line ≡ utf8 w → k ≡ length (nines w) → u ≡ last_unit w → Walked w s s (record { digit = u; member = 1 }) (length line / 3) k
 walk_start w e h q = record {
-  split = record { front = w; rest = []; whole = append-nil w; place = ap length e ∙ utf8_length w; count = h };
+  split = record { front = w; rest = []; whole = append-nil w; place = omega (arith, ap length e ∙ utf8_length w); count = h };
   found_units = rw q;
   output = refl;
 }
 
 pub walk_step : (w : List Char) {line s out next : List ℕ} {units on : Units} {at k n : ℕ} {g : Glyph} → line ≡ utf8 w → Walked w s out units at k → 0 < at
-    → g ≡ glyph_at (drop (at - 3) line) → n ≡ flag (is_weighed g)
+    → g ≡ glyph_at (drop (3 * (at - 1)) line) → n ≡ flag (is_weighed g)
     → next ≡ cond (is_weighed g) (sets out (8 * (k - n)) (bytes_of 8 units.digit)) out → on ≡ before capped units g
-    → Walked w s next on (at - 3) (k - n)
+    → Walked w s next on (at - 1) (k - n)
 walk_step w {line} {s} {out} {next} {units} {on} {at} {k} {n} {g} e v h q f o u = go (split_left w e v.split h)
   where
-    go : Left w line at k v.split.rest → Walked w s next on (at - 3) (k - n)
+    go : Left w line at k v.split.rest → Walked w s next on (at - 1) (k - n)
     go l =
         let is : g ≡ glyph l.char = l.there q in
         let m : n ≡ flag (is_weighed (glyph l.char)) = f ∙ ap (λ (x : Glyph). flag (is_weighed x)) is in
@@ -75,10 +75,7 @@ walk_step w {line} {s} {out} {next} {units} {on} {at} {k} {n} {g} e v h q f o u 
 
 -- what a step asks for
 module _ (w : List Char) {line s out : List ℕ} {units : Units} {at k : ℕ} (e : line ≡ utf8 w) (v : Walked w s out units at k) (h : 0 < at) where
-  pub step_back : 3 ≤ at
-  step_back = (split_left w e v.split h).room
-
-  pub step_counts : {n : ℕ} {g : Glyph} → g ≡ glyph_at (drop (at - 3) line) → n ≡ flag (is_weighed g) → n ≤ k
+  pub step_counts : {n : ℕ} {g : Glyph} → g ≡ glyph_at (drop (3 * (at - 1)) line) → n ≡ flag (is_weighed g) → n ≤ k
   step_counts q f =
       let l = split_left w e v.split h in
       omega (arith, f, ap (λ (x : Glyph). flag (is_weighed x)) (l.there q), l.fewer)

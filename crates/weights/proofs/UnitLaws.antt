@@ -1,38 +1,27 @@
 -- What a character is worth to the way over the line (`specs/Walk.antt`), case by case, for the proofs of the code.
-use Prim.Native.Nat.{ℕ, ◌*◌, ◌≤◌, ◌<◌}
-use mathlib.Core.Path.{◌≡◌, refl, sym, ap, ◌∙◌}
-use mathlib.Core.Bool.{Bool, true, false, cond}
-use mathlib.Core.List.{List}
+use Prim.Native.Nat.{ℕ, ◌*◌, ◌≤◌}
+use mathlib.Core.Path.{◌≡◌, refl, ap, ◌∙◌}
+use mathlib.Core.Bool.{Bool, true, false}
 use native.Mathlib.Omega.{arith}
-use borrow.Author.Tests.{le-leb, lt-leb}
+use Rattle.std.specs.Int.{from_bool}
 use Rattle.fields.specs.Flag.{flag}
 use Rattle.numeral.specs.declared.Glyph.{Glyph}
 use Rattle.numeral.specs.Walk.{capped}
 use Rattle.weights.specs.declared.units.Units.{Units}
-use Rattle.weights.specs.Walk.{is_weighed, before, after_large, unit_of_two}
+use Rattle.weights.specs.Walk.{is_weighed, before, after_large}
 
--- ---- 1 for one of 一 to 九
-pub nine_one : {g : Glyph} (v : ℕ) → g ≡ Glyph.Digit v → 1 ≤ v → 1 ≡ flag (is_weighed g)
-nine_one v e h = rw (e, le-leb 1 v h)
+-- ---- anything but a digit
+pub not_digit : (g : Glyph) → ((v : ℕ) → g ≡ Glyph.Digit v → ⊥) → false ≡ is_weighed g
+not_digit (Glyph.Digit v) h = absurd (h v refl)
+not_digit (Glyph.Ten v) h = refl
+not_digit (Glyph.Large v) h = refl
+not_digit Glyph.Other h = refl
+not_digit Glyph.End h = refl
 
-pub zero_none : {g : Glyph} (v : ℕ) → g ≡ Glyph.Digit v → v < 1 → 0 ≡ flag (is_weighed g)
-zero_none v e h = rw (e, lt-leb 1 v h)
-
--- what is there after a weight was stored or not
-module _ (b : Bool) {n : ℕ} (e : n ≡ flag b) (x y : List ℕ) where
-  pub stored_one : n ≡ 1 → {t : List ℕ} → t ≡ x → t ≡ cond b x y
-  stored_one h q = q ∙ go b e
-    where
-      go : (t : Bool) → n ≡ flag t → x ≡ cond t x y
-      go true i = refl
-      go false i = absurd (omega arith)
-
-  pub stored_none : (n ≡ 1 → ⊥) → y ≡ cond b x y
-  stored_none h = go b e
-    where
-      go : (t : Bool) → n ≡ flag t → y ≡ cond t x y
-      go true i = absurd (h i)
-      go false i = refl
+-- the count of one character
+pub counted_one : {b d : Bool} {n : ℕ} → b ≡ d → n ≡ from_bool b → (n ≡ flag d) × (n ≤ 1)
+counted_one {b = true} {n = n} e q = let one : n ≡ 1 = q in (one ∙ ap flag e, omega arith)
+counted_one {b = false} {n = n} e q = let none : n ≡ 0 = q in (none ∙ ap flag e, omega arith)
 
 -- ---- one character on
 module _ (u : Units) {g : Glyph} {n : ℕ} where
@@ -46,17 +35,9 @@ pub before_large : (u : Units) {g : Glyph} (v : ℕ) → g ≡ Glyph.Large v →
 before_large u v e = rw e
 
 -- ---- the last of two characters
-module _ (a b : Glyph) {k : ℕ} (e : k ≡ flag (is_weighed b)) where
-  pub not_lone : k ≡ 0 → 1 ≡ unit_of_two a b
-  not_lone h = go (is_weighed b) e
-    where
-      go : (t : Bool) → k ≡ flag t → 1 ≡ cond t (after_large a) 1
-      go true q = absurd (omega arith)
-      go false q = refl
-
-  pub lone_after : (k ≡ 0 → ⊥) → {f : Glyph} → a ≡ f → after_large f ≡ unit_of_two a b
-  lone_after h {f} i = go (is_weighed b) e
-    where
-      go : (t : Bool) → k ≡ flag t → after_large f ≡ cond t (after_large a) 1
-      go true q = ap after_large (sym i)
-      go false q = absurd (h q)
+pub not_large : (g : Glyph) → ((v : ℕ) → g ≡ Glyph.Large v → ⊥) → 1 ≡ after_large g
+not_large (Glyph.Digit v) h = refl
+not_large (Glyph.Ten v) h = refl
+not_large (Glyph.Large v) h = absurd (h v refl)
+not_large Glyph.Other h = refl
+not_large Glyph.End h = refl

@@ -14,14 +14,12 @@ use borrow.Author.Tests.{lt-ltb, le-ltb}
 use Rattle.text.specs.Text.{chars, well_formed, encodes}
 use Rattle.text.specs.Line.{line_check}
 use Rattle.text.specs.declared.Offset.{Offset}
-use Rattle.text.specs.declared.LineCheck.{LineCheck}
 use Rattle.text.proofs.TextLaws.{well_formed_split}
 use Rattle.whole.specs.Whole.{TOP}
 use Rattle.grammar.specs.Plain.{Char, Large, digit, ten, large, 万, 億, 兆, digit_value, large_value, utf8}
 use Rattle.grammar.specs.Grammar.{plainly, Reading, division_value}
 use Rattle.table_grammar.proofs.Readings.{same_division}
 use Rattle.table_grammar.proofs.Tests.{true_le}
-use Rattle.numeral.specs.declared.Field.{Field}
 use Rattle.numeral.specs.Numeral.{numeral_of}
 use Rattle.numeral.specs.Field.{plain_line, plain_field, checked, field_of}
 use Rattle.numeral.specs.Walk.{capped, glyph}
@@ -29,13 +27,16 @@ use Rattle.numeral.proofs.OneNumber.{reading_value, numeral_of_lem}
 use Rattle.numeral.proofs.AnswerLaws.{yes_of, no_of}
 use Rattle.numeral.proofs.FieldLaws.{line_plain}
 use Rattle.weights.specs.declared.units.Units.{Units}
-use Rattle.weights.specs.declared.Weighed.{Weighed}
-use Rattle.weights.specs.declared.Weighed.TheVariants.{Count, AboveTop, TooShort, IllFormed, TooLong}
 use Rattle.weights.specs.Weights.{is_nine, nines, weights, sum}
 use Rattle.weights.specs.Weighed.{value_weights, char_weights, plain_weights, line_weights, weighed, weigh, weights_bytes, stored, output}
 use Rattle.weights.specs.Walk.{is_weighed, before, back, found, start, after_large, last_unit}
 use Rattle.weights.proofs.WrongDigit.{numeral_value, one_weight_each}
 use Rattle.weights.proofs.WalkLaws.{exact, found_weights}
+use Rattle.std.specs.Prelude.{Some, None, Result, Ok, Err}
+use Rattle.std.specs.Prelude as std
+use Rattle.numeral.specs.declared.FieldRefusal.{FieldRefusal}
+use Rattle.text.specs.declared.LineRefusal.{LineRefusal}
+use Rattle.weights.specs.declared.WeighRefusal.{WeighRefusal}
 
 -- ---- the weights of a numeral, by any reading; and of any other row of characters
 pub by_reading : (w : List Char) (r : Reading w) → char_weights w ≡ weights r.division
@@ -148,63 +149,57 @@ line_row : (line : List ℕ) (w : List Char) → well_formed line ≡ true → p
 unfolding utf8
 line_row line w f e = well_formed_split line f ∙ ap encodes (line_plain (chars line) w e)
 
-pub is_numeral : (line : List ℕ) (v : ℕ) → field_of line ≡ Field.Number v → Numeral line
+pub is_numeral : (line : List ℕ) (v : ℕ) → field_of line ≡ Ok (Some v) → Numeral line
 unfolding field_of
 is_numeral line v h = go (well_formed line) refl (leb (length (chars line)) 256) _ _ _ h
   where
-    of_row : well_formed line ≡ true → (o : Option (List Char)) → plain_line (chars line) ≡ o → plain_field o ≡ Field.Number v → Numeral line
-    of_row f none e k = let z : ◌≡◌ {A = ℕ} 0 1 = cc in absurd (omega arith)
+    of_row : well_formed line ≡ true → (o : Option (List Char)) → plain_line (chars line) ≡ o → plain_field o ≡ Ok (Some v) → Numeral line
+    of_row f none e k = absurd cc
     of_row f (some w) e k =
         let (q, l) = (yes_of (numeral_of w) v).0 k in
         let (r, i) = (numeral_of_lem w v).0 q in
         record { row = w; bytes = line_row line w f e; reading = r; within = omega (arith, i); plain = e }
 
-    go : (t : Bool) → well_formed line ≡ t → (s : Bool) (n : ℕ) (y z : Offset) → checked (cond t (cond s (LineCheck.Chars n) (LineCheck.TooLong y)) (LineCheck.IllFormed z)) (plain_field (plain_line (chars line))) ≡ Field.Number v → Numeral line
-    go false f s n y z k = let z : ◌≡◌ {A = ℕ} 0 1 = cc in absurd (omega arith)
-    go true f false n y z k = let z : ◌≡◌ {A = ℕ} 0 1 = cc in absurd (omega arith)
+    go : (t : Bool) → well_formed line ≡ t → (s : Bool) (n : ℕ) (y z : Offset) → checked (cond t (cond s (Ok n) (Err (LineRefusal.TooLong y))) (Err (LineRefusal.IllFormed z))) (plain_field (plain_line (chars line))) ≡ Ok (Some v) → Numeral line
+    go false f s n y z k = absurd cc
+    go true f false n y z k = absurd cc
     go true f true n y z k = of_row f (plain_line (chars line)) refl k
 
-no_weights : (line : List ℕ) → field_of line ≡ Field.NotANumber → line_weights line ≡ []
+no_weights : (line : List ℕ) → field_of line ≡ Ok None → line_weights line ≡ []
 unfolding field_of
 no_weights line h = go (plain_line (chars line)) (unchecked (line_check line) _ h)
   where
-    unchecked : (c : LineCheck) (f : Field) → checked c f ≡ Field.NotANumber → f ≡ Field.NotANumber
-    unchecked (LineCheck.Chars n) f k = k
-    unchecked (LineCheck.IllFormed at) f k = let z : ◌≡◌ {A = ℕ} 0 1 = cc in absurd (omega arith)
-    unchecked (LineCheck.TooLong at) f k = let z : ◌≡◌ {A = ℕ} 0 1 = cc in absurd (omega arith)
+    unchecked : (c : Result ℕ LineRefusal) (f : Result (std.Option ℕ) FieldRefusal) → checked c f ≡ Ok None → f ≡ Ok None
+    unchecked (Ok n) f k = k
+    unchecked (Err (LineRefusal.IllFormed at)) f k = absurd cc
+    unchecked (Err (LineRefusal.TooLong at)) f k = absurd cc
 
-    go : (o : Option (List Char)) → plain_field o ≡ Field.NotANumber → plain_weights o ≡ []
+    go : (o : Option (List Char)) → plain_field o ≡ Ok None → plain_weights o ≡ []
     go none k = refl
     go (some w) k = without_value w ((no_of (numeral_of w)).0 k)
 
 -- ---- the answer r, and what is in the output s afterwards
-abbrev pub Answers : List ℕ → List ℕ → Weighed → List ℕ → Type 0
+abbrev pub Answers : List ℕ → List ℕ → Result ℕ WeighRefusal → List ℕ → Type 0
 Answers line s r t = (r ≡ weigh line (length s)) × (t ≡ output line s)
 
-answers : (line s : List ℕ) (r : Weighed) → r ≡ weigh line (length s) → Answers line s r (stored (line_weights line) s r)
+answers : (line s : List ℕ) (r : Result ℕ WeighRefusal) → r ≡ weigh line (length s) → Answers line s r (stored (line_weights line) s r)
 answers line s r e = (e, ap (stored (line_weights line) s) e)
 
-pub by_field : (line s : List ℕ) {f : Field} → field_of line ≡ f → weighed f (length (line_weights line)) (length s) ≡ weigh line (length s)
+pub by_field : (line s : List ℕ) {f : Result (std.Option ℕ) FieldRefusal} → field_of line ≡ f → weighed f (length (line_weights line)) (length s) ≡ weigh line (length s)
 unfolding weigh
 by_field line s e = rw e
 
-module _ (line s : List ℕ) {f : Field} (is : f ≡ field_of line) where
-  pub refused_above : f ≡ Field.AboveTop → Answers line s AboveTop s
-  refused_above q = answers line s AboveTop (by_field line s (sym is ∙ q))
+module _ (line s : List ℕ) {f : Result (std.Option ℕ) FieldRefusal} (is : f ≡ field_of line) where
+  pub refused : (r : FieldRefusal) → f ≡ Err r → Answers line s (Err (WeighRefusal.Field r)) s
+  refused r q = answers line s (Err (WeighRefusal.Field r)) (by_field line s (sym is ∙ q))
 
-  pub refused_form : (at : Offset) → f ≡ Field.IllFormed at → Answers line s (IllFormed at) s
-  refused_form at q = answers line s (IllFormed at) (by_field line s (sym is ∙ q))
-
-  pub refused_length : (at : Offset) → f ≡ Field.TooLong at → Answers line s (TooLong at) s
-  refused_length at q = answers line s (TooLong at) (by_field line s (sym is ∙ q))
-
-  pub no_numeral : f ≡ Field.NotANumber → Answers line s (Count 0) s
+  pub no_numeral : f ≡ Ok None → Answers line s (Ok 0) s
   no_numeral q =
-      let e : Count 0 ≡ weigh line (length s) = by_field line s (sym is ∙ q) in
+      let e : (Ok 0) ≡ weigh line (length s) = by_field line s (sym is ∙ q) in
       (e, ap (λ (ks : List ℕ). sets s 0 (weights_bytes ks)) (sym (no_weights line (sym is ∙ q))) ∙ ap (stored (line_weights line) s) e)
 
 -- a numeral up to TOP, of n 一 to 九
-module _ (line s : List ℕ) (v : ℕ) (is : field_of line ≡ Field.Number v) {n : ℕ} (count : (w : List Char) → line ≡ utf8 w → n ≡ length (nines w)) where
+module _ (line s : List ℕ) (v : ℕ) (is : field_of line ≡ Ok (Some v)) {n : ℕ} (count : (w : List Char) → line ≡ utf8 w → n ≡ length (nines w)) where
   pub row_there : (w : List Char) × (line ≡ utf8 w) × (n ≡ length (nines w))
   row_there = let m = is_numeral line v is in (m.row, m.bytes, count m.row m.bytes)
 
@@ -216,14 +211,14 @@ module _ (line s : List ℕ) (v : ℕ) (is : field_of line ≡ Field.Number v) {
       let m = is_numeral line v is in
       count m.row m.bytes ∙ sym (one_weight_each m.row m.reading) ∙ ap length (sym (by_reading m.row m.reading) ∙ weights_are)
 
-  pub too_short : length s / 8 < n → Answers line s TooShort s
+  pub too_short : length s / 8 < n → Answers line s (Err WeighRefusal.TooShort) s
   too_short h =
-      answers line s TooShort
-      (ap (λ (b : Bool). cond b TooShort (Count (length (line_weights line)))) (sym (lt-ltb (length s) (8 * length (line_weights line)) (omega (arith, as_many)))) ∙ by_field line s is)
+      answers line s (Err WeighRefusal.TooShort)
+      (ap (λ (b : Bool). cond b (Err WeighRefusal.TooShort) (Ok (length (line_weights line)))) (sym (lt-ltb (length s) (8 * length (line_weights line)) (omega (arith, as_many)))) ∙ by_field line s is)
 
-  pub all_written : n ≤ length s / 8 → (t : List ℕ) → ((w : List Char) → line ≡ utf8 w → t ≡ sets s 0 (weights_bytes (found capped w (start (last_unit w))))) → Answers line s (Count n) t
+  pub all_written : n ≤ length s / 8 → (t : List ℕ) → ((w : List Char) → line ≡ utf8 w → t ≡ sets s 0 (weights_bytes (found capped w (start (last_unit w))))) → Answers line s (Ok n) t
   all_written h t o =
       let m = is_numeral line v is in
-      let e : Count n ≡ weigh line (length s) =
-      ap Count as_many ∙ ap (λ (b : Bool). cond b TooShort (Count (length (line_weights line)))) (sym (le-ltb (length s) (8 * length (line_weights line)) (omega (arith, as_many)))) ∙ by_field line s is in
+      let e : (Ok n) ≡ weigh line (length s) =
+      ap Ok as_many ∙ ap (λ (b : Bool). cond b (Err WeighRefusal.TooShort) (Ok (length (line_weights line)))) (sym (le-ltb (length s) (8 * length (line_weights line)) (omega (arith, as_many)))) ∙ by_field line s is in
       (e, o m.row m.bytes ∙ ap (λ (ks : List ℕ). sets s 0 (weights_bytes ks)) (capped_weights m.row m.reading m.within ∙ weights_are) ∙ ap (stored (line_weights line) s) e)

@@ -4,19 +4,19 @@
 --     weigh line room    the answer for the line, where the output has room bytes
 --     output line s      what is in the output s afterwards
 --     Assumes nothing.
-use Rattle.std.specs.Prelude.{ℕ, ◌*◌, ◌≡◌, refl, cond, List, [], ◌∷◌, ◌++◌, ltb, length}
+use Rattle.std.specs.Prelude.{ℕ, ◌*◌, ◌≡◌, refl, cond, List, [], ◌∷◌, ◌++◌, ltb, length, Some, None, Result, Ok, Err}
 use Rattle.std.proofs.Math.Option.{Option, none, some}
 use Rattle.std.proofs.lemmas.List.Edits.{sets}
 use Rattle.text.specs.Text.{chars}
 use Rattle.fields.specs.Fields.{bytes_of}
 use Rattle.grammar.specs.Plain.{Char}
-use Rattle.numeral.specs.declared.Field.{Field}
 use Rattle.numeral.specs.Numeral.{numeral_of}
 use Rattle.numeral.specs.Field.{plain_line, field_of}
 use Rattle.numeral.proofs.OneNumber.{numeral_of_lem}
-use Rattle.weights.specs.declared.Weighed.{Weighed}
-use Rattle.weights.specs.declared.Weighed.TheVariants.{Count, AboveTop, TooShort, IllFormed, TooLong}
 use Rattle.weights.specs.Weights.{weights}
+use Rattle.std.specs.Prelude as std
+use Rattle.numeral.specs.declared.FieldRefusal.{FieldRefusal}
+use Rattle.weights.specs.declared.WeighRefusal.{WeighRefusal}
 
 -- ---- the weights of a line
 
@@ -40,18 +40,16 @@ line_weights line = plain_weights (plain_line (chars line))
 -- ---- the answer
 
 -- "The weights are written as u64", eight bytes each; "an output too short is 8"
-abbrev pub counted : ℕ → ℕ → Weighed
-counted n room = cond (ltb room (8 * n)) TooShort (Count n)
+abbrev pub counted : ℕ → ℕ → Result ℕ WeighRefusal
+counted n room = cond (ltb room (8 * n)) (Err WeighRefusal.TooShort) (Ok n)
 
 -- by what S-4 says of the line: "the answer is their count, 0 for a line that is no numeral; a numeral above TOP is 7 at place 0, and an output too short is 8, after it."
-abbrev pub weighed : Field → ℕ → ℕ → Weighed
-weighed (Field.Number v) n room = counted n room
-weighed Field.NotANumber n room = Count 0
-weighed Field.AboveTop n room = AboveTop
-weighed (Field.IllFormed at) n room = IllFormed at
-weighed (Field.TooLong at) n room = TooLong at
+abbrev pub weighed : Result (std.Option ℕ) FieldRefusal → ℕ → ℕ → Result ℕ WeighRefusal
+weighed (Ok (Some v)) n room = counted n room
+weighed (Ok None) n room = Ok 0
+weighed (Err r) n room = Err (WeighRefusal.Field r)
 
-unfoldable pub weigh : List ℕ → ℕ → Weighed
+unfoldable pub weigh : List ℕ → ℕ → Result ℕ WeighRefusal
 weigh line room = weighed (field_of line) (length (line_weights line)) room
 
 -- ---- the output
@@ -62,12 +60,9 @@ weights_bytes [] = []
 weights_bytes (k ∷ ks) = bytes_of 8 k ++ weights_bytes ks
 
 -- the weights at the front of the output, or the output as it was
-abbrev pub stored : List ℕ → List ℕ → Weighed → List ℕ
-stored ks s (Count n) = sets s 0 (weights_bytes ks)
-stored ks s AboveTop = s
-stored ks s TooShort = s
-stored ks s (IllFormed at) = s
-stored ks s (TooLong at) = s
+abbrev pub stored : List ℕ → List ℕ → Result ℕ WeighRefusal → List ℕ
+stored ks s (Ok n) = sets s 0 (weights_bytes ks)
+stored ks s (Err r) = s
 
 abbrev pub output : List ℕ → List ℕ → List ℕ
 output line s = stored (line_weights line) s (weigh line (length s))

@@ -4,33 +4,37 @@
 
 pub mod units; // units.rt: what a digit weighs by what stands behind it
 
-ghost use Rattle.std.specs.Prelude.{◌≡◌, cond, List, ℕ, ◌+◌, ◌*◌, ◌≤◌, length};
+ghost use Rattle.std.specs.Prelude.{◌≡◌, cond, List, ℕ, ◌+◌, ◌*◌, ◌≤◌, length, Some, Ok};
 ghost use Rattle.std.proofs.lemmas.List.Edits.{sets};
 ghost use Rattle.fields.specs.Fields.{bytes_of};
 ghost use Rattle.fields.specs.Flag.{flag};
 ghost use Rattle.grammar.specs.Plain.{Char, utf8};
-ghost use Rattle.numeral.specs.declared.Field.TheVariants as Field;
 ghost use Rattle.numeral.specs.Field.{field_of};
 ghost use Rattle.numeral.specs.Walk.{capped};
 ghost use Rattle.weights.specs.Weights.{nines};
 ghost use Rattle.weights.specs.Walk.{is_weighed, found, start, last_unit};
 ghost use Rattle.weights.specs.Weighed.{weights_bytes, weigh, output};
+ghost use Rattle.weights.specs.declared.WeighRefusal.TheVariants as WeighRefusal;
 
 use crate::units::{Units, last_unit, weighed};
 use fields::write::put_u64;
 use numeral::plain::{SIZE, glyph_at};
-use numeral::{Field, Glyph};
-use text::Offset;
+use numeral::{FieldRefusal, Glyph};
 
 // What weighing the digits of a line answers: so many weights are written; refusal 7, a numeral above TOP; refusal 8, an output too short; refusals 2 and 3 of the
 // line, with the offset.
 #[derive(Clone, Copy)]
-pub enum Weighed {
-    Count(usize),
-    AboveTop,
+pub enum WeighRefusal {
+    Field(FieldRefusal),
     TooShort,
-    IllFormed(Offset),
-    TooLong(Offset),
+}
+
+impl From<FieldRefusal> for WeighRefusal {
+    ghost from_gives = { λ e r. r ≡ WeighRefusal.Field e };
+
+    fn from(e: FieldRefusal) -> WeighRefusal {
+        WeighRefusal::Field(e)
+    }
 }
 
 // How many 一 to 九 a line of table characters has.
@@ -38,10 +42,8 @@ fn count_digits(line: &[u8]) -> usize
     ensures { (w : List Char) → line.now ≡ utf8 w → result ≡ length (nines w) }
 {
     let mut n = 0;
-    let mut at = 0;
-    while at < line.len() {
-        n += weighed(glyph_at(line, at));
-        at += SIZE;
+    for place in 0..line.len() / SIZE {
+        n += usize::from(weighed(glyph_at(line, SIZE * place)));
     }
     n
 }
@@ -52,7 +54,7 @@ fn put_weight(out: &mut [u8], at: usize, glyph: Glyph, weight: u64)
     ensures { out.new
         ≡ cond (is_weighed glyph) (sets out.old at (bytes_of 8 weight)) out.old }
 {
-    if weighed(glyph) == 1 {
+    if weighed(glyph) {
         put_u64(out, at, weight);
     }
 }
@@ -68,42 +70,36 @@ fn put_weights(line: &[u8], out: &mut [u8], count: usize)
         digit: last_unit(line),
         member: 1,
     };
-    let mut at = line.len();
     let mut k = count;
-    while at > 0 {
-        at -= SIZE;
-        let glyph = glyph_at(line, at);
-        k -= weighed(glyph);
+    for place in (0..line.len() / SIZE).rev() {
+        let glyph = glyph_at(line, SIZE * place);
+        k -= usize::from(weighed(glyph));
         put_weight(out, 8 * k, glyph, units.digit);
         units = units.before(glyph);
     }
 }
 
 // The answer for a numeral that is not above TOP.
-fn weigh_numeral(line: &[u8], out: &mut [u8]) -> Weighed
-    requires { (v : ℕ) × (field_of line.now ≡ Field.Number v) }
+fn weigh_numeral(line: &[u8], out: &mut [u8]) -> Result<usize, WeighRefusal>
+    requires { (v : ℕ) × (field_of line.now ≡ Ok (Some v)) }
     ensures answer { result ≡ weigh line.now (length out.old) }
     ensures after { out.new ≡ output line.now out.old }
 {
     let count = count_digits(line);
     if out.len() / 8 < count {
-        return Weighed::TooShort;
+        return Err(WeighRefusal::TooShort);
     }
     put_weights(line, out, count);
-    Weighed::Count(count)
+    Ok(count)
 }
 
 // Writes the weights of a line's 一 to 九 at the front of the output, eight bytes each.
-pub fn weigh_digits(line: &[u8], out: &mut [u8]) -> Weighed
+pub fn weigh_digits(line: &[u8], out: &mut [u8]) -> Result<usize, WeighRefusal>
     ensures answer { result ≡ weigh line.now (length out.old) }
     ensures after { out.new ≡ output line.now out.old }
 {
-    let field = numeral::read::one_number(line);
-    match field {
-        Field::Number(_) => weigh_numeral(line, out),
-        Field::NotANumber => Weighed::Count(0),
-        Field::AboveTop => Weighed::AboveTop,
-        Field::IllFormed(at) => Weighed::IllFormed(at),
-        Field::TooLong(at) => Weighed::TooLong(at),
+    match numeral::read::one_number(line)? {
+        Some(_) => weigh_numeral(line, out),
+        None => Ok(0),
     }
 }

@@ -1,7 +1,6 @@
 // What a digit weighs by what stands behind it, on the way over the line from the right. The words of the contracts are those of specs/Walk.antt, with `capped` for
 // their products: zeros in front, which have no weight, may be many.
-ghost use Rattle.std.specs.Prelude.{◌≡◌, List, ◌≤◌};
-ghost use Rattle.fields.specs.Flag.{flag};
+ghost use Rattle.std.specs.Prelude.{◌≡◌, List};
 ghost use Rattle.grammar.specs.Plain.{Char, utf8};
 ghost use Rattle.numeral.specs.Walk.{capped};
 ghost use Rattle.weights.specs.Walk.{is_weighed, before, unit_of_two, last_unit};
@@ -17,16 +16,13 @@ pub struct Units {
     pub member: u64,
 }
 
-// 1 for one of 一 to 九, 0 for anything else.
-pub fn weighed(glyph: Glyph) -> usize
-    ensures { (result ≡ flag (is_weighed glyph)) × (result ≤ 1) }
+// Whether it is one of 一 to 九.
+pub fn weighed(glyph: Glyph) -> bool
+    ensures { result ≡ is_weighed glyph }
 {
     match glyph {
-        Glyph::Digit(d) => { if d >= 1 { 1 } else { 0 } }
-        Glyph::Ten(_) => 0,
-        Glyph::Large(_) => 0,
-        Glyph::Other => 0,
-        Glyph::End => 0,
+        Glyph::Digit(d) => d >= 1,
+        _ => false,
     }
 }
 
@@ -48,8 +44,7 @@ impl Units {
                 digit: n,
                 member: n,
             },
-            Glyph::Other => self,
-            Glyph::End => self,
+            Glyph::Other | Glyph::End => self,
         }
     }
 }
@@ -58,15 +53,12 @@ impl Units {
 fn unit_of_two(first: Glyph, last: Glyph) -> u64
     ensures { result ≡ unit_of_two first last }
 {
-    if weighed(last) == 0 {
+    if !weighed(last) {
         return 1;
     }
     match first {
         Glyph::Large(base) => base / 10,
-        Glyph::Digit(_) => 1,
-        Glyph::Ten(_) => 1,
-        Glyph::Other => 1,
-        Glyph::End => 1,
+        _ => 1,
     }
 }
 

@@ -5,16 +5,12 @@
 
 ghost use Rattle.std.specs.Prelude.{◌≤◌};
 
-use vectors::ROWS;
-use weights::Weighed;
+use numeral::FieldRefusal;
+use text::LineRefusal;
+use weights::WeighRefusal;
 
 fn main() {
-    let mut input = io::large_buffer();
-    let mut ends = [0usize; ROWS];
-    let rows = vectors::read_rows(&mut input, &mut ends);
-    for i in 0..rows {
-        show(vectors::row(&input, &ends, i));
-    }
+    vectors::each_row(|row| show(row));
 }
 
 fn show(line: &[u8]) {
@@ -34,14 +30,20 @@ fn weigh(line: &[u8], out: &mut [u8]) -> usize
 {
     let answer = weights::weigh_digits(line, out);
     match answer {
-        Weighed::Count(n) => {
+        Ok(n) => {
             vectors::say(b"weights ", n as u64);
             if n <= 258 { n } else { 0 }
         }
-        Weighed::AboveTop => refused(7, 0),
-        Weighed::TooShort => refused(8, 0),
-        Weighed::IllFormed(at) => refused(2, at.0 as u64),
-        Weighed::TooLong(at) => refused(3, at.0 as u64),
+        Err(WeighRefusal::Field(FieldRefusal::AboveTop)) => refused(7, 0),
+        Err(WeighRefusal::TooShort) => refused(8, 0),
+        Err(WeighRefusal::Field(FieldRefusal::Line(LineRefusal::IllFormed(at)))) => refused(
+            2,
+            at.0 as u64,
+        ),
+        Err(WeighRefusal::Field(FieldRefusal::Line(LineRefusal::TooLong(at)))) => refused(
+            3,
+            at.0 as u64,
+        ),
     }
 }
 
@@ -54,10 +56,8 @@ fn refused(number: u64, at: u64) -> usize
 
 // The weights that are there.
 fn list(out: &[u8]) {
-    let mut at = 0;
-    while at + 8 <= out.len() {
-        vectors::say(b" ", fields::u64_at(out, at));
-        at += 8;
+    for i in 0..out.len() / 8 {
+        vectors::say(b" ", fields::u64_at(out, 8 * i));
     }
 }
 

@@ -1,7 +1,7 @@
 -- Laws of `of_nat` (`specs/Whole.antt`), for this crate's proofs and its callers'. No contract cites this file.
 -- In order: the f64 of a whole number has its value; products and sums; comparison; casts and bits; no NaN, and no two with one f64.
 -- Assumes nothing.
-use Rattle.std.proofs.Common.{◌≡◌, ℕ, suc, ◌+◌, ◌*◌, ◌^◌, ◌<◌, ◌≤◌, Bool, true, false, not, ◌&&◌, ◌||◌, T, eqb, ltb, ℤ, pos, sym, refl, ap, ◌∙◌, subst, true≢false, le_trans, le_of_eq, lt_of_lt_of_le, mul-le-mul_right, mul_assoc, mul_comm, add-mul, mul-lt-mul_of_pos_right, mul-pos, mul-one, mul_right_comm, le_of_mul-le-mul_right, mul_left_comm, arith, lit<, le→leb, eqb→eq, ltb→lt, lt→ltb, w64, to_z, of_z, le-ltb, lt-ltb}
+use Rattle.std.proofs.Common.{◌≡◌, ℕ, suc, ◌+◌, ◌*◌, ◌^◌, ◌<◌, ◌≤◌, Bool, true, false, not, ◌&&◌, ◌||◌, T, eqb, ltb, ℤ, pos, sym, ap, ◌∙◌, subst, true≢false, le_trans, le_of_eq, lt_of_lt_of_le, mul-le-mul_right, mul_assoc, mul_comm, add-mul, mul-lt-mul_of_pos_right, mul-pos, mul-one, mul_right_comm, le_of_mul-le-mul_right, mul_left_comm, arith, lit<, le→leb, eqb→eq, ltb→lt, lt→ltb, w64, to_z, of_z, le-ltb, lt-ltb}
 use lib.Arith.{le→nltb}
 use lib.Ieee.{Float, nan, inf, fin, binary64, neg, up, down, round, of_int, mul, add, sum, lt, eq, le, in_float, in_signed, to_unsigned, to_signed, fits, of_bits, to_bits, is_nan, nan_bits}
 use lib.Ieee.Exact.{HasValue}

@@ -1,10 +1,13 @@
 -- What the functions of `whole` answer, case by case. Definitions only.
---     value n     a product or a sum n: the f64 of n, or Above where n is above TOP
+--     value n     a product or a sum n: the f64 of n, or that it is above TOP
+--     above_top   that a number is above TOP
 -- Assumes nothing.
-use Rattle.std.specs.Prelude.{ℕ, cond, nat_lt}
-use Rattle.whole.specs.declared.Bounded.{Bounded}
-use Rattle.whole.specs.declared.Bounded.TheVariants as Bounded
+use Rattle.std.specs.Prelude.{Float, ℕ, cond, nat_lt, Result, Ok, Err}
 use Rattle.whole.specs.Whole.{TOP, of_nat}
+use Rattle.whole.specs.declared.AboveTop.{AboveTop}
 
-abbrev pub value : ℕ → Bounded
-value n = cond (nat_lt TOP n) Bounded.Above (Bounded.Fits (of_nat n))
+abbrev pub above_top : AboveTop
+above_top = record {}
+
+abbrev pub value : ℕ → Result Float AboveTop
+value n = cond (nat_lt TOP n) (Err above_top) (Ok (of_nat n))

@@ -28,9 +28,7 @@ pub fn put_padded(out: &mut [u8], at: usize, len: usize, n: u64)
     ensures { out.new ≡ sets out.old at (padded len n) }
 {
     let mut rest = n;
-    let mut i = len;
-    while i > 0 {
-        i -= 1;
+    for i in (0..len).rev() {
         out[at + i] = (48 + rest % 10) as u8;
         rest = rest / 10;
     }

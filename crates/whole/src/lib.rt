@@ -10,31 +10,28 @@ ghost use Rattle.whole.specs.Answers.{value};
 // 01's TOP, 2 ^ 53 - 1: every whole number up to it is an f64.
 pub const TOP: u64 = 9007199254740991;
 
-// A product or a sum: the f64 itself, or the answer that it is above TOP (refusal 7).
+// A product or a sum is above TOP (refusal 7).
 #[derive(Clone, Copy)]
-pub enum Bounded {
-    Fits(f64),
-    Above,
-}
+pub struct AboveTop;
 
 // x, or that it is above TOP: exact also where x is a product or a sum that was rounded.
-fn fit(x: f64) -> Bounded
+fn fit(x: f64) -> Result<f64, AboveTop>
     ensures { (k : ℕ) → x ≡ of_nat k → result ≡ value k }
 {
     if x > exact_f64(TOP) {
-        Bounded::Above
+        Err(AboveTop)
     } else {
-        Bounded::Fits(x)
+        Ok(x)
     }
 }
 
-pub fn product(a: f64, b: f64) -> Bounded
+pub fn product(a: f64, b: f64) -> Result<f64, AboveTop>
     ensures { (m n : ℕ) → m ≤ TOP → n ≤ TOP → a ≡ of_nat m → b ≡ of_nat n → result ≡ value (m * n) }
 {
     fit(a * b)
 }
 
-pub fn sum(a: f64, b: f64) -> Bounded
+pub fn sum(a: f64, b: f64) -> Result<f64, AboveTop>
     ensures { (m n : ℕ) → m ≤ TOP → n ≤ TOP → a ≡ of_nat m → b ≡ of_nat n → result ≡ value (m + n) }
 {
     fit(a + b)

@@ -1,30 +1,22 @@
 // Runs vectors of `whole` and `whole::decimal` on both sides of their limits. `stdout` has the expected answers, worked out by hand and by IEEE 754.
-// The decimal text of n, and the newline that the line is filled with.
 #![tactic(auto)]
 
+use whole::AboveTop;
+
+// The decimal text of n, and the newline that the line is filled with.
 fn show(n: u64) {
     let mut line = [10u8; 21];
     let end = whole::decimal::put_decimal(&mut line, 0, n);
     io::write_all(1, &line[..end + 1]);
 }
 
-fn show_product(a: f64, b: f64) {
-    match whole::product(a, b) {
-        whole::Bounded::Fits(x) => {
+// A product or a sum.
+fn show_answer(answer: Result<f64, AboveTop>) {
+    match answer {
+        Ok(x) => {
             show(whole::whole_part(x));
         }
-        whole::Bounded::Above => {
-            io::write_all(1, b"above\n");
-        }
-    }
-}
-
-fn show_sum(a: f64, b: f64) {
-    match whole::sum(a, b) {
-        whole::Bounded::Fits(x) => {
-            show(whole::whole_part(x));
-        }
-        whole::Bounded::Above => {
+        Err(AboveTop) => {
             io::write_all(1, b"above\n");
         }
     }
@@ -54,10 +46,10 @@ fn texts() {
 
 fn main() {
     texts();
-    show_product(94906265.0, 94906265.0);
-    show_product(94906266.0, 94906266.0);
-    show_product(9007199254740991.0, 9007199254740991.0);
-    show_sum(9007199254740990.0, 1.0);
-    show_sum(9007199254740991.0, 1.0);
+    show_answer(whole::product(94906265.0, 94906265.0));
+    show_answer(whole::product(94906266.0, 94906266.0));
+    show_answer(whole::product(9007199254740991.0, 9007199254740991.0));
+    show_answer(whole::sum(9007199254740990.0, 1.0));
+    show_answer(whole::sum(9007199254740991.0, 1.0));
     casts();
 }

@@ -6,7 +6,7 @@ ghost use Rattle.std.specs.Prelude.{◌≡◌, ◌+◌, ◌*◌, ◌≤◌, ◌<
 ghost use Rattle.whole.specs.Whole.{TOP};
 ghost use Rattle.wide.specs.Numbers.{Parts, wide_of, wide, divided, exact_quotient};
 
-use whole::TOP;
+use whole::{AboveTop, TOP};
 
 // 2 ^ 55: where the upper part begins.
 const RADIX: u64 = 36028797018963968;
@@ -31,14 +31,6 @@ pub struct Wide {
 pub struct Division {
     pub quotient: Wide,
     pub rest: u64,
-}
-
-// A quotient that is whole, and at most TOP or above it; or one that is not whole.
-#[derive(Clone, Copy)]
-pub enum Quotient {
-    Whole(u64),
-    Above,
-    NotWhole,
 }
 
 // a * b by the products of their halves, and what these carry.
@@ -96,6 +88,7 @@ pub fn divide(x: Wide, d: u64) -> Division
     let mut rest = x.hi % d;
     let mut left = x.lo;
     let mut scale = RADIX;
+    // Kept as a while: the scale is what a turn divides by and what ends the loop; a range would count the five digits beside it.
     while 1 < scale {
         scale = scale / DIGIT;
         let next = rest * DIGIT + left / scale;
@@ -113,18 +106,18 @@ pub fn divide(x: Wide, d: u64) -> Division
 }
 
 // a * b / d, where that is whole.
-pub fn exact(a: u64, b: u64, d: u64) -> Quotient
+pub fn exact(a: u64, b: u64, d: u64) -> Result<Option<u64>, AboveTop>
     requires { (a ≤ TOP) × (b ≤ TOP) × (0 < d) × (d ≤ TOP) }
     ensures { result ≡ exact_quotient (a * b) d }
 {
     let by = divide(product(a, b), d);
     if 0 < by.rest {
-        return Quotient::NotWhole;
+        return Ok(None);
     }
     let whole = by.quotient;
     if fits(whole) {
-        Quotient::Whole(whole.lo)
+        Ok(Some(whole.lo))
     } else {
-        Quotient::Above
+        Err(AboveTop)
     }
 }

@@ -11,69 +11,71 @@ use lib.Seq.{length-sets}
 use borrow.Author.Tests.{ltb-false}
 use Rattle.text.specs.Text.{chars, well_formed}
 use Rattle.text.specs.Line.{line_check}
-use Rattle.text.specs.declared.LineCheck.{LineCheck}
 use Rattle.text.proofs.line.LineLaws.{checked_line}
 use Rattle.edge.specs.Write.{Put}
 use Rattle.grammar.specs.Plain.{Char}
 use Rattle.sheet_rows.proofs.CodeLaws.{put_read}
-use Rattle.worn.specs.declared.Worn.{Worn}
-use Rattle.worn.specs.declared.Worn.TheVariants.{Rows, NotOneMark, TooShort}
 use Rattle.worn.specs.Worn.{parts, worn_rows, worn_bytes, unless_none, finished, with_parts, worn_codes, checked, worn, line_rows, stored, output}
 use Rattle.worn.specs.Marked.{worn_text, WornAt}
 use Rattle.worn.specs.Tried.{AnswersRows}
 use Rattle.worn.proofs.PartLaws.{found_parts, no_parts}
+use Rattle.std.specs.Prelude.{Result, Ok, Err}
+use Rattle.text.specs.declared.LineRefusal.{LineRefusal}
+use Rattle.worn.specs.declared.WornRefusal.{WornRefusal}
 
 module _ (line s : List ℕ) where
   -- the answer r for a line that is refused neither 2 nor 3, and the output afterwards
-  abbrev pub Answers : Worn → List ℕ → Type 0
+  abbrev pub Answers : Result ℕ WornRefusal → List ℕ → Type 0
   Answers r u = (r ≡ worn_codes (chars line) (length s)) × (u ≡ stored (line_rows line) s r)
 
-  pub no_mark_answer : well_formed line ≡ true → ((x y : List Char) → line ≡ worn_text x y → ⊥) → Answers NotOneMark s
+  pub no_mark_answer : well_formed line ≡ true → ((x y : List Char) → line ≡ worn_text x y → ⊥) → Answers (Err WornRefusal.NotOneMark) s
   unfolding worn_codes
   no_mark_answer f h = (rw (no_parts line f h), refl)
 
-  pub rows_answer : {at : ℕ} (w : WornAt line at) {b t : List ℕ} {n : ℕ} → Put b t 0 n (worn_bytes (worn_rows w.x w.y)) → n ≤ length b → {r : Worn} {u : List ℕ} → AnswersRows (take n t) s r u → Answers r u
+  pub rows_answer : {at : ℕ} (w : WornAt line at) {b t : List ℕ} {n : ℕ} → Put b t 0 n (worn_bytes (worn_rows w.x w.y)) → n ≤ length b → {r : Result ℕ WornRefusal} {u : List ℕ} → AnswersRows (take n t) s r u → Answers r u
   unfolding worn_codes line_rows
   rows_answer w {b} put room a = let (e, o) = a (worn_rows w.x w.y) (put_read b _ put room) in (e ∙ rw (found_parts line w), o ∙ rw (found_parts line w))
 
   -- ---- the whole call
-  pub refused : {c d : LineCheck} → c ≡ d → c ≡ line_check line → (r : Worn) → ((w : Worn) → checked d w ≡ r) → stored (line_rows line) s r ≡ s → (r ≡ worn line (length s)) × (s ≡ output line s)
+  pub refused : {r : LineRefusal} → Err r ≡ line_check line → (Err (WornRefusal.Line r) ≡ worn line (length s)) × (s ≡ output line s)
   unfolding worn output
-  refused q e r k o = let told = sym (ap (λ (c : LineCheck). checked c (worn_codes (chars line) (length s))) (sym e ∙ q) ∙ k _) in (told, sym o ∙ ap (stored (line_rows line) s) told)
+  refused {r} e =
+      let told : Err (WornRefusal.Line r) ≡ worn line (length s) = ap (λ (c : Result ℕ LineRefusal). checked c (worn_codes (chars line) (length s))) e in
+      (told, ap (stored (line_rows line) s) told)
 
-  module _ {c : LineCheck} (n : ℕ) (q : c ≡ LineCheck.Chars n) (e : c ≡ line_check line) where
+  module _ (n : ℕ) (e : Ok n ≡ line_check line) where
     pub accepted : (well_formed line ≡ true) × (length (chars line) ≤ 256)
-    accepted = let (count, few, fine) = checked_line line n (sym e ∙ q) in (fine, rw count at few)
+    accepted = let (count, few, fine) = checked_line line n (sym e) in (fine, rw count at few)
 
-    pub answered : {r : Worn} {u : List ℕ} → Answers r u → (r ≡ worn line (length s)) × (u ≡ output line s)
+    pub answered : {r : Result ℕ WornRefusal} {u : List ℕ} → Answers r u → (r ≡ worn line (length s)) × (u ≡ output line s)
     unfolding worn output
-    answered a = let told = a.0 ∙ sym (ap (λ (c : LineCheck). checked c (worn_codes (chars line) (length s))) (sym e ∙ q)) in (told, a.1 ∙ ap (stored (line_rows line) s) told)
+    answered a = let told = a.0 ∙ ap (λ (c : Result ℕ LineRefusal). checked c (worn_codes (chars line) (length s))) e in (told, a.1 ∙ ap (stored (line_rows line) s) told)
 
 -- ---- for callers: rows that are stored have room
-finished_fit : (rs : List (Char × ℕ)) (room n : ℕ) → finished rs room ≡ Rows n → n ≤ room
+finished_fit : (rs : List (Char × ℕ)) (room n : ℕ) → finished rs room ≡ Ok n → n ≤ room
 unfolding finished
 finished_fit rs room n = go (ltb room (length (worn_bytes rs))) refl rs refl
   where
-    go : (b : Bool) → ltb room (length (worn_bytes rs)) ≡ b → (l : List (Char × ℕ)) → rs ≡ l → cond b TooShort (unless_none l) ≡ Rows n → n ≤ room
-    go true f l q e = let z : ◌≡◌ {A = ℕ} 0 1 = cc in absurd (omega arith)
-    go false f [] q e = let z : ◌≡◌ {A = ℕ} 0 1 = cc in absurd (omega arith)
+    go : (b : Bool) → ltb room (length (worn_bytes rs)) ≡ b → (l : List (Char × ℕ)) → rs ≡ l → cond b (Err WornRefusal.TooShort) (unless_none l) ≡ Ok n → n ≤ room
+    go true f l q e = absurd cc
+    go false f [] q e = absurd cc
     go false f (r ∷ l) q e =
         let size : length (worn_bytes (r ∷ l)) ≡ n = cc in
         omega (arith, size, ap (λ (l : List (Char × ℕ)). length (worn_bytes l)) q, ltb-false room (length (worn_bytes rs)) f)
 
-pub rows_fit : (line : List ℕ) (room n : ℕ) → worn line room ≡ Rows n → n ≤ room
+pub rows_fit : (line : List ℕ) (room n : ℕ) → worn line room ≡ Ok n → n ≤ room
 unfolding worn worn_codes
 rows_fit line room n = go (line_check line) (parts (chars line))
   where
-    go : (c : LineCheck) (o : Option (List Char × List Char)) → checked c (with_parts o room) ≡ Rows n → n ≤ room
-    go (LineCheck.IllFormed at) o e = let z : ◌≡◌ {A = ℕ} 0 1 = cc in absurd (omega arith)
-    go (LineCheck.TooLong at) o e = let z : ◌≡◌ {A = ℕ} 0 1 = cc in absurd (omega arith)
-    go (LineCheck.Chars k) none e = let z : ◌≡◌ {A = ℕ} 0 1 = cc in absurd (omega arith)
-    go (LineCheck.Chars k) (some p) e = finished_fit (worn_rows p.0 p.1) room n e
+    go : (c : Result ℕ LineRefusal) (o : Option (List Char × List Char)) → checked c (with_parts o room) ≡ Ok n → n ≤ room
+    go (Err (LineRefusal.IllFormed at)) o e = absurd cc
+    go (Err (LineRefusal.TooLong at)) o e = absurd cc
+    go (Ok k) none e = absurd cc
+    go (Ok k) (some p) e = finished_fit (worn_rows p.0 p.1) room n e
 
-pub rows_held : (line s : List ℕ) {t : List ℕ} (n : ℕ) {r : Worn} → r ≡ Rows n → (r ≡ worn line (length s)) × (t ≡ output line s) → n ≤ length t
+pub rows_held : (line s : List ℕ) {t : List ℕ} (n : ℕ) {r : Result ℕ WornRefusal} → r ≡ Ok n → (r ≡ worn line (length s)) × (t ≡ output line s) → n ≤ length t
 unfolding output
 rows_held line s n q a =
-    let told : worn line (length s) ≡ Rows n = sym a.0 ∙ q in
+    let told : worn line (length s) ≡ Ok n = sym a.0 ∙ q in
     let same = ap length (a.1 ∙ ap (stored (line_rows line) s) told) ∙ length-sets s 0 (worn_bytes (line_rows line)) in
     omega (arith, rows_fit line (length s) n told, same)

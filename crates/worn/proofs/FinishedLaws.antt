@@ -13,9 +13,10 @@ use Rattle.grammar.specs.Plain.{Char}
 use Rattle.numeral.proofs.OneNumber.{Accepted}
 use Rattle.sheet_rows.specs.Rows.{row_bytes, rows_bytes}
 use Rattle.sheet_rows.proofs.RowLaws.{length_row_top}
-use Rattle.worn.specs.declared.Worn.TheVariants.{NotOneMark, TooShort, NoneServes}
 use Rattle.worn.specs.Worn.{mark, worn_rows, worn_bytes, unless_none, finished, worn_codes, worn}
 use Rattle.worn.proofs.PartLaws.{codes, parts_has}
+use Rattle.std.specs.Prelude.{Err}
+use Rattle.worn.specs.declared.WornRefusal.TheVariants as WornRefusal
 
 pub accepted_worn : (line : List ℕ) → Accepted line → (room : ℕ) → worn line room ≡ worn_codes (chars line) room
 unfolding worn
@@ -26,26 +27,26 @@ unfolding worn_codes
 between_worn x y room = rw (parts_has x y)
 
 module _ (rs : List (Char × ℕ)) (room : ℕ) where
-  pub finished_marked : finished rs room ≡ NotOneMark → ⊥
+  pub finished_marked : finished rs room ≡ Err WornRefusal.NotOneMark → ⊥
   unfolding finished
   finished_marked = go (ltb room (length (worn_bytes rs))) rs
     where
-      go : (b : Bool) (rs : List (Char × ℕ)) → cond b TooShort (unless_none rs) ≡ NotOneMark → ⊥
+      go : (b : Bool) (rs : List (Char × ℕ)) → cond b (Err WornRefusal.TooShort) (unless_none rs) ≡ Err WornRefusal.NotOneMark → ⊥
       go true rs e = let z : ◌≡◌ {A = ℕ} 0 1 = cc in omega arith
       go false [] e = let z : ◌≡◌ {A = ℕ} 0 1 = cc in omega arith
       go false (r ∷ rs) e = let z : ◌≡◌ {A = ℕ} 0 1 = cc in omega arith
 
-  pub finished_none : finished rs room ≡ NoneServes → rs ≡ []
+  pub finished_none : finished rs room ≡ Err WornRefusal.NoneServes → rs ≡ []
   unfolding finished
   finished_none = go (ltb room (length (worn_bytes rs))) rs
     where
-      go : (b : Bool) (rs : List (Char × ℕ)) → cond b TooShort (unless_none rs) ≡ NoneServes → rs ≡ []
-      go true rs e = let z : ◌≡◌ {A = ℕ} 0 1 = cc in absurd (omega arith)
+      go : (b : Bool) (rs : List (Char × ℕ)) → cond b (Err WornRefusal.TooShort) (unless_none rs) ≡ Err WornRefusal.NoneServes → rs ≡ []
+      go true rs e = absurd cc
       go false [] e = refl
-      go false (r ∷ rs) e = let z : ◌≡◌ {A = ℕ} 0 1 = cc in absurd (omega arith)
+      go false (r ∷ rs) e = absurd cc
 
 -- for no rows no output is too short
-pub none_finished : (room : ℕ) → finished [] room ≡ NoneServes
+pub none_finished : (room : ℕ) → finished [] room ≡ Err WornRefusal.NoneServes
 unfolding finished worn_bytes rows_bytes
 none_finished room = rw (le-ltb room 0 (omega arith))
 

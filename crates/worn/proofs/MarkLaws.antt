@@ -2,15 +2,18 @@
 -- In order: a character at the start of some bytes; □ there; how far the characters of the plain table go; the one □.
 use Prim.Native.Nat.{ℕ, suc, ◌+◌, ◌*◌, ◌-◌, ◌≤◌, ◌<◌}
 use mathlib.Core.Path.{◌≡◌, refl, sym, ap, ◌∙◌}
-use mathlib.Core.Bool.{Bool, true, false, ◌&&◌}
+use mathlib.Core.Bool.{Bool, true, false}
+use mathlib.Core.Logic.{◌⊎◌, inl, inr}
 use mathlib.Core.List.{List, [], ◌∷◌, ◌++◌, append_assoc, append-nil}
 use mathlib.Core.Option.{Option, none, some, some-ne-none}
 use native.Mathlib.Omega.{arith}
-use lib.ListN.{length, get_or, drop, length-append, length-drop, drop_of_length-le}
-use lib.Seq.{drop-drop, drop-cons, drop_at}
+use lib.ListN.{length, take, drop, length-append, length-drop, drop_of_length-le}
+use lib.Seq.{drop-drop, drop_at, take-length}
 use lib.Dec.{eqb}
 use Rattle.grammar.specs.Plain.{Char, digit, ten, large, sixteen, utf8}
-use Rattle.table_grammar.proofs.Tests.{and_left, and_right, eqb-true}
+use Rattle.std.specs.List.{starts_with}
+use Rattle.std.proofs.lemmas.Bool.Decides.{Decides-eqb}
+use Rattle.std.proofs.lemmas.Slice.Eq.{starts_is}
 use Rattle.grammar.proofs.PlainText.{utf8_nil, utf8_append, utf8_length, char_three}
 use Rattle.numeral.specs.declared.Glyph.{Glyph}
 use Rattle.numeral.specs.Walk.{glyph, glyph_if, glyph_at, by_bytes, plain_text}
@@ -18,9 +21,22 @@ use Rattle.numeral.proofs.WalkLaws.{text_of, of_text}
 use Rattle.worn.specs.Marked.{plain_glyph, is_plain, mark_bytes, is_mark, worn_text, PlainTo, WornAt}
 
 -- ---- a character at the start of some bytes
-pub no_plain : {g h : Glyph} (b : Bool) (s : List ℕ) → g ≡ h → plain_glyph h ≡ b → g ≡ glyph_at s → b ≡ is_plain s
-unfolding is_plain
-no_plain b s q e k = sym e ∙ ap plain_glyph (sym q ∙ k)
+module _ {g : Glyph} (s : List ℕ) (e : g ≡ glyph_at s) where
+  pub other_plain : (g ≡ Glyph.Other) ⊎ (g ≡ Glyph.End) → false ≡ is_plain s
+  unfolding is_plain
+  other_plain (inl q) = ap plain_glyph (sym q ∙ e)
+  other_plain (inr q) = ap plain_glyph (sym q ∙ e)
+
+  pub some_plain : (g ≡ Glyph.Other → ⊥) → (g ≡ Glyph.End → ⊥) → true ≡ is_plain s
+  unfolding is_plain
+  some_plain o d = go g refl ∙ ap plain_glyph e
+    where
+      go : (h : Glyph) → g ≡ h → true ≡ plain_glyph g
+      go (Glyph.Digit v) q = ap plain_glyph (sym q)
+      go (Glyph.Ten v) q = ap plain_glyph (sym q)
+      go (Glyph.Large v) q = ap plain_glyph (sym q)
+      go Glyph.Other q = absurd (o q)
+      go Glyph.End q = absurd (d q)
 
 glyph_plain : (k : Char) → plain_glyph (glyph k) ≡ true
 glyph_plain (digit d) = refl
@@ -34,13 +50,13 @@ pub record Begins (s : List ℕ) (k : Char) : Type 0 where
 
 pub plain_begins : (s : List ℕ) → is_plain s ≡ true → (k : Char) × Begins s k
 unfolding plain_text is_plain
-plain_begins [] e = let z : ◌≡◌ {A = ℕ} 0 1 = cc in absurd (omega arith)
-plain_begins (a ∷ []) e = let z : ◌≡◌ {A = ℕ} 0 1 = cc in absurd (omega arith)
-plain_begins (a ∷ b ∷ []) e = let z : ◌≡◌ {A = ℕ} 0 1 = cc in absurd (omega arith)
+plain_begins [] e = absurd cc
+plain_begins (a ∷ []) e = absurd cc
+plain_begins (a ∷ b ∷ []) e = absurd cc
 plain_begins (a ∷ b ∷ c ∷ s) e = go (by_bytes sixteen a b c) refl e
   where
     go : (o : Option Char) → by_bytes sixteen a b c ≡ o → plain_glyph (glyph_if o) ≡ true → (k : Char) × Begins (a ∷ b ∷ c ∷ s) k
-    go none h t = let z : ◌≡◌ {A = ℕ} 0 1 = cc in absurd (omega arith)
+    go none h t = absurd cc
     go (some k) h t = (k, record { bytes = ap (λ (u : List ℕ). u ++ s) (of_text (a ∷ b ∷ c ∷ []) (k ∷ []) (rw h)); room = omega arith })
 
 begins_plain : (k : Char) (t : List ℕ) → is_plain (utf8 (k ∷ []) ++ t) ≡ true
@@ -69,30 +85,14 @@ mark_here t = refl
 
 pub mark_bytes_lem : (s : List ℕ) → is_mark s ≡ true → s ≡ mark_bytes ++ drop 3 s
 unfolding is_mark
-mark_bytes_lem [] e = let z : ◌≡◌ {A = ℕ} 0 1 = cc in absurd (omega arith)
-mark_bytes_lem (a ∷ []) e = let z : ◌≡◌ {A = ℕ} 0 1 = cc in absurd (omega arith)
-mark_bytes_lem (a ∷ b ∷ []) e = let z : ◌≡◌ {A = ℕ} 0 1 = cc in absurd (omega arith)
-mark_bytes_lem (a ∷ b ∷ c ∷ s) e =
-    let ab = and_left (eqb a 0xE2 && eqb b 0x96) (eqb c 0xA1) e in
-    rw (eqb-true a 0xE2 (and_left (eqb a 0xE2) (eqb b 0x96) ab), eqb-true b 0x96 (and_right (eqb a 0xE2) (eqb b 0x96) ab), eqb-true c 0xA1 (and_right (eqb a 0xE2 && eqb b 0x96) (eqb c 0xA1) e))
+mark_bytes_lem s e = (starts_is Decides-eqb s mark_bytes _ refl).0 e
 
 -- as the code asks it
-pub mark_short : (s : List ℕ) (at : ℕ) → length s - at < 3 → false ≡ is_mark (drop at s)
+pub mark_at : (s : List ℕ) (at : ℕ) → starts_with eqb (take (length s - at) (drop at s)) mark_bytes ≡ is_mark (drop at s)
 unfolding is_mark
-mark_short s at h = go (drop at s) (omega (arith, length-drop at s))
-  where
-    go : (t : List ℕ) → length t < 3 → false ≡ is_mark t
-    go [] k = refl
-    go (a ∷ []) k = refl
-    go (a ∷ b ∷ []) k = refl
-    go (a ∷ b ∷ c ∷ t) k = absurd (omega arith)
-
-pub mark_read : (s : List ℕ) (at : ℕ) → at + 3 ≤ length s → (eqb (get_or s at 0) 0xE2 && eqb (get_or s (at + 1) 0) 0x96 && eqb (get_or s (at + 2) 0) 0xA1) ≡ is_mark (drop at s)
-unfolding is_mark
-mark_read s at h =
-    let one : at + 1 ≡ suc at = omega arith in
-    let two : at + 2 ≡ suc (suc at) = omega arith in
-    rw (one, two, drop-cons s at 0 (omega arith), drop-cons s (suc at) 0 (omega arith), drop-cons s (suc (suc at)) 0 (omega arith))
+mark_at s at =
+    let all : take (length s - at) (drop at s) ≡ drop at s = rw (← (length-drop at s)) (take-length (drop at s)) in
+    ap (λ (t : List ℕ). starts_with eqb t mark_bytes) all
 
 -- ---- how far the characters of the plain table go
 pub record PlainSo (s : List ℕ) (from at : ℕ) : Type 0 where

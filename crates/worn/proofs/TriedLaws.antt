@@ -17,16 +17,18 @@ use Rattle.edge.specs.Write.{Put}
 use Rattle.grammar.specs.Plain.{Char, digit, utf8, 零}
 use Rattle.grammar.proofs.PlainText.{utf8_append, utf8_length}
 use Rattle.numeral.specs.Field.{field_of}
-use Rattle.sheet_rows.specs.declared.Found.{Found}
-use Rattle.sheet_rows.specs.declared.Found.TheVariants.{Value, Nothing}
-use Rattle.sheet_rows.specs.Rows.{order, char_at, number_of, found, row_if, rows_of, row_of, row_bytes, rows_bytes}
+use Rattle.numeral.specs.Walk.{valued}
+use Rattle.numeral.proofs.FieldLaws.{valued_some, valued_none}
+use Rattle.sheet_rows.specs.Rows.{order, char_at, number_of, row_if, rows_of, row_of, row_bytes, rows_bytes}
 use Rattle.sheet_rows.proofs.RowLaws.{numeral_within_lem, number_within, length_row, rows_bytes_more}
 use Rattle.sheet_rows.proofs.CodeLaws.{row_is}
-use Rattle.worn.specs.declared.Worn.TheVariants.{Rows, TooShort, NoneServes}
 use Rattle.worn.specs.Worn.{serves, worn_rows, worn_bytes, unless_none, finished}
 use Rattle.worn.specs.Marked.{mark_bytes, WornAt}
 use Rattle.worn.specs.Tried.{Stands, AnswersRows}
 use Rattle.worn.proofs.PartLaws.{found_short}
+use Rattle.std.specs.Prelude.{Some, None, Ok, Err}
+use Rattle.std.specs.Prelude as std
+use Rattle.worn.specs.declared.WornRefusal.TheVariants as WornRefusal
 
 -- ---- the copy
 module _ (line : List ℕ) (at : ℕ) (w : WornAt line at) (short : length (chars line) ≤ 256) where
@@ -94,18 +96,10 @@ module _ (b : List ℕ) (len at : ℕ) (x y : List Char) (s : Stands b len at x 
         ap (take len) (sym whole) ∙ take_at (utf8 (x ++ (k ∷ y))) s.rest len (omega (arith, utf8_length (x ++ (k ∷ y)), length-append x (k ∷ y), s.place, s.end))
 
     -- ---- its value
-    pub tried_value : {f : Found} → f ≡ found (number_of (field_of (take len c))) → f ≡ found (serves x y k)
+    pub tried_value : {f : std.Option ℕ} → f ≡ valued (number_of (field_of (take len c))) → f ≡ valued (serves x y k)
     tried_value e =
-        e ∙ ap (λ (t : List ℕ). found (number_of (field_of t))) tried_line
-        ∙ ap found (number_within (x ++ (k ∷ y)) (omega (arith, length-append x (k ∷ y), s.short)))
-
-found_some : (o : Option ℕ) (v : ℕ) → found o ≡ Value v → o ≡ some v
-found_some none v e = let z : ◌≡◌ {A = ℕ} 0 1 = cc in absurd (omega arith)
-found_some (some u) v e = let q : u ≡ v = cc in ap some q
-
-found_none : (o : Option ℕ) → found o ≡ Nothing → o ≡ none
-found_none none e = refl
-found_none (some u) e = let z : ◌≡◌ {A = ℕ} 0 1 = cc in absurd (omega arith)
+        e ∙ ap (λ (t : List ℕ). valued (number_of (field_of t))) tried_line
+        ∙ ap valued (number_within (x ++ (k ∷ y)) (omega (arith, length-append x (k ∷ y), s.short)))
 
 -- ---- rows so far
 rows_last : {A : Type 0} (f : A → Option ℕ) (l : List A) (a : A) → rows_of f (l ++ (a ∷ [])) ≡ rows_of f l ++ row_if a (f a) []
@@ -140,10 +134,10 @@ unfolding so_far worn_bytes rows_bytes rows_of
 rowing_start x y s b len at h = record { stands = h; put = record { wrote = refl; next = refl }; few = omega arith; room = omega arith }
 
 module _ (x y : List Char) (s t b : List ℕ) (len at end r : ℕ) (so : Rowing x y s t b len at end r) (h : r < 16) where
-  module _ {c : List ℕ} {n : ℕ} (p : Put b c at n (utf8 (char_at r ∷ []))) {f : Found} (e : f ≡ found (number_of (field_of (take len c)))) where
-    pub rowing_none : f ≡ Nothing → Rowing x y s t c len at end (r + 1)
+  module _ {c : List ℕ} {n : ℕ} (p : Put b c at n (utf8 (char_at r ∷ []))) {f : std.Option ℕ} (e : f ≡ valued (number_of (field_of (take len c)))) where
+    pub rowing_none : f ≡ None → Rowing x y s t c len at end (r + 1)
     rowing_none k =
-        let no : serves x y (char_at r) ≡ none = found_none _ (sym (tried_value b len at x y so.stands (char_at r) p e) ∙ k) in
+        let no : serves x y (char_at r) ≡ none = valued_none _ (sym (tried_value b len at x y so.stands (char_at r) p e) ∙ k) in
         let same : so_far x y r ≡ so_far x y (r + 1) = sym (so_far_more x y r h ∙ rw no (append-nil (so_far x y r))) in
         record {
           stands = tried_stands b len at x y so.stands (char_at r) p;
@@ -152,9 +146,9 @@ module _ (x y : List Char) (s t b : List ℕ) (len at end r : ℕ) (so : Rowing 
           room = omega (arith, so.room);
         }
 
-    module _ (v : ℕ) (k : f ≡ Value v) where
+    module _ (v : ℕ) (k : f ≡ Some v) where
       yes : serves x y (char_at r) ≡ some v
-      yes = found_some _ v (sym (tried_value b len at x y so.stands (char_at r) p e) ∙ k)
+      yes = valued_some _ v (sym (tried_value b len at x y so.stands (char_at r) p e) ∙ k)
 
       -- a row has at most 21 bytes
       pub row_small : length (decimal v) ≤ 16
@@ -187,23 +181,23 @@ none_written [] e = refl
 none_written (r ∷ rs) e =
     absurd (omega (arith, e, length-append (row_bytes (r.0 ∷ [], r.1)) (rows_bytes (map (λ r. (r.0 ∷ [], r.1)) rs)), length_row (r.0 ∷ [], r.1)))
 
-some_written : (rs : List (Char × ℕ)) → 0 < length (worn_bytes rs) → unless_none rs ≡ Rows (length (worn_bytes rs))
+some_written : (rs : List (Char × ℕ)) → 0 < length (worn_bytes rs) → unless_none rs ≡ Ok (length (worn_bytes rs))
 unfolding worn_bytes rows_bytes
 some_written [] h = absurd (omega arith)
 some_written (r ∷ rs) h = refl
 
 module _ (t s : List ℕ) where
-  pub rows_too_short : length s < length t → AnswersRows t s TooShort s
+  pub rows_too_short : length s < length t → AnswersRows t s (Err WornRefusal.TooShort) s
   unfolding finished
   rows_too_short h rs e = (rw (lt-ltb (length s) (length (worn_bytes rs)) (omega (arith, ap length e))), refl)
 
-  pub rows_nothing : length t ≡ 0 → AnswersRows t s NoneServes s
+  pub rows_nothing : length t ≡ 0 → AnswersRows t s (Err WornRefusal.NoneServes) s
   unfolding finished
   rows_nothing h rs e =
       let z : rs ≡ [] = none_written rs (sym (ap length e) ∙ h) in
       (rw (le-ltb (length s) (length (worn_bytes rs)) (omega (arith, ap length e)), z), refl)
 
-  pub rows_written : length t ≤ length s → 0 < length t → {u : List ℕ} → u ≡ sets s 0 t → AnswersRows t s (Rows (length t)) u
+  pub rows_written : length t ≤ length s → 0 < length t → {u : List ℕ} → u ≡ sets s 0 t → AnswersRows t s (Ok (length t)) u
   unfolding finished
   rows_written l h q rs e =
-      (rw (le-ltb (length s) (length (worn_bytes rs)) (omega (arith, ap length e)), some_written rs (omega (arith, ap length e))) (ap (λ (w : List ℕ). Rows (length w)) e), q ∙ ap (sets s 0) e)
+      (rw (le-ltb (length s) (length (worn_bytes rs)) (omega (arith, ap length e)), some_written rs (omega (arith, ap length e))) (ap (λ (w : List ℕ). (Ok (length w))) e), q ∙ ap (sets s 0) e)

@@ -24,10 +24,11 @@ use Rattle.numeral.proofs.OneNumber.{Accepted}
 use Rattle.sheet_rows.specs.Rows.{order, rank}
 use Rattle.sheet_rows.proofs.Rising.{Rises}
 use Rattle.sheet_rows.proofs.RowLaws.{order_rises, order_all, rows_in_lem, rows_has, rows_rise, rows_at_most, numeral_within_lem}
-use Rattle.worn.specs.declared.Worn.TheVariants.{NotOneMark, NoneServes}
 use Rattle.worn.specs.Worn.{mark, parts, serves, worn_rows, worn_bytes, finished, with_parts, worn_codes, worn, parts_rows, line_rows}
 use Rattle.worn.proofs.PartLaws.{codes, parts_in, parts_has}
 use Rattle.worn.proofs.FinishedLaws.{accepted_worn, between_worn, finished_marked, finished_none, none_finished, rows_size}
+use Rattle.std.specs.Prelude.{Err}
+use Rattle.worn.specs.declared.WornRefusal.TheVariants as WornRefusal
 
 -- ---- the line with □ between the characters x and y
 module _ (x y : List Char) where
@@ -78,21 +79,21 @@ module _ (line : List ℕ) (fine : Accepted line) (room : ℕ) where
   between : (x y : List Char) → Between line x y → worn line room ≡ finished (worn_rows x y) room
   between x y b = accepted_worn line fine room ∙ ap (λ (cs : List ℕ). worn_codes cs room) b ∙ between_worn x y room
 
-  pub twelve_iff : (worn line room ≡ NotOneMark) ↔ ((x y : List Char) → Between line x y → ⊥)
+  pub twelve_iff : (worn line room ≡ Err WornRefusal.NotOneMark) ↔ ((x y : List Char) → Between line x y → ⊥)
   unfolding worn_codes
   twelve_iff = (λ e x y b. finished_marked (worn_rows x y) room (sym (between x y b) ∙ e), λ h. accepted_worn line fine room ∙ go (parts (chars line)) refl h)
     where
-      go : (o : Option (List Char × List Char)) → parts (chars line) ≡ o → ((x y : List Char) → Between line x y → ⊥) → with_parts o room ≡ NotOneMark
+      go : (o : Option (List Char × List Char)) → parts (chars line) ≡ o → ((x y : List Char) → Between line x y → ⊥) → with_parts o room ≡ Err WornRefusal.NotOneMark
       go none e h = refl
       go (some p) e h = absurd (h p.0 p.1 (parts_in (chars line) p.0 p.1 e))
 
-  pub thirteen_iff : (worn line room ≡ NoneServes) ↔ ((x : List Char) × (y : List Char) × Between line x y × NoneServe x y)
+  pub thirteen_iff : (worn line room ≡ Err WornRefusal.NoneServes) ↔ ((x : List Char) × (y : List Char) × Between line x y × NoneServe x y)
   unfolding worn_codes
   thirteen_iff = (
     λ e. go (parts (chars line)) refl (sym (accepted_worn line fine room) ∙ e),
     λ (x, y, b, h). between x y b ∙ ap (λ (rs : List (Char × ℕ)). finished rs room) ((none_iff x y).1 h) ∙ none_finished room,
   )
     where
-      go : (o : Option (List Char × List Char)) → parts (chars line) ≡ o → with_parts o room ≡ NoneServes → (x : List Char) × (y : List Char) × Between line x y × NoneServe x y
-      go none e k = let z : ◌≡◌ {A = ℕ} 0 1 = cc in absurd (omega arith)
+      go : (o : Option (List Char × List Char)) → parts (chars line) ≡ o → with_parts o room ≡ Err WornRefusal.NoneServes → (x : List Char) × (y : List Char) × Between line x y × NoneServe x y
+      go none e k = absurd cc
       go (some p) e k = (p.0, p.1, parts_in (chars line) p.0 p.1 e, (none_iff p.0 p.1).0 (finished_none (worn_rows p.0 p.1) room k))

@@ -5,13 +5,12 @@
 --     PlainTo s a r   from the offset a to r there are characters of the plain table alone, and at r there is none
 --     MarkIs s m      m says where the one □ of the line s stands
 --     Assumes nothing.
-use Rattle.std.specs.Prelude.{ℕ, ◌*◌, ◌≤◌, ◌≡◌, Bool, true, false, ◌&&◌, List, [], ◌∷◌, ◌++◌, eqb, length, drop}
+use Rattle.std.specs.Prelude.{ℕ, ◌*◌, ◌≤◌, ◌≡◌, Bool, true, false, List, [], ◌∷◌, ◌++◌, eqb, length, drop, Option, Some, None}
+use Rattle.std.specs.List.{starts_with}
 use Rattle.grammar.specs.Plain.{Char, utf8}
 use Rattle.numeral.specs.declared.Glyph.{Glyph}
 use Rattle.numeral.specs.declared.Glyph.TheVariants.{Digit, Ten, Large, Other, End}
 use Rattle.numeral.specs.Walk.{glyph_at}
-use Rattle.worn.specs.declared.mark.Mark.{Mark}
-use Rattle.worn.specs.declared.mark.Mark.TheVariants.{At, NotOne}
 
 abbrev pub plain_glyph : Glyph → Bool
 plain_glyph (Digit v) = true
@@ -27,10 +26,7 @@ abbrev pub mark_bytes : List ℕ
 mark_bytes = 0xE2 ∷ 0x96 ∷ 0xA1 ∷ []
 
 unfoldable pub is_mark : List ℕ → Bool
-is_mark [] = false
-is_mark (a ∷ []) = false
-is_mark (a ∷ b ∷ []) = false
-is_mark (a ∷ b ∷ c ∷ s) = eqb a 0xE2 && eqb b 0x96 && eqb c 0xA1
+is_mark s = starts_with eqb s mark_bytes
 
 abbrev pub worn_text : List Char → List Char → List ℕ
 worn_text x y = utf8 x ++ (mark_bytes ++ utf8 y)
@@ -48,6 +44,6 @@ pub record WornAt (s : List ℕ) (at : ℕ) : Type 0 where
   pub text : s ≡ worn_text x y
   pub place : at ≡ 3 * length x
 
-abbrev pub MarkIs : List ℕ → Mark → Type 0
-MarkIs s (At at) = WornAt s at
-MarkIs s NotOne = (x y : List Char) → s ≡ worn_text x y → ⊥
+abbrev pub MarkIs : List ℕ → Option ℕ → Type 0
+MarkIs s (Some at) = WornAt s at
+MarkIs s None = (x y : List Char) → s ≡ worn_text x y → ⊥

@@ -8,17 +8,16 @@
 --     worn line n     the answer for a line
 --     line_rows line   the rows of a line; output line s: what is in the output s afterwards
 --     Assumes nothing.
-use Rattle.std.specs.Prelude.{ℕ, cond, List, [], ◌∷◌, ◌++◌, map, eqb, ltb, length}
+use Rattle.std.specs.Prelude.{ℕ, cond, List, [], ◌∷◌, ◌++◌, map, eqb, ltb, length, Result, Ok, Err}
 use Rattle.std.proofs.Math.Option.{Option, none, some}
 use Rattle.std.proofs.lemmas.List.Edits.{sets}
 use Rattle.text.specs.Text.{chars}
 use Rattle.text.specs.Line.{line_check}
-use Rattle.text.specs.declared.LineCheck.{LineCheck}
 use Rattle.grammar.specs.Plain.{Char}
 use Rattle.numeral.specs.Field.{plain_line}
 use Rattle.sheet_rows.specs.Rows.{order, numeral_within, rows_of, rows_bytes}
-use Rattle.worn.specs.declared.Worn.{Worn}
-use Rattle.worn.specs.declared.Worn.TheVariants.{Rows, IllFormed, TooLong, NotOneMark, TooShort, NoneServes}
+use Rattle.text.specs.declared.LineRefusal.{LineRefusal}
+use Rattle.worn.specs.declared.WornRefusal.{WornRefusal}
 
 -- ---- the line
 
@@ -66,29 +65,28 @@ worn_bytes rs = rows_bytes (map (λ r. (r.0 ∷ [], r.1)) rs)
 -- ---- the answer
 
 -- "with 13 a line for which none of the sixteen serves"
-abbrev pub unless_none : List (Char × ℕ) → Worn
-unless_none [] = NoneServes
-unless_none (r ∷ rs) = Rows (length (worn_bytes (r ∷ rs)))
+abbrev pub unless_none : List (Char × ℕ) → Result ℕ WornRefusal
+unless_none [] = Err WornRefusal.NoneServes
+unless_none (r ∷ rs) = Ok (length (worn_bytes (r ∷ rs)))
 
 -- "placed last, after 8"
-unfoldable pub finished : List (Char × ℕ) → ℕ → Worn
-finished rs room = cond (ltb room (length (worn_bytes rs))) TooShort (unless_none rs)
+unfoldable pub finished : List (Char × ℕ) → ℕ → Result ℕ WornRefusal
+finished rs room = cond (ltb room (length (worn_bytes rs))) (Err WornRefusal.TooShort) (unless_none rs)
 
-abbrev pub with_parts : Option (List Char × List Char) → ℕ → Worn
-with_parts none room = NotOneMark
+abbrev pub with_parts : Option (List Char × List Char) → ℕ → Result ℕ WornRefusal
+with_parts none room = Err WornRefusal.NotOneMark
 with_parts (some p) room = finished (worn_rows p.0 p.1) room
 
 -- "It refuses with 12 a line without just one □ or with another character outside the table"
-unfoldable pub worn_codes : List ℕ → ℕ → Worn
+unfoldable pub worn_codes : List ℕ → ℕ → Result ℕ WornRefusal
 worn_codes cs room = with_parts (parts cs) room
 
 -- "placed after 3"
-abbrev pub checked : LineCheck → Worn → Worn
-checked (LineCheck.Chars n) w = w
-checked (LineCheck.IllFormed at) w = IllFormed at
-checked (LineCheck.TooLong at) w = TooLong at
+abbrev pub checked : Result ℕ LineRefusal → Result ℕ WornRefusal → Result ℕ WornRefusal
+checked (Ok n) w = w
+checked (Err r) w = Err (WornRefusal.Line r)
 
-unfoldable pub worn : List ℕ → ℕ → Worn
+unfoldable pub worn : List ℕ → ℕ → Result ℕ WornRefusal
 worn line room = checked (line_check line) (worn_codes (chars line) room)
 
 -- ---- the output: the rows at its front, or as it was
@@ -99,13 +97,9 @@ parts_rows (some p) = worn_rows p.0 p.1
 unfoldable pub line_rows : List ℕ → List (Char × ℕ)
 line_rows line = parts_rows (parts (chars line))
 
-abbrev pub stored : List (Char × ℕ) → List ℕ → Worn → List ℕ
-stored rs s (Rows n) = sets s 0 (worn_bytes rs)
-stored rs s (IllFormed at) = s
-stored rs s (TooLong at) = s
-stored rs s NotOneMark = s
-stored rs s TooShort = s
-stored rs s NoneServes = s
+abbrev pub stored : List (Char × ℕ) → List ℕ → Result ℕ WornRefusal → List ℕ
+stored rs s (Ok n) = sets s 0 (worn_bytes rs)
+stored rs s (Err r) = s
 
 unfoldable pub output : List ℕ → List ℕ → List ℕ
 output line s = stored (line_rows line) s (worn line (length s))

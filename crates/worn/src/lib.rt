@@ -8,63 +8,60 @@ pub mod rows; // rows.rt: the rows of the characters that serve
 ghost use Rattle.std.specs.Prelude.{◌≡◌, true, ◌≤◌, length};
 ghost use Rattle.text.specs.Text.{chars, well_formed};
 ghost use Rattle.worn.specs.Worn.{worn_codes, stored, line_rows, worn, output};
+ghost use Rattle.worn.specs.declared.WornRefusal.TheVariants as WornRefusal;
 ghost use Rattle.worn.specs.Tried.{AnswersRows};
 
-use crate::mark::Mark;
-use text::{LineCheck, Offset};
+use text::LineRefusal;
 
-// What a worn line answers: so many bytes of rows; or a refusal, in their order: 2 and 3, with the offset; 12, a line without just one □ or with another character
+// Why a worn line is refused, in this order: 2 and 3, with the offset; 12, a line without just one □ or with another character
 // outside the table; 8, an output too short; 13, none of the sixteen serves.
 #[derive(Clone, Copy)]
-pub enum Worn {
-    Rows(usize),
-    IllFormed(Offset),
-    TooLong(Offset),
+pub enum WornRefusal {
+    Line(LineRefusal),
     NotOneMark,
     TooShort,
     NoneServes,
 }
 
+impl From<LineRefusal> for WornRefusal {
+    ghost from_gives = { λ e r. r ≡ WornRefusal.Line e };
+
+    fn from(e: LineRefusal) -> WornRefusal {
+        WornRefusal::Line(e)
+    }
+}
+
 // The answer for a line with these rows, which come to the front of the output.
-fn answer_rows(rows: &[u8], out: &mut [u8]) -> Worn
+fn answer_rows(rows: &[u8], out: &mut [u8]) -> Result<usize, WornRefusal>
     ensures { AnswersRows rows.now out.old result out.new }
 {
     if out.len() < rows.len() {
-        return Worn::TooShort;
+        return Err(WornRefusal::TooShort);
     }
     if rows.len() == 0 {
-        return Worn::NoneServes;
+        return Err(WornRefusal::NoneServes);
     }
     fields::copy::copy_in(out, 0, rows);
-    Worn::Rows(rows.len())
+    Ok(rows.len())
 }
 
 // The answer for a line that is refused neither 2 nor 3.
-fn answer_line(line: &[u8], out: &mut [u8]) -> Worn
+fn answer_line(line: &[u8], out: &mut [u8]) -> Result<usize, WornRefusal>
     requires { (well_formed line.now ≡ true) × (length (chars line.now) ≤ 256) }
     ensures answer { result ≡ worn_codes (chars line.now) (length out.old) }
     ensures after { out.new ≡ stored (line_rows line.now) out.old result }
 {
-    let mark = crate::mark::find_mark(line);
-    match mark {
-        Mark::At(at) => {
-            let mut rows = [0u8; 336];
-            let end = crate::rows::rows_of(line, at, &mut rows);
-            answer_rows(&rows[..end], out)
-        }
-        Mark::NotOne => Worn::NotOneMark,
-    }
+    let at = crate::mark::find_mark(line).ok_or(WornRefusal::NotOneMark)?;
+    let mut rows = [0u8; 336];
+    let end = crate::rows::rows_of(line, at, &mut rows);
+    answer_rows(&rows[..end], out)
 }
 
 // The rows of the characters that serve, at the front of the output.
-pub fn worn_character(line: &[u8], out: &mut [u8]) -> Worn
+pub fn worn_character(line: &[u8], out: &mut [u8]) -> Result<usize, WornRefusal>
     ensures answer { result ≡ worn line.now (length out.old) }
     ensures after { out.new ≡ output line.now out.old }
 {
-    let check = text::check::check_line(line);
-    match check {
-        LineCheck::IllFormed(at) => Worn::IllFormed(at),
-        LineCheck::TooLong(at) => Worn::TooLong(at),
-        LineCheck::Chars(_) => answer_line(line, out),
-    }
+    text::check::check_line(line)?;
+    answer_line(line, out)
 }

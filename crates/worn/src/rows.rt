@@ -5,17 +5,18 @@ ghost use Rattle.text.specs.Text.{chars};
 ghost use Rattle.edge.specs.Write.{Put};
 ghost use Rattle.grammar.specs.Plain.{Char, utf8};
 ghost use Rattle.numeral.specs.Field.{field_of};
-ghost use Rattle.sheet_rows.specs.Rows.{char_at, number_of, found};
+ghost use Rattle.numeral.specs.Walk.{valued};
+ghost use Rattle.sheet_rows.specs.Rows.{char_at, number_of};
 ghost use Rattle.worn.specs.Worn.{worn_rows, worn_bytes};
 ghost use Rattle.worn.specs.Marked.{WornAt};
 ghost use Rattle.worn.specs.Tried.{Stands};
 
-use sheet_rows::{Found, put_char, put_row, value_within};
+use sheet_rows::{put_char, put_row, value_within};
 
 // The value of a copy's first len bytes with the character of a rank put at an offset.
-fn try_char(copy: &mut [u8], len: usize, at: usize, rank: usize) -> Found
+fn try_char(copy: &mut [u8], len: usize, at: usize, rank: usize) -> Option<u64>
     requires { (at + 3 ≤ len) × (len ≤ length copy.old) × (rank < 16) }
-    ensures answer { result ≡ found (number_of (field_of (take len copy.new))) }
+    ensures answer { result ≡ valued (number_of (field_of (take len copy.new))) }
     ensures put { Put copy.old copy.new at (at + 3) (utf8 (char_at rank ∷ [])) }
 {
     put_char(copy, at, rank);
@@ -31,18 +32,11 @@ fn put_rows(rows: &mut [u8], copy: &mut [u8], len: usize, at: usize) -> usize
 {
     let to = at + 3;
     let mut end = 0;
-    let mut rank = 0;
-    while rank < 16 {
-        let found = try_char(copy, len, at, rank);
-        match found {
-            Found::Value(v) => {
-                end = put_row(rows, end, &copy[at..to], v);
-                rank += 1;
-            }
-            Found::Nothing => {
-                rank += 1;
-            }
-        }
+    for rank in 0..16 {
+        let Some(value) = try_char(copy, len, at, rank) else {
+            continue;
+        };
+        end = put_row(rows, end, &copy[at..to], value);
     }
     end
 }

@@ -5,16 +5,11 @@
 
 ghost use Rattle.std.specs.Prelude.{◌≤◌, length};
 
-use vectors::ROWS;
-use worn::Worn;
+use text::LineRefusal;
+use worn::WornRefusal;
 
 fn main() {
-    let mut input = io::large_buffer();
-    let mut ends = [0usize; ROWS];
-    let rows = vectors::read_rows(&mut input, &mut ends);
-    for i in 0..rows {
-        show(vectors::row(&input, &ends, i));
-    }
+    vectors::each_row(|row| show(row));
 }
 
 fn show(line: &[u8]) {
@@ -39,7 +34,7 @@ fn rows_len(line: &[u8], out: &mut [u8]) -> usize
     ensures { result ≤ length out.old }
 {
     let answer = worn::worn_character(line, out);
-    if let Worn::Rows(n) = answer {
+    if let Ok(n) = answer {
         return n;
     }
     0
@@ -49,15 +44,15 @@ fn rows_len(line: &[u8], out: &mut [u8]) -> usize
 fn show_in(line: &[u8], out: &mut [u8]) {
     let answer = worn::worn_character(line, out);
     match answer {
-        Worn::Rows(n) => {
+        Ok(n) => {
             say(b"rows ", n as u64);
             io::write_all(1, &out[..n]);
         }
-        Worn::IllFormed(at) => say(b"refused 2 ", at.0 as u64),
-        Worn::TooLong(at) => say(b"refused 3 ", at.0 as u64),
-        Worn::NotOneMark => say(b"refused 12 ", 0),
-        Worn::TooShort => say(b"refused 8 ", 0),
-        Worn::NoneServes => say(b"refused 13 ", 0),
+        Err(WornRefusal::Line(LineRefusal::IllFormed(at))) => say(b"refused 2 ", at.0 as u64),
+        Err(WornRefusal::Line(LineRefusal::TooLong(at))) => say(b"refused 3 ", at.0 as u64),
+        Err(WornRefusal::NotOneMark) => say(b"refused 12 ", 0),
+        Err(WornRefusal::TooShort) => say(b"refused 8 ", 0),
+        Err(WornRefusal::NoneServes) => say(b"refused 13 ", 0),
     }
 }
 

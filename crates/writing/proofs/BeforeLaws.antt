@@ -11,28 +11,26 @@ use Rattle.grammar.specs.Plain.{Char, code_point, utf8}
 use Rattle.grammar.proofs.Sixteen.{each}
 use Rattle.grammar.proofs.PlainText.{utf8_nil, utf8_append, three, char_three}
 use Rattle.writing.specs.Before.{Mark, Before}
+use Rattle.std.specs.Prelude.{Option, Some, None}
 
 -- ---- what a mark stands for
 char_small : (x : Char) → code_point x < 65536
 char_small = each (λ x. code_point x < 65536) (lit≤ tt, lit≤ tt, lit≤ tt, lit≤ tt, lit≤ tt, lit≤ tt, lit≤ tt, lit≤ tt, lit≤ tt, lit≤ tt, lit≤ tt, lit≤ tt, lit≤ tt, lit≤ tt, lit≤ tt, lit≤ tt)
 
-char_some : (x : Char) → 1 ≤ code_point x
-char_some = each (λ x. 1 ≤ code_point x) (lit≤ tt, lit≤ tt, lit≤ tt, lit≤ tt, lit≤ tt, lit≤ tt, lit≤ tt, lit≤ tt, lit≤ tt, lit≤ tt, lit≤ tt, lit≤ tt, lit≤ tt, lit≤ tt, lit≤ tt, lit≤ tt)
+pub mark_small : (m : List Char) (o : Option ℕ) (c : ℕ) → Mark m o → o ≡ Some c → c < 65536
+mark_small [] o c h q = absurd cc
+mark_small (x ∷ []) o c h q = let e : c ≡ code_point x = cc in omega (arith, e, char_small x)
+mark_small (x ∷ y ∷ m) o c h q = absurd h
 
-pub mark_small : (m : List Char) (c : ℕ) → Mark m c → c < 65536
-mark_small [] c h = omega arith
-mark_small (x ∷ []) c h = omega (arith, char_small x)
-mark_small (x ∷ y ∷ m) c h = absurd h
+pub mark_none : (m : List Char) (o : Option ℕ) → Mark m o → o ≡ None → utf8 m ≡ []
+mark_none [] o h q = utf8_nil
+mark_none (x ∷ []) o h q = absurd cc
+mark_none (x ∷ y ∷ m) o h q = absurd h
 
-pub mark_none : (m : List Char) (c : ℕ) → Mark m c → c ≡ 0 → utf8 m ≡ []
-mark_none [] c h e = utf8_nil
-mark_none (x ∷ []) c h e = absurd (omega (arith, char_some x))
-mark_none (x ∷ y ∷ m) c h e = absurd h
-
-pub mark_some : (m : List Char) (c : ℕ) → Mark m c → (c ≡ 0 → ⊥) → utf8 m ≡ three c
-mark_some [] c h e = absurd (e h)
-mark_some (x ∷ []) c h e = rw h (char_three x)
-mark_some (x ∷ y ∷ m) c h e = absurd h
+mark_some : (m : List Char) (o : Option ℕ) (c : ℕ) → Mark m o → o ≡ Some c → utf8 m ≡ three c
+mark_some [] o c h q = absurd cc
+mark_some (x ∷ []) o c h q = let e : c ≡ code_point x = cc in rw e (char_three x)
+mark_some (x ∷ y ∷ m) o c h q = absurd h
 
 -- ---- characters before characters
 pub before_none : (s : List ℕ) (at : ℕ) {t : List ℕ} → t ≡ [] → Before s at t at s
@@ -63,6 +61,6 @@ before_three s at x y z h k =
     }
 
 -- a character's three bytes
-pub before_mark : (s : List ℕ) (at c : ℕ) (m : List Char) → 3 ≤ at → at ≤ length s → Mark m c → (c ≡ 0 → ⊥)
+pub before_mark : (s : List ℕ) (at : ℕ) (o : Option ℕ) (c : ℕ) (m : List Char) → 3 ≤ at → at ≤ length s → Mark m o → o ≡ Some c
     → Before s at (utf8 m) (at - 3) (set (set (set s (at - 3) (224 + c / 64 / 64)) (at - 2) (128 + c / 64 % 64)) (at - 1) (128 + c % 64))
-before_mark s at c m h k i n = rw (mark_some m c i n) (before_three s at (224 + c / 64 / 64) (128 + c / 64 % 64) (128 + c % 64) h k)
+before_mark s at o c m h k i q = rw (mark_some m o c i q) (before_three s at (224 + c / 64 / 64) (128 + c / 64 % 64) (128 + c % 64) h k)

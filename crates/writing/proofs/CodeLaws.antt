@@ -1,7 +1,7 @@
 -- What the functions of the code have put is what `specs/Writing.antt` says, one law for each function. No contract cites this file.
 use Prim.Native.Nat.{ℕ, zero, suc, ◌/◌, ◌%◌, ◌<◌}
-use mathlib.Core.Path.{◌≡◌, refl}
-use mathlib.Core.Bool.{Bool, true, false, ◌&&◌, true≢false, false≢true}
+use mathlib.Core.Path.{◌≡◌, refl, ap}
+use mathlib.Core.Bool.{Bool, true, false, ◌&&◌}
 use mathlib.Core.List.{List, [], ◌∷◌, ◌++◌, map, append_assoc}
 use native.Mathlib.Omega.{arith}
 use lib.Dec.{ltb, eqb}
@@ -12,6 +12,8 @@ use Rattle.grammar.proofs.PlainText.{utf8_nil}
 use Rattle.writing.specs.Writing.{cut, zero_if, digits, digit_of, digit_part, group, group_part, writing}
 use Rattle.writing.specs.Before.{Mark, Before}
 use Rattle.writing.proofs.BeforeLaws.{before_none, before_then}
+use Rattle.std.specs.Prelude.{Some}
+use Rattle.std.specs.Bool.{then_some}
 
 -- ---- marks
 codes_at : (ds : List Digit) (d : ℕ) → d < length ds → get_or (map (λ x. code_point (digit x)) ds) d 0 ≡ code_point (digit (get_or ds d 零))
@@ -19,16 +21,12 @@ codes_at [] d h = absurd (omega arith)
 codes_at (x ∷ ds) zero h = refl
 codes_at (x ∷ ds) (suc d) h = codes_at ds d (omega arith)
 
-pub digit_code : (d : ℕ) → d < 10 → get_or (map (λ x. code_point (digit x)) digits) d 0 ≡ code_point (digit (digit_of d))
-digit_code d h = codes_at digits d h
+pub digit_code : (d : ℕ) → d < 10 → Mark (digit (digit_of d) ∷ []) (Some (get_or (map (λ x. code_point (digit x)) digits) d 0))
+digit_code d h = ap Some (codes_at digits d h)
 
-pub zero_mark : (b : Bool) → b ≡ true → Mark (zero_if b) 0x96F6
-zero_mark true e = refl
-zero_mark false e = absurd (false≢true e)
-
-pub no_mark : (b : Bool) → b ≡ false → Mark (zero_if b) 0
-no_mark true e = absurd (true≢false e)
-no_mark false e = refl
+pub zero_mark : (b : Bool) → Mark (zero_if b) (then_some b 0x96F6)
+zero_mark true = refl
+zero_mark false = refl
 
 -- ---- a digit
 pub digit_none : (s : List ℕ) (at h d : ℕ) (m : List Char) → d ≡ 0 → Before s at (utf8 (digit_part h d m)) at s

@@ -22,12 +22,12 @@ use Rattle.grammar.proofs.Demand3.{IsLine, line_of, OneEdge, Carries, demand3}
 use Rattle.table_grammar.proofs.Readings.{same_division}
 use Rattle.grammar.proofs.PlainText.{utf8_length}
 use Rattle.grammar.proofs.ReadingWithin.{reading_within}
-use Rattle.numeral.specs.declared.Field.TheVariants.{Number}
 use Rattle.numeral.specs.Field.{field_of}
 use Rattle.numeral.proofs.OneNumber.{field_of_reading}
 use Rattle.writing.specs.Writing.{writing, NoneCounted}
 use Rattle.writing.proofs.WritingReads.{writing_reads}
 use Rattle.writing.proofs.WritingLength.{writing_length}
+use Rattle.std.specs.Prelude.{Some, Ok}
 
 pub numeral : (n : ℕ) → n ≤ TOP → (r : Reading (writing n)) × (division_value r.division ≡ n)
 numeral n h = let (r, v, _) = writing_reads n (omega arith) in (r, v)
@@ -69,5 +69,5 @@ pub reads_back : (n : ℕ) → n ≤ TOP → ReadsBack (utf8 (writing n)) n
 unfolding utf8
 reads_back n h = one_edge n h (encodes (map code_point (writing n))) (line_of (writing n))
 
-pub field_back : (n : ℕ) → n ≤ TOP → field_of (utf8 (writing n)) ≡ Number n
+pub field_back : (n : ℕ) → n ≤ TOP → field_of (utf8 (writing n)) ≡ Ok (Some n)
 field_back n h = let (r, v) = numeral n h in field_of_reading (writing n) (omega (arith, writing_length n)) r n v h

@@ -2,7 +2,7 @@
 // before the other, from the end of a buffer on: 16 digits of up to three characters and four groups of up to two more make at most 168 bytes.
 #![tactic(auto)]
 
-ghost use Rattle.std.specs.Prelude.{◌≡◌, List, [], ◌∷◌, ◌+◌, ◌≤◌, ◌<◌, length};
+ghost use Rattle.std.specs.Prelude.{◌≡◌, List, [], ◌∷◌, ◌+◌, ◌≤◌, ◌<◌, length, Some};
 ghost use Rattle.grammar.specs.Plain.{Char, digit, utf8};
 ghost use Rattle.writing.specs.Writing.{zero_if, digit_of, digit_part, group, group_part, writing};
 ghost use Rattle.writing.specs.Before.{Mark, Before};
@@ -12,21 +12,20 @@ use whole::TOP;
 
 // What writing a number answers: so many bytes; refusal 10, a number above TOP; refusal 8, an output too short.
 #[derive(Clone, Copy)]
-pub enum Written {
-    Bytes(usize),
+pub enum WriteRefusal {
     AboveTop,
     TooShort,
 }
 
-// Puts a character, by its code point, before an offset, and nothing for 0. Answers the offset where it begins.
-fn put(buf: &mut [u8; 192], at: usize, c: u32) -> usize
-    requires { (3 ≤ at) × (at ≤ 192) × (length buf.old ≡ 192) × ((m : List Char) × Mark m c) }
+// Puts a character, by its code point, before an offset, or nothing. Answers the offset where it begins.
+fn put(buf: &mut [u8; 192], at: usize, mark: Option<u32>) -> usize
+    requires { (3 ≤ at) × (at ≤ 192) × (length buf.old ≡ 192) × ((m : List Char) × Mark m mark) }
     ensures begins { (result ≤ at) × (at ≤ result + 3) × (length buf.new ≡ 192) }
-    ensures stored { (m : List Char) → Mark m c → Before buf.old at (utf8 m) result buf.new }
+    ensures stored { (m : List Char) → Mark m mark → Before buf.old at (utf8 m) result buf.new }
 {
-    if c == 0 {
+    let Some(c) = mark else {
         return at;
-    }
+    };
     buf[at - 3] = (224 + c / 64 / 64) as u8;
     buf[at - 2] = (128 + c / 64 % 64) as u8;
     buf[at - 1] = (128 + c % 64) as u8;
@@ -36,7 +35,7 @@ fn put(buf: &mut [u8; 192], at: usize, c: u32) -> usize
 // The code point of a digit.
 fn digit_code(d: u64) -> u32
     requires { d < 10 }
-    ensures { Mark (digit (digit_of d) ∷ []) result }
+    ensures { Mark (digit (digit_of d) ∷ []) (Some result) }
 {
     let codes: [u32; 10] = [
         0x96F6, 0x4E00, 0x4E8C, 0x4E09, 0x56DB, 0x4E94, 0x516D, 0x4E03, 0x516B, 0x4E5D,
@@ -45,14 +44,14 @@ fn digit_code(d: u64) -> u32
 }
 
 // 零, or nothing.
-fn zero_if(b: bool) -> u32
+fn zero_if(b: bool) -> Option<u32>
     ensures { Mark (zero_if b) result }
 {
-    if b { 0x96F6 } else { 0 }
+    b.then_some(0x96F6)
 }
 
 // Puts a digit of a group, where the digits before it say h.
-fn put_digit(buf: &mut [u8; 192], at: usize, h: u64, d: u64, mark: u32) -> usize
+fn put_digit(buf: &mut [u8; 192], at: usize, h: u64, d: u64, mark: Option<u32>) -> usize
     requires { (9 ≤ at) × (at ≤ 192) × (length buf.old ≡ 192) × (d < 10) × ((m : List Char) × Mark m mark) }
     ensures begins { (result ≤ at) × (at ≤ result + 9) × (length buf.new ≡ 192) }
     ensures stored { (m : List Char) → Mark m mark
@@ -62,7 +61,7 @@ fn put_digit(buf: &mut [u8; 192], at: usize, h: u64, d: u64, mark: u32) -> usize
         return at;
     }
     let a = put(buf, at, mark);
-    let b = put(buf, a, digit_code(d));
+    let b = put(buf, a, Some(digit_code(d)));
     put(buf, b, zero_if((0 < h) & (h % 10 == 0)))
 }
 
@@ -75,14 +74,15 @@ fn put_digits(buf: &mut [u8; 192], at: usize, g: u64) -> usize
     let tens = g / 10;
     let hundreds = tens / 10;
     let thousands = hundreds / 10;
-    let a = put_digit(buf, at, tens, g % 10, 0);
-    let b = put_digit(buf, a, hundreds, tens % 10, 0x5341);
-    let c = put_digit(buf, b, thousands, hundreds % 10, 0x767E);
-    put_digit(buf, c, thousands / 10, thousands % 10, 0x5343)
+    let a = put_digit(buf, at, tens, g % 10, None);
+    let b = put_digit(buf, a, hundreds, tens % 10, Some(0x5341));
+    let c = put_digit(buf, b, thousands, hundreds % 10, Some(0x767E));
+    put_digit(buf, c, thousands / 10, thousands % 10, Some(0x5343))
 }
 
 // Puts a group, where the groups before it say h.
-fn put_group(buf: &mut [u8; 192], at: usize, h: u64, g: u64, mark: u32) -> usize
+// Kept beside put_digit: one function for both would take the middle and the test for 零 as closures, and be no shorter.
+fn put_group(buf: &mut [u8; 192], at: usize, h: u64, g: u64, mark: Option<u32>) -> usize
     requires { (42 ≤ at) × (at ≤ 192) × (length buf.old ≡ 192) × ((m : List Char) × Mark m mark) }
     ensures begins { (result ≤ at) × (at ≤ result + 42) × (length buf.new ≡ 192) }
     ensures stored { (m : List Char) → Mark m mark
@@ -103,31 +103,31 @@ fn put_number(buf: &mut [u8; 192], n: u64) -> usize
     ensures stored { Before buf.old 192 (utf8 (writing n)) result buf.new }
 {
     if n == 0 {
-        return put(buf, 192, 0x96F6);
+        return put(buf, 192, Some(0x96F6));
     }
     let second = n / 10000;
     let third = second / 10000;
     let fourth = third / 10000;
-    let a = put_group(buf, 192, second, n % 10000, 0);
-    let b = put_group(buf, a, third, second % 10000, 0x4E07);
-    let c = put_group(buf, b, fourth, third % 10000, 0x5104);
-    put_group(buf, c, fourth / 10000, fourth % 10000, 0x5146)
+    let a = put_group(buf, 192, second, n % 10000, None);
+    let b = put_group(buf, a, third, second % 10000, Some(0x4E07));
+    let c = put_group(buf, b, fourth, third % 10000, Some(0x5104));
+    put_group(buf, c, fourth / 10000, fourth % 10000, Some(0x5146))
 }
 
 // Writes the numeral of n at the front of the output.
-pub fn write_number(n: u64, out: &mut [u8]) -> Written
+pub fn write_number(n: u64, out: &mut [u8]) -> Result<usize, WriteRefusal>
     ensures answer { result ≡ written n (length out.old) }
     ensures after { out.new ≡ output n out.old }
 {
     if n > TOP {
-        return Written::AboveTop;
+        return Err(WriteRefusal::AboveTop);
     }
     let mut buf = [0u8; 192];
     let at = put_number(&mut buf, n);
     let len = 192 - at;
     if out.len() < len {
-        return Written::TooShort;
+        return Err(WriteRefusal::TooShort);
     }
     fields::copy::copy_in(out, 0, &buf[at..]);
-    Written::Bytes(len)
+    Ok(len)
 }

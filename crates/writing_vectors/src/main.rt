@@ -4,21 +4,21 @@
 
 ghost use Rattle.std.specs.Prelude.{◌≤◌, ◌<◌};
 
-use writing::Written;
+use writing::WriteRefusal;
 
 // The answer for n with this output.
 fn show_in(n: u64, out: &mut [u8]) {
     io::print_decimal(1, n);
     io::write_all(1, b"\t");
     match writing::write_number(n, out) {
-        Written::Bytes(len) => {
+        Ok(len) => {
             io::write_all(1, &out[..len]);
             io::write_all(1, b"\n");
         }
-        Written::AboveTop => {
+        Err(WriteRefusal::AboveTop) => {
             io::write_all(1, b"refused 10 0\n");
         }
-        Written::TooShort => {
+        Err(WriteRefusal::TooShort) => {
             io::write_all(1, b"refused 8 0\n");
         }
     }
@@ -33,15 +33,14 @@ fn show(n: u64, room: usize)
 }
 
 fn small_numbers() {
-    let mut n: u64 = 0;
-    while n <= 10000 {
+    for n in 0..=10000 {
         show(n, 93);
-        n += 1;
     }
 }
 
 // 10 to 10,000,000,000,000,000, which is above TOP.
 fn powers_of_ten() {
+    // Kept as a while: each number is ten times the last, which no range of std gives.
     let mut p: u64 = 1;
     while p <= 1000000000000000 {
         p = p * 10;
@@ -64,8 +63,7 @@ fn group(i: u64) -> u64
 }
 
 fn groups() {
-    let mut i: u64 = 0;
-    while i < 256 {
+    for i in 0..256 {
         show(
             group(i / 64) * 1000000000000
                 + group(i / 16) * 100000000
@@ -73,7 +71,6 @@ fn groups() {
                 + group(i),
             93,
         );
-        i += 1;
     }
 }
 

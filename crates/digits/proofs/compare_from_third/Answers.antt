@@ -4,24 +4,24 @@ use Rattle.digits.proofs.DigitsLaws.{two_passed, one_more_lem, test_above, test_
 use Rattle.digits.proofs.compare_from_third.Goals as goal
 
 pub loop-n-init : goal.loop-n-init
-loop-n-init c = (omega arith, omega arith, two_passed _ (omega arith))
+loop-n-init c = two_passed _ (omega arith)
 
 pub overflow_sub-past-then-c-starts : goal.overflow_sub-past-then-c-starts
 unfolding starts
-overflow_sub-past-then-c-starts c = (test_above _ c.loop-n.n c.loop-n.invariant.2 c.loop-n-test.true c.if-c-starts.true (λ e. omega arith)).0
+overflow_sub-past-then-c-starts c = (test_above _ c.loop-n.n c.loop-n.invariant c.loop-n-test.true c.if-c-starts.true (λ e. omega arith)).0
 
 pub returns-then-c-starts : goal.returns-then-c-starts
 unfolding starts
-returns-then-c-starts c = (test_above _ c.loop-n.n c.loop-n.invariant.2 c.loop-n-test.true c.if-c-starts.true (λ e. omega arith)).1
+returns-then-c-starts c = (test_above _ c.loop-n.n c.loop-n.invariant c.loop-n-test.true c.if-c-starts.true (λ e. omega arith)).1
 
 pub loop-n-preserved : goal.loop-n-preserved
 unfolding starts
-loop-n-preserved c = (omega arith, omega arith, one_more_lem _ c.loop-n.n c.loop-n.invariant.2 c.loop-n-test.true c.if-c-starts.false)
+loop-n-preserved c = one_more_lem _ c.loop-n.n c.loop-n.invariant c.loop-n-test.true c.if-c-starts.false
 
 pub overflow_sub-past-2 : goal.overflow_sub-past-2
 unfolding starts
-overflow_sub-past-2 c = (test_last _ c.loop-n.n c.loop-n.invariant.2 c.loop-n.invariant.1 c.loop-n-test.false).0
+overflow_sub-past-2 c = (test_last _ c.loop-n.n c.loop-n.invariant (omega arith) c.loop-n-test.false).0
 
 pub returns : goal.returns
 unfolding starts
-returns c = (test_last _ c.loop-n.n c.loop-n.invariant.2 c.loop-n.invariant.1 c.loop-n-test.false).1
+returns c = (test_last _ c.loop-n.n c.loop-n.invariant (omega arith) c.loop-n-test.false).1

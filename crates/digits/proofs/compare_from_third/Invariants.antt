@@ -1,12 +1,8 @@
--- `digits::compare_from_third` meets its contract. The loop's invariant: the n starts passed, two and more, and those of the rest that are not above c are all that are
--- not above c. The measure is what is left of the table. As the table rises by ten or more, the first start above c ends the count, and only
+-- `digits::compare_from_third` meets its contract. The loop's invariant: the n starts passed and those of the rest that are not above c are all that are
+-- not above c. As the table rises by ten or more, the first start above c ends the count, and only
 -- the run of the last start not above c can hold c. Assumes nothing.
-use Prim.Native.Nat.{◌-◌, ◌≤◌}
 use Rattle.digits.proofs.DigitsLaws.{Passed}
 use Rattle.digits.proofs.compare_from_third.Given as goal
 
 abbrev pub invariant-loop-n : goal.invariant-loop-n
-invariant-loop-n l = (2 ≤ l.n) × (l.n ≤ 68) × Passed l.c l.n
-
-abbrev pub decreases-loop-n : goal.decreases-loop-n
-decreases-loop-n l = 68 - l.n
+invariant-loop-n l = Passed l.c l.n

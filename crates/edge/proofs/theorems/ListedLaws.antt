@@ -3,7 +3,7 @@
 use mathlib.Core.Path.{◌≡◌, refl, sym, ap, ◌∙◌}
 use mathlib.Core.Bool.{Bool, true, false, cond, ◌&&◌, true≢false}
 use mathlib.Core.List.{List, [], ◌∷◌, ◌++◌}
-use Prim.Native.Nat.{ℕ, zero, suc, ◌+◌, ◌*◌, ◌-◌, ◌/◌, ◌%◌, ◌≤◌, ◌<◌}
+use Prim.Native.Nat.{ℕ, zero, suc, ◌+◌, ◌*◌, ◌/◌, ◌%◌, ◌≤◌, ◌<◌}
 use native.Mathlib.Nat.{add-zero}
 use native.Mathlib.Omega.{arith}
 use native.Mathlib.Decide.{dec_lt}
@@ -14,7 +14,6 @@ use Rattle.fields.specs.Fields.{le, le_at, bytes_of}
 use Rattle.fields.specs.Part.{part}
 use Rattle.fields.proofs.PartLaws.{length_part, part_at, part_add, part_all}
 use Rattle.fields.specs.Flag.{bytes_if}
-use Rattle.edge.specs.declared.ListingCheck.TheVariants.{Edges, Refused}
 use Rattle.edge.specs.Edge.{numeric_map, map_of, str, fraction_bytes, numeric_bytes, head_bytes, edge_bytes, edges_bytes, listing_bytes}
 use Rattle.edge.specs.Layout.{bit, stands, only, map_at, text_at, string_end, string_end_if, txt_at, head_end, fraction_at, base_at, mult_at, script_at, value_sAt, decimals_at, fields_end, next_at, numeric_at, edge_at, edges_at, listed}
 use Rattle.edge.specs.Check.{allowed, good, check_edges, check_listing}
@@ -22,6 +21,8 @@ use Rattle.edge.specs.View.{fields_at}
 use Rattle.edge.proofs.LayoutLaws.{within, string_end_ge}
 use Rattle.edge.proofs.CheckLaws.{fields_say, head_within, fields_within, good_whole}
 use Rattle.edge.proofs.WriteLaws.{map_is}
+use Rattle.std.specs.Prelude.{Ok, Err, Result}
+use Rattle.text.specs.declared.Offset.{Offset}
 
 -- ---- fields in a row: the bytes of s from a to b are bs
 pub record Run (s : List ℕ) (a b : ℕ) (bs : List ℕ) : Type 0 where
@@ -168,18 +169,18 @@ good_allowed given n s at t =
     and_left (allowed given (map_at s at)) _ (and_right (leb (next_at s at) (length s)) _ t)
 
 module _ (given : Bool) (n : ℕ) (s : List ℕ) (small : (i : ℕ) → get_or s i 0 < 256) (c : ℕ) where
-  edges_run : (k at : ℕ) → at ≤ length s → check_edges given n s k at ≡ Edges c → Run s at (length s) (edges_bytes (edges_at k s at))
+  edges_run : (k at : ℕ) → at ≤ length s → check_edges given n s k at ≡ Ok c → Run s at (length s) (edges_bytes (edges_at k s at))
   unfolding check_edges edges_at edges_bytes
   edges_run zero at h t = go (ltb at (length s)) refl t
     where
-      go : (b : Bool) → ltb at (length s) ≡ b → cond b (Refused (record { 0 = at })) (Edges (le_at s 0 2)) ≡ Edges c → Run s at (length s) []
+      go : (b : Bool) → ltb at (length s) ≡ b → cond {A = Result ℕ Offset} b (Err (record { 0 = at })) (Ok (le_at s 0 2)) ≡ Ok c → Run s at (length s) []
       go true e t = let z : ◌≡◌ {A = ℕ} 0 1 = cc in absurd (omega arith)
       go false e t = let l = ltb-false at (length s) e in let f : at ≡ length s = omega arith in rw (← f) (no_run s at)
   edges_run (suc k) at h t = go (good given n s at) refl (λ whole more. edges_run k (next_at s at) whole more) t
     where
       go : (b : Bool) → good given n s at ≡ b
-          → (next_at s at ≤ length s → check_edges given n s k (next_at s at) ≡ Edges c → Run s (next_at s at) (length s) (edges_bytes (edges_at k s (next_at s at))))
-          → cond b (check_edges given n s k (next_at s at)) (Refused (record { 0 = at })) ≡ Edges c
+          → (next_at s at ≤ length s → check_edges given n s k (next_at s at) ≡ Ok c → Run s (next_at s at) (length s) (edges_bytes (edges_at k s (next_at s at))))
+          → cond b (check_edges given n s k (next_at s at)) (Err (record { 0 = at })) ≡ Ok c
           → Run s at (length s) (edge_bytes (edge_at s at) ++ edges_bytes (edges_at k s (next_at s at)))
       go true e later t =
           let whole = good_whole given n s at e in
@@ -187,11 +188,11 @@ module _ (given : Bool) (n : ℕ) (s : List ℕ) (small : (i : ℕ) → get_or s
       go false e later t = let z : ◌≡◌ {A = ℕ} 0 1 = cc in absurd (omega arith)
 
 -- an accepted listing is the bytes of its edges
-pub accepted_listed : (given : Bool) (n : ℕ) (s : List ℕ) → ((i : ℕ) → get_or s i 0 < 256) → (c : ℕ) → check_listing given n s ≡ Edges c → listing_bytes (listed s) ≡ s
+pub accepted_listed : (given : Bool) (n : ℕ) (s : List ℕ) → ((i : ℕ) → get_or s i 0 < 256) → (c : ℕ) → check_listing given n s ≡ Ok c → listing_bytes (listed s) ≡ s
 unfolding check_listing listing_bytes
 accepted_listed given n s small c t = go (leb 2 (length s)) refl t
   where
-    go : (b : Bool) → leb 2 (length s) ≡ b → cond b (check_edges given n s (le_at s 0 2) 2) (Refused (record { 0 = 0 })) ≡ Edges c → listing_bytes (listed s) ≡ s
+    go : (b : Bool) → leb 2 (length s) ≡ b → cond b (check_edges given n s (le_at s 0 2) 2) (Err (record { 0 = 0 })) ≡ Ok c → listing_bytes (listed s) ≡ s
     go true e t =
         let h = leb-true 2 (length s) e in
         let r = run_then (number_run s small 0 2 h) (edges_run given n s small c (le_at s 0 2) 2 h t) in

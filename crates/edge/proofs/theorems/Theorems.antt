@@ -2,25 +2,25 @@
 -- bytes are equal edges. Assumes nothing.
 use mathlib.Core.Path.{◌≡◌, refl, sym, ap, ◌∙◌}
 use mathlib.Core.Bool.{Bool, true, not}
-use mathlib.Core.List.{List, [], ◌∷◌, ◌++◌, append_assoc, append-nil}
-use Prim.Native.Nat.{ℕ, suc, ◌+◌, ◌^◌, ◌≤◌, ◌<◌}
+use mathlib.Core.List.{List, [], ◌∷◌, ◌++◌}
+use Prim.Native.Nat.{ℕ, ◌+◌, ◌^◌, ◌≤◌, ◌<◌}
 use native.Mathlib.Omega.{arith}
 use lib.ListN.{length, drop, get_or, length-append, length-drop}
 use lib.Dec.{T}
-use lib.Ieee.{binary64, to_bits, of_bits, nan_bits}
+use lib.Ieee.{binary64, of_bits, nan_bits}
 use lib.Ieee.Bits.{of_bits-to_bits, to_bits-lt}
 use Rattle.whole.specs.Whole.{TOP, of_nat}
 use Rattle.whole.proofs.WholeLaws.{of_nat-fits, of_nat-bits_not_nan}
 use borrow.Author.Tests.{le-leb, le-ltb}
 use Rattle.fields.specs.Fields.{le_at, bytes_of}
 use Rattle.fields.proofs.FieldsLaws.{length-bytes_of, le_at-bytes_of}
-use Rattle.edge.specs.declared.ListingCheck.TheVariants.{Edges, Refused}
-use Rattle.edge.specs.Edge.{Edge, map_of, edge_bytes, edges_bytes, listing_bytes, EdgeFits, f64_bits}
-use Rattle.edge.specs.Layout.{map_at, next_at, edge_at, edges_at, listed}
-use Rattle.edge.specs.Check.{allowed, sound, good, check_edges, check_listing}
-use Rattle.edge.specs.Legal.{Legal, AllLegal, no_edge, one_more_lem}
+use Rattle.edge.specs.Edge.{Edge, edge_bytes, edges_bytes, listing_bytes, EdgeFits, f64_bits}
+use Rattle.edge.specs.Layout.{next_at, edge_at, edges_at, listed}
+use Rattle.edge.specs.Check.{good, check_edges, check_listing}
+use Rattle.edge.specs.Legal.{Legal, AllLegal, one_more_lem}
 use Rattle.edge.proofs.theorems.ListedLaws.{accepted_listed}
-use Rattle.edge.proofs.theorems.ReadBackLaws.{behind, number_behind, EdgeRead, edge_there, edge_behind}
+use Rattle.edge.proofs.theorems.ReadBackLaws.{number_behind, edge_there, edge_behind}
+use Rattle.std.specs.Prelude.{Ok}
 
 -- ---- an edge
 -- what was listed is read, whatever stands behind it
@@ -59,7 +59,7 @@ module _ (given : Bool) (n : ℕ) (s : List ℕ) where
         let r = edge_there s at rest e l.fits stand in
         rw (le-leb (next_at s at) (length s) edge_inside, r.map, r.is, l.map, l.content)
 
-  edges_accepted : (es : List Edge) (at : ℕ) → AllLegal given n es → at ≤ length s → drop at s ≡ edges_bytes es → check_edges given n s (length es) at ≡ Edges (le_at s 0 2)
+  edges_accepted : (es : List Edge) (at : ℕ) → AllLegal given n es → at ≤ length s → drop at s ≡ edges_bytes es → check_edges given n s (length es) at ≡ Ok (le_at s 0 2)
   unfolding edges_bytes check_edges
   edges_accepted [] at l h stand = rw (le-ltb at (length s) (at_end s at stand))
   edges_accepted (e ∷ es) at (one_more_lem l ls) h stand =
@@ -83,13 +83,13 @@ module _ (given : Bool) (n : ℕ) (es : List Edge) (legal : AllLegal given n es)
   listing_read_back = rw count_read (edges_read given n (listing_bytes es) es 2 legal edges_row)
 
   -- and accepted
-  pub listing_accepted : check_listing given n (listing_bytes es) ≡ Edges (length es)
+  pub listing_accepted : check_listing given n (listing_bytes es) ≡ Ok (length es)
   unfolding check_listing
   listing_accepted =
-      rw (le-leb 2 (length (listing_bytes es)) count_inside, count_read) (edges_accepted given n (listing_bytes es) es 2 legal count_inside edges_row ∙ ap Edges count_read)
+      rw (le-leb 2 (length (listing_bytes es)) count_inside, count_read) (edges_accepted given n (listing_bytes es) es 2 legal count_inside edges_row ∙ ap Ok count_read)
 
 -- an accepted listing is the bytes of its edges, each byte being below 256
-pub accepted_is_listed : (given : Bool) (n : ℕ) (s : List ℕ) → ((i : ℕ) → get_or s i 0 < 256) → (count : ℕ) → check_listing given n s ≡ Edges count → listing_bytes (listed s) ≡ s
+pub accepted_is_listed : (given : Bool) (n : ℕ) (s : List ℕ) → ((i : ℕ) → get_or s i 0 < 256) → (count : ℕ) → check_listing given n s ≡ Ok count → listing_bytes (listed s) ≡ s
 accepted_is_listed = accepted_listed
 
 -- ---- floats: the bits of a whole number up to TOP are a u64, no NaN, and those of the number's f64

@@ -1,12 +1,19 @@
 -- The room that is left as the fields of an edge are written one behind the other, in plain numbers. For this crate's proofs. No contract cites this file.
--- In order: room in a list that kept its length; a part; the numbers. Assumes nothing.
-use mathlib.Core.Path.{◌≡◌}
+-- In order: room in a list that kept its length; the numbers; what is put where a bit stands. Assumes nothing.
+use mathlib.Core.Path.{◌≡◌, ◌∙◌}
+use mathlib.Core.Bool.{Bool, true, false}
+use lib.Dec.{eqb}
 use mathlib.Core.List.{List}
-use Prim.Native.Nat.{ℕ, ◌+◌, ◌*◌, ◌-◌, ◌/◌, ◌%◌, ◌≤◌, ◌<◌}
+use Prim.Native.Nat.{ℕ, ◌+◌, ◌*◌, ◌/◌, ◌%◌, ◌≤◌, ◌<◌}
 use native.Mathlib.Omega.{arith}
-use lib.ListN.{length, take, drop, length-drop}
-use lib.Seq.{length-take-le}
-use Rattle.edge.specs.Layout.{script_at}
+use lib.Seq.{sets}
+use Rattle.fields.specs.Fields.{bytes_of}
+use Rattle.fields.specs.Flag.{bytes_if}
+use Rattle.edge.proofs.LayoutLaws.{either}
+use Rattle.edge.proofs.WriteLaws.{put_number_on, put_number_off, put_text_on, put_text_off}
+use Rattle.edge.specs.Edge.{str}
+use Rattle.edge.specs.Write.{Put, text_past_if}
+use Rattle.edge.specs.Layout.{only, script_at}
 
 -- ---- room in a list that kept its length
 pub kept_room : {a n k : ℕ} → a ≤ n → k ≡ n → a ≤ k
@@ -14,13 +21,6 @@ kept_room h e = omega arith
 
 pub past_room : {p q n k : ℕ} → p ≡ q → p ≤ n → k ≡ n → q ≤ k
 past_room e h l = omega arith
-
--- ---- a part, behind its length
-pub part_room : (s : List ℕ) (from n at : ℕ) {m k : ℕ} → at + 2 + n ≤ m → from + n ≤ length s → k ≡ m → at + 2 + length (take (from + n - from) (drop from s)) ≤ k
-part_room s from n at h j e =
-    let d : from + n - from ≡ n = omega arith in
-    let l : length (take n (drop from s)) ≡ n = length-take-le n (drop from s) (simp length-drop (omega arith)) in
-    rw (d, l) (omega arith)
 
 -- ---- the numbers of an edge with the map m
 module _ (m at n : ℕ) (room : script_at m at ≤ n) where
@@ -51,3 +51,16 @@ module _ (m at n : ℕ) (room : script_at m at ≤ n) where
           pub numbers_end : {r : ℕ} → r ≡ e + 8 * (m / 16 % 2) → r ≡ script_at m at
           unfolding script_at
           numbers_end h = omega arith
+
+-- ---- what is put where a bit stands
+pub number_told : (w k v : ℕ) (s t : List ℕ) (at r : ℕ) → k < 2 → (eqb k 1 ≡ true → (r ≡ at + w) × (t ≡ sets s at (bytes_of w v))) → (eqb k 1 ≡ false → (r ≡ at) × (t ≡ s))
+    → (r ≡ at + w * k) × Put s t at r (bytes_if (bytes_of w) (only (eqb k 1) v))
+number_told w k v s t at r l there absent =
+    either (eqb k 1)
+    (λ on. let h = there on in let p = put_number_on w k v s at on h.1 in (h.0 ∙ p.0, rw h.0 p.1))
+    (λ off. let h = absent off in let p = put_number_off w k v s at l off in (h.0 ∙ p.0, rw (h.0, h.1) p.1))
+
+pub text_told : (on : Bool) (x : List ℕ) (n : ℕ) (s t : List ℕ) (at r : ℕ) → (on ≡ true → (r ≡ at + 2 + n) × Put s t at r (str x)) → (on ≡ false → (r ≡ at) × (t ≡ s))
+    → (r ≡ text_past_if on n at) × Put s t at r (bytes_if str (only on x))
+text_told on x n s t at r there absent =
+    either on (λ e. put_text_on on s x n at e (there e)) (λ off. let h = absent off in rw (h.0, h.1) (put_text_off on s x n at off))

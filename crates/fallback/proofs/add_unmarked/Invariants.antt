@@ -1,11 +1,6 @@
--- `fallback::add_unmarked` meets its contract. The loop's invariant: with the characters from its place on, the lattice is what it shall be (`Walking`). The
--- measure is how many are left. Assumes nothing.
-use Prim.Native.Nat.{◌-◌}
+-- `fallback::add_unmarked` meets its contract. The loop's invariant: with the characters from its place on, the lattice is what it shall be (`Walking`). Assumes nothing.
 use Rattle.fallback.proofs.DigitLaws.{Walking}
 use Rattle.fallback.proofs.add_unmarked.Given as goal
 
 abbrev pub invariant-loop-place : goal.invariant-loop-place
 invariant-loop-place l = Walking l.initial.work l.initial.grown l.line l.marks l.work l.grown l.place
-
-abbrev pub decreases-loop-place : goal.decreases-loop-place
-decreases-loop-place l = l.places - l.place

@@ -1,8 +1,8 @@
 -- Laws of `specs/Bare.antt`. No contract cites this file.
 -- In order: a character, a turn over the line; the stages of a bare line, one after the other; its lattice, and that of the call with decimals; no given edges. Assumes nothing.
 use mathlib.Core.Path.{◌≡◌, refl, sym, ap, ◌∙◌}
-use mathlib.Core.Bool.{Bool, true, false, cond, ◌&&◌, not}
-use mathlib.Core.List.{List, [], ◌∷◌, ◌++◌, map}
+use mathlib.Core.Bool.{Bool, true, false, ◌&&◌, not}
+use mathlib.Core.List.{List, [], ◌∷◌}
 use mathlib.Core.Option.{Option, none, some}
 use Prim.Native.Nat.{ℕ, zero, suc, ◌+◌}
 use native.Mathlib.Omega.{arith}
@@ -19,14 +19,13 @@ use Rattle.passes.specs.Characters.{with_edge, char_edges, first_list}
 use Rattle.passes.specs.Chains.{chains}
 use Rattle.passes.specs.DecimalPasses as decimal
 use Rattle.passes.specs.DecimalPasses.{point_at}
-use Rattle.passes.specs.Passes.{chains_of, joined_of, after, added, through, added_by, five, fifth_list, joined_edges, above_at}
+use Rattle.passes.specs.Passes.{chains_of, joined_of, after, added, through, added_by, five, above_at}
 use Rattle.edge.specs.Edge.{Edge}
 use Rattle.edge.specs.Layout.{edges_at, listed}
 use Rattle.edge.specs.Check.{check_listing}
-use Rattle.edge.specs.declared.ListingCheck.TheVariants.{Edges}
 use Rattle.lattice.specs.Lattice.{add_all, turn_off}
 use Rattle.paths.specs.Best.{best, highest, numbered}
-use Rattle.numbers.specs.Fallback.{ascii_digit, covered, fallback}
+use Rattle.numbers.specs.Fallback.{ascii_digit, fallback}
 use Rattle.numbers.specs.Fractions.{Marker, percentage, connector, no_marker, Outcome, nothing, marked, by_marker, marker_at, outcome_at, outcomes_from, new_edges, used_edges, fractions}
 use Rattle.numbers.specs.Signs.{signs}
 use Rattle.numbers.specs.Separators.{copies, separate}
@@ -34,6 +33,7 @@ use Rattle.numbers.specs.Singles.{without_singles}
 use Rattle.numbers.specs.Call.{decimal_passes, with_edges, with_signs, after_passes, after_signs, separate_by, lattice_by, decimal_lattice}
 use Rattle.first_stages.proofs.given.GivenLaws.{checked_given}
 use Rattle.first_stages.specs.Bare.{bare_char, bare}
+use Rattle.std.specs.Prelude.{Ok}
 
 -- ---- a character
 pub digit_bare : (rs : List Record) (c : ℕ) → ascii_digit c ≡ true → false ≡ bare_char rs c
@@ -189,6 +189,6 @@ module _ (t : Table) (w : List ℕ) (h : bare t.records w ≡ true) where
   bare_decimal_lattice = rw (bare_decimal_passes, bare_decimal_signs, none_apart, bare_fallback t.records [] 0 w h)
 
 -- ---- no given edges
-pub none_given : (n : ℕ) (s : List ℕ) (k : ℕ) → check_listing true n s ≡ Edges k → k ≡ 0 → listed s ≡ []
+pub none_given : (n : ℕ) (s : List ℕ) (k : ℕ) → check_listing true n s ≡ Ok k → k ≡ 0 → listed s ≡ []
 unfolding edges_at
 none_given n s k e z = let c = sym (checked_given n s k e).0 ∙ z in ap (λ (m : ℕ). edges_at m s 2) c

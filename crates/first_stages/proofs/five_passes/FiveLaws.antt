@@ -1,9 +1,9 @@
 -- Laws of the five passes in the work space (`specs/Five.antt`). No contract cites this file.
 -- In order: the i-th pass; what it leaves; all five in turn. Assumes nothing.
-use mathlib.Core.Path.{◌≡◌, refl, sym, ap, ◌∙◌, subst}
+use mathlib.Core.Path.{◌≡◌, refl, sym, ap, ◌∙◌}
 use mathlib.Core.List.{List, [], ◌∷◌, ◌++◌, map-append}
 use mathlib.Core.Option.{Option, none, some}
-use Prim.Native.Nat.{ℕ, zero, suc, ◌+◌, ◌-◌, ◌*◌, ◌≤◌, ◌<◌}
+use Prim.Native.Nat.{ℕ, zero, suc, ◌+◌, ◌≤◌, ◌<◌}
 use native.Mathlib.Numerals.{add-one}
 use native.Mathlib.Omega.{arith}
 use lib.ListN.{length, take, drop}
@@ -11,8 +11,6 @@ use lib.Seq.{drop-cons}
 use Rattle.text.specs.declared.Place.{Place}
 use Rattle.text.specs.Text.{Scalars}
 use Rattle.passes.specs.Passes.{Pass, D1, five}
-use Rattle.pass_list.specs.declared.run.PassAnswer.{PassAnswer}
-use Rattle.pass_list.specs.declared.run.PassAnswer.TheVariants as PassAnswer
 use Rattle.pass_list.specs.StoredEdge.{StoredEdge, Every, AllSmall, nil, cons}
 use Rattle.pass_list.specs.StoredPass.{kind_of, after, added, first_above}
 use Rattle.pass_list.specs.Stored.{stored_list_at}
@@ -27,17 +25,15 @@ use Rattle.lattice.specs.declared.Lattice.{Lattice}
 use Rattle.lattice.specs.Lattice.{add_all}
 use Rattle.lattice.specs.Kept.{Holds, END, SameBehind}
 use Rattle.lattice.proofs.HoldsLaws.{add_all_append}
-use Rattle.pass_list.proofs.in_turn.EveryLaws.{every_append}
 use Rattle.pass_list.specs.Kind.{kind_number}
-use Rattle.pass_edge.specs.Grounded.{Grounded, AllGrounded}
+use Rattle.pass_edge.specs.Grounded.{AllGrounded}
 use Rattle.pass_edge.specs.Adding.{listed_of}
-use Rattle.first_stages.specs.declared.five_passes.PassesAnswer.{PassesAnswer}
-use Rattle.first_stages.specs.declared.five_passes.PassesAnswer.TheVariants.{Added, Above}
-use Rattle.first_stages.specs.Five.{listed_stored, behind, PassList, OneDone, OnePass, FiveDone, FivePasses}
+use Rattle.first_stages.specs.Five.{listed_stored, behind, PassList, OnePass, FivePasses}
 use Rattle.first_stages.proofs.five_passes.FrontLaws.{holds_front}
 use Rattle.first_stages.proofs.five_passes.KeptLaws.{added_none}
 use Rattle.first_stages.proofs.five_passes.RootLaws.{sounds_small}
 use Rattle.first_stages.proofs.five_passes.GroundLaws.{after_grounded}
+use Rattle.std.specs.Prelude.{Result, Ok, Err}
 
 -- ---- the i-th pass
 nth_first : (i : ℕ) → i < 5 → drop i five ≡ nth i ∷ drop (i + 1) five
@@ -60,20 +56,20 @@ module _ {w t : List ℕ} {i : ℕ} {s : List ℕ} {n : ℕ} (scalars : Scalars 
   earlier = rw (nth_kind i h) q.kinds
 
   -- the pass ran over the list behind the lattice, from s to v
-  module _ (v : List ℕ) {r : PassAnswer} (p : PassAnswerIs (nth i) (behind s n) (drop END v) r) where
-    pub one_above : (l : Lattice) (a : Place) → r ≡ PassAnswer.Above a → OnePass w t i s l n v (Above a)
+  module _ (v : List ℕ) {r : Result ℕ Place} (p : PassAnswerIs (nth i) (behind s n) (drop END v) r) where
+    pub one_above : (l : Lattice) (a : Place) → r ≡ Err a → OnePass w t i s l n v (Err a)
     unfolding OnePass
     one_above l a e = go (first_above (added (nth i) (behind s n))) (sym p.answer ∙ e)
       where
-        go : (o : Option ℕ) → passed o (length (after (nth i) (behind s n))) ≡ PassAnswer.Above a → o ≡ some a.0
+        go : (o : Option ℕ) → passed o (length (after (nth i) (behind s n))) ≡ Err a → o ≡ some a.0
         go none f = absurd (let z : ◌≡◌ {A = ℕ} 0 1 = cc in omega arith)
         go (some b) f = let g : record { 0 = b } ≡ a = cc in ap (λ (x : Place). some x.0) g
 
-    module _ {k : ℕ} (e : r ≡ PassAnswer.Edges k) where
+    module _ {k : ℕ} (e : r ≡ Ok k) where
       not_above_lem : (first_above (added (nth i) (behind s n)) ≡ none) × (k ≡ length (after (nth i) (behind s n)))
       not_above_lem = go (first_above (added (nth i) (behind s n))) (sym p.answer ∙ e)
         where
-          go : (o : Option ℕ) → passed o (length (after (nth i) (behind s n))) ≡ PassAnswer.Edges k → (o ≡ none) × (k ≡ length (after (nth i) (behind s n)))
+          go : (o : Option ℕ) → passed o (length (after (nth i) (behind s n))) ≡ Ok k → (o ≡ none) × (k ≡ length (after (nth i) (behind s n)))
           go none f = (refl, cc)
           go (some b) f = absurd (let z : ◌≡◌ {A = ℕ} 0 1 = cc in omega arith)
 
@@ -101,7 +97,7 @@ module _ {w t : List ℕ} {i : ℕ} {s : List ℕ} {n : ℕ} (scalars : Scalars 
 
       -- then the joined edges were added, from v to u
       pub one_added : (l : Lattice) (u : List ℕ) (m : Lattice) → take END v ≡ take END s → length v ≡ length s → SameBehind v u
-          → ((es : List Edge) → Holds v l es → Holds u m (add_all es (listed_stored w t (of_kind (i + 1) (behind v k))))) → OnePass w t i s l n u (Added m k)
+          → ((es : List Edge) → Holds v l es → Holds u m (add_all es (listed_stored w t (of_kind (i + 1) (behind v k))))) → OnePass w t i s l n u (Ok (m, k))
       unfolding OnePass
       one_added l u m front long frame g =
           let same : behind u k ≡ behind v k = ap (λ (b : List ℕ). stored_list_at b 0 k) frame in
@@ -113,7 +109,7 @@ module _ {w t : List ℕ} {i : ℕ} {s : List ℕ} {n : ℕ} (scalars : Scalars 
           }
 
       -- or there are none to add: as many edges as before
-      pub one_kept : (l : Lattice) → take END v ≡ take END s → length v ≡ length s → k ≡ n → OnePass w t i s l n v (Added l k)
+      pub one_kept : (l : Lattice) → take END v ≡ take END s → length v ≡ length s → k ≡ n → OnePass w t i s l n v (Ok (l, k))
       unfolding add_all
       one_kept l front long kept =
           let none-new : of_kind (i + 1) (behind v k) ≡ [] = new_stored_edges ∙ added_none (nth i) (behind s n) (sym not_above_lem.1 ∙ kept ∙ sym (length_stored_edges (drop END s) 0 n)) in
@@ -136,11 +132,11 @@ pub going_start : {w t s : List ℕ} {l : Lattice} {n : ℕ} → PassList w t 1 
 going_start q = record { long = refl; list = q; above = refl; after = refl; holds = λ es x. (es, x, refl) }
 
 module _ {w t s : List ℕ} {l : Lattice} {n : ℕ} {u : List ℕ} {m : Lattice} {k i : ℕ} (g : Going w t s l n u m k i) where
-  pub going_above : i < 5 → (v : List ℕ) (a : Place) (x : List ℕ) → OnePass w t i u m k v (Above a) → FivePasses w t s l n x (Above a)
+  pub going_above : i < 5 → (v : List ℕ) (a : Place) (x : List ℕ) → OnePass w t i u m k v (Err a) → FivePasses w t s l n x (Err a)
   unfolding OnePass FivePasses
   going_above h v a x o = g.above ∙ rw (nth_first i h) (above_here (nth i) (drop (i + 1) five) (behind u k) a.0 o)
 
-  pub going_next : i < 5 → (v : List ℕ) (b : Lattice) (j : ℕ) → length v ≡ length u → OnePass w t i u m k v (Added b j) → Going w t s l n v b j (i + 1)
+  pub going_next : i < 5 → (v : List ℕ) (b : Lattice) (j : ℕ) → length v ≡ length u → OnePass w t i u m k v (Ok (b, j)) → Going w t s l n v b j (i + 1)
   unfolding OnePass added_by through
   going_next h v b j y o =
       let more : listed_stored w t (added_by (drop i five) (behind u k)) ≡ listed_stored w t (added (nth i) (behind u k)) ++ listed_stored w t (added_by (drop (i + 1) five) (behind v j)) =
@@ -161,7 +157,7 @@ module _ {w t s : List ℕ} {l : Lattice} {n : ℕ} {u : List ℕ} {m : Lattice}
             );
       }
 
-  pub going_end : 5 ≤ i → i ≤ 5 → FivePasses w t s l n u (Added m k)
+  pub going_end : 5 ≤ i → i ≤ 5 → FivePasses w t s l n u (Ok (m, k))
   unfolding FivePasses added_by through first_above add_all
   going_end h j =
       let z : i ≡ 5 = omega arith in

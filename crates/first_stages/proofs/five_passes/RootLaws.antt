@@ -1,6 +1,6 @@
 -- The passes keep stored edges rooted in the table: what is joined takes its script from its last part. No contract cites this file.
 -- In order: one joined stored edge; a pass; sound stored edges. Assumes nothing.
-use mathlib.Core.Path.{◌≡◌, refl, sym, subst}
+use mathlib.Core.Path.{◌≡◌, sym, subst}
 use mathlib.Core.Bool.{Bool, true, false, cond}
 use mathlib.Core.List.{List, [], ◌∷◌}
 use mathlib.Core.Option.{none, some, some-injective, some-ne-none}

@@ -1,29 +1,28 @@
 -- Laws of a listing that is given to the call. No contract cites this file.
 -- In order: what the check shows of its edges; the walk over them; they are edges of the call. Assumes nothing.
 use mathlib.Core.Path.{◌≡◌, refl, sym, ap, ◌∙◌}
-use mathlib.Core.Bool.{Bool, true, false, cond, ◌&&◌}
-use mathlib.Core.List.{List, [], ◌∷◌}
+use mathlib.Core.Bool.{true, ◌&&◌}
+use mathlib.Core.List.{List, ◌∷◌}
 use mathlib.Core.Option.{none, some, some-ne-none}
-use Prim.Native.Nat.{ℕ, zero, suc, ◌+◌, ◌-◌, ◌≤◌, ◌<◌}
+use Prim.Native.Nat.{ℕ, zero, suc, ◌-◌, ◌≤◌, ◌<◌}
 use native.Mathlib.Omega.{arith}
 use lib.ListN.{length, get_or}
 use lib.Dec.{eqb, leb, ltb}
 use borrow.Author.Tests.{eqb-true, leb-true}
 use Rattle.text.proofs.RowLaws.{cond_cases, and-true}
 use Rattle.fields.specs.Fields.{le_at}
-use Rattle.edge.specs.declared.ListingCheck.{ListingCheck}
-use Rattle.edge.specs.declared.ListingCheck.TheVariants.{Edges, Refused}
-use Rattle.edge.specs.Edge.{Edge, Numeric, map_of, EdgeFits}
+use Rattle.edge.specs.Edge.{Edge, Numeric}
 use Rattle.edge.specs.Layout.{map_at, next_at, edge_at, edges_at, listed}
 use Rattle.edge.specs.Check.{allowed, sound, good, check_edges, check_listing}
 use Rattle.edge.proofs.CheckLaws.{good_whole, map_within}
-use Rattle.edge.specs.Legal.{Legal}
 use Rattle.lattice.specs.declared.Lattice.{Lattice}
 use Rattle.lattice.specs.Lattice.{add, add_all}
 use Rattle.lattice.specs.Kept.{Holds, SameBehind}
 use Rattle.lattice_add.proofs.GivenLaws.{given_stands}
-use Rattle.pass_list.specs.StoredEdge.{Every, nil, cons}
+use Rattle.pass_list.specs.StoredEdge.{nil, cons}
 use Rattle.numbers.specs.CallEdge.{CallEdge, CallEdges}
+use Rattle.std.specs.Prelude.{Result, Ok}
+use Rattle.text.specs.declared.Offset.{Offset}
 
 -- ---- what the check shows: the k edges from an offset on are whole, regular and sound
 pub record Regular (n : ℕ) (s : List ℕ) (at : ℕ) : Type 0 where
@@ -42,21 +41,21 @@ regular_there n s at g =
     let p = and-true (eqb (map_at s at) 0) (sound n (edge_at s at)) t in
     record { whole = good_whole true n s at g; map = eqb-true (map_at s at) 0 p.0; content = p.1 }
 
-checked : (n : ℕ) (s : List ℕ) (k at m : ℕ) → at ≤ length s → check_edges true n s k at ≡ Edges m → (m ≡ le_at s 0 2) × Regulars n k s at
+checked : (n : ℕ) (s : List ℕ) (k at m : ℕ) → at ≤ length s → check_edges true n s k at ≡ Ok m → (m ≡ le_at s 0 2) × Regulars n k s at
 unfolding check_edges Regulars
 checked n s zero at m h =
-    cond_cases (λ (r : ListingCheck). r ≡ Edges m → (m ≡ le_at s 0 2) × (at ≤ length s)) (ltb at (length s))
+    cond_cases (λ (r : Result ℕ Offset). r ≡ Ok m → (m ≡ le_at s 0 2) × (at ≤ length s)) (ltb at (length s))
     (λ t e. let z : ◌≡◌ {A = ℕ} 0 1 = cc in absurd (omega arith))
     (λ t e. (cc, h))
 checked n s (suc k) at m h =
-    cond_cases (λ (r : ListingCheck). r ≡ Edges m → (m ≡ le_at s 0 2) × (Regular n s at × Regulars n k s (next_at s at))) (good true n s at)
+    cond_cases (λ (r : Result ℕ Offset). r ≡ Ok m → (m ≡ le_at s 0 2) × (Regular n s at × Regulars n k s (next_at s at))) (good true n s at)
     (λ g e. let r = checked n s k (next_at s at) m (good_whole true n s at g) e in (r.0, (regular_there n s at g, r.1)))
     (λ g e. let z : ◌≡◌ {A = ℕ} 0 1 = cc in absurd (omega arith))
 
-pub checked_given : (n : ℕ) (s : List ℕ) (k : ℕ) → check_listing true n s ≡ Edges k → (k ≡ le_at s 0 2) × Regulars n k s 2
+pub checked_given : (n : ℕ) (s : List ℕ) (k : ℕ) → check_listing true n s ≡ Ok k → (k ≡ le_at s 0 2) × Regulars n k s 2
 unfolding check_listing
 checked_given n s k =
-    cond_cases (λ (r : ListingCheck). r ≡ Edges k → (k ≡ le_at s 0 2) × Regulars n k s 2) (leb 2 (length s))
+    cond_cases (λ (r : Result ℕ Offset). r ≡ Ok k → (k ≡ le_at s 0 2) × Regulars n k s 2) (leb 2 (length s))
     (λ t e. let r = checked n s (le_at s 0 2) 2 k (leb-true 2 (length s) t) e in (r.0, rw r.0 r.1))
     (λ t e. let z : ◌≡◌ {A = ℕ} 0 1 = cc in absurd (omega arith))
 
@@ -91,7 +90,7 @@ pub record Adding (w₀ : List ℕ) (l₀ : Lattice) (s : List ℕ) (w : List �
   pub frame : SameBehind w₀ w
   pub holds : (es : List Edge) → Holds w₀ l₀ es → (ds : List Edge) × Holds w l ds × (add_all ds (edges_at k s at) ≡ add_all es (listed s))
 
-pub add_start : (w : List ℕ) (l : Lattice) (s : List ℕ) (count n : ℕ) → check_listing true n s ≡ Edges count → Adding w l s w l 2 count
+pub add_start : (w : List ℕ) (l : Lattice) (s : List ℕ) (count n : ℕ) → check_listing true n s ≡ Ok count → Adding w l s w l 2 count
 add_start w l s count n e =
     let r = checked_given n s count e in
     record { n = n; regular = r.1; long = refl; frame = refl; holds = λ es q. (es, q, rw r.0) }
@@ -143,5 +142,5 @@ module _ (n : ℕ) (s : List ℕ) (bytes : (i : ℕ) → get_or s i 0 < 256) whe
   call_edges zero at r = nil
   call_edges (suc k) at r = cons (call_edge at r.0) (call_edges k (next_at s at) r.1)
 
-  pub given_call : (count : ℕ) → check_listing true n s ≡ Edges count → CallEdges n (listed s)
+  pub given_call : (count : ℕ) → check_listing true n s ≡ Ok count → CallEdges n (listed s)
   given_call count e = let r = checked_given n s count e in rw r.0 at (call_edges count 2 r.1)

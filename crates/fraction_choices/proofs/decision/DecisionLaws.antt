@@ -13,8 +13,7 @@ use Rattle.text.proofs.RowLaws.{cond_cases, and-true}
 use Rattle.whole.specs.Decimal.{decimal}
 use Rattle.edge.specs.Edge.{Edge}
 use Rattle.lattice.specs.Kept.{no_edge}
-use Rattle.paths.specs.declared.Query.{Query}
-use Rattle.paths.specs.Best.{Best, best, numbered, left_neighbor, right_neighbor}
+use Rattle.paths.specs.Best.{numbered, left_neighbor, right_neighbor}
 use Rattle.paths.proofs.BestLaws.{Each, OfBest, best_holds}
 use Rattle.numbers.specs.Listed.{whole_value}
 use Rattle.numbers.specs.Fractions.{Outcome, made, nothing, is_numeric, percent_edge, fraction_edge, otherwise, both, with_values, between, marked}
@@ -23,6 +22,7 @@ use Rattle.fraction_choices.specs.declared.decision.Choice.{Choice}
 use Rattle.fraction_choices.specs.Choice.{outcome_of, Two, Valid}
 use Rattle.fraction_choices.specs.Around.{side_of, kept_of, Neighbors}
 use Rattle.fraction_choices.specs.Decision.{choice, no_choice, otherwise_of, both_of, with_values_of, between_of}
+use Rattle.std.specs.Prelude as std
 
 -- ---- the indices that the tables keep
 Below : ℕ → ℕ × Edge → Type 0
@@ -54,7 +54,7 @@ module _ (percent : Bool) (es : List Edge) (p : ℕ) where
   made_otherwise zero = refl
   made_otherwise (suc j) = made_txt j (percent && is_numeric (get_or es j no_edge))
 
-  module _ (c : Choice) (m : Outcome) (other : outcome_of es p c ≡ m) where
+  module _ (c : std.Option Choice) (m : Outcome) (other : outcome_of es p c ≡ m) where
     made_both : (i j lv rv : ℕ) → whole_value (get_or es i no_edge) ≡ some lv → whole_value (get_or es j no_edge) ≡ some rv → outcome_of es p (both_of percent c i lv j) ≡ both percent m i (get_or es i no_edge) lv j (get_or es j no_edge) rv
     unfolding outcome_of
     made_both i j lv rv e f = by_tests (eqb lv 100) (not percent && not (eqb lv 0))
@@ -91,7 +91,7 @@ module _ (es : List Edge) where
         (λ t. record { uses = record { right = omega arith; numeric = (and-true percent (is_numeric (get_or es j no_edge)) t).1 } })
         (λ t. valid_none)
 
-    module _ (c : Choice) (other : Valid es c) where
+    module _ (c : std.Option Choice) (other : Valid es c) where
       valid_both : (i j lv rv : ℕ) → i < length es → j < length es → whole_value (get_or es i no_edge) ≡ some lv → whole_value (get_or es j no_edge) ≡ some rv → Valid es (both_of percent c i lv j)
       valid_both i j lv rv h k e f =
           let t : Two es i j = record { left = h; right = k; left_value = (lv, e); right_value = (rv, f) } in
@@ -128,15 +128,8 @@ module _ (es : List Edge) (percent : Bool) where
     pub otherwise_numeric : (y : ℕ) → (y ≡ 0 → ⊥) → {b : Bool} → b ≡ is_numeric (get_or es (y - 1) no_edge) → not b ≡ false → choice TxtPercent 0 (y - 1) ≡ otherwise_of percent es y
     otherwise_numeric y n {b} e t = ap (λ (u : Bool). cond u (choice TxtPercent 0 (y - 1)) no_choice) (sym (not-false b t)) ∙ by_kind y n e
 
-  module _ (c : Choice) where
-    pub between_left : (x y : ℕ) → x ≡ 0 → c ≡ between_of percent c es x y
-    between_left x y h = rw h
-
-    pub between_right : (x y : ℕ) → y ≡ 0 → c ≡ between_of percent c es x y
-    between_right zero y h = refl
-    between_right (suc i) y h = rw h
-
-    pub between_both : (x y : ℕ) → (x ≡ 0 → ⊥) → (y ≡ 0 → ⊥) → {u v : Option ℕ} → u ≡ whole_value (get_or es (x - 1) no_edge) → v ≡ whole_value (get_or es (y - 1) no_edge) → {r : Choice} → r ≡ with_values_of percent c (x - 1) u (y - 1) v → r ≡ between_of percent c es x y
+  module _ (c : std.Option Choice) where
+    pub between_both : (x y : ℕ) → (x ≡ 0 → ⊥) → (y ≡ 0 → ⊥) → {u v : Option ℕ} → u ≡ whole_value (get_or es (x - 1) no_edge) → v ≡ whole_value (get_or es (y - 1) no_edge) → {r : std.Option Choice} → r ≡ with_values_of percent c (x - 1) u (y - 1) v → r ≡ between_of percent c es x y
     between_both zero y n m e f g = absurd (n refl)
     between_both (suc i) zero n m e f g = absurd (m refl)
     between_both (suc i) (suc j) n m e f g =
@@ -145,7 +138,7 @@ module _ (es : List Edge) (percent : Bool) where
         g ∙ rw (e, f, a, b)
 
 -- ---- a marker of n characters at place p
-module _ (percent : Bool) (es : List Edge) (lefts rights : List ℕ) (p n : ℕ) (inside : p + n ≤ 256) (left : Neighbors false es lefts) (right : Neighbors true es rights) {x y : ℕ} (x-is : x ≡ get_or lefts p 0) (y-is : y ≡ get_or rights (p + n) 0) {o r : Choice} (o_is : o ≡ otherwise_of percent es y) (r-is : r ≡ between_of percent o es x y) where
+module _ (percent : Bool) (es : List Edge) (lefts rights : List ℕ) (p n : ℕ) (inside : p + n ≤ 256) (left : Neighbors false es lefts) (right : Neighbors true es rights) {x y : ℕ} (x-is : x ≡ get_or lefts p 0) (y-is : y ≡ get_or rights (p + n) 0) {o r : std.Option Choice} (o_is : o ≡ otherwise_of percent es y) (r-is : r ≡ between_of percent o es x y) where
   left_below : x ≤ length es
   left_below = rw x-is (kept_below false es lefts left p (omega arith))
 

@@ -2,9 +2,9 @@
 -- In order: the walk over the lattice for one place; the walk for all places; what the bytes of the lattice say of it. Assumes nothing.
 use mathlib.Core.Path.{◌≡◌, refl, sym, ap, ◌∙◌}
 use mathlib.Core.Bool.{Bool, true, false, cond}
-use mathlib.Core.List.{List, [], ◌∷◌}
-use mathlib.Core.Option.{none, some}
-use Prim.Native.Nat.{ℕ, zero, suc, ◌+◌, ◌≤◌, ◌<◌}
+use mathlib.Core.List.{List}
+use mathlib.Core.Option.{some}
+use Prim.Native.Nat.{ℕ, suc, ◌+◌, ◌≤◌, ◌<◌}
 use native.Mathlib.Numerals.{add-one}
 use native.Mathlib.Omega.{arith}
 use native.Mathlib.Decide.{ℕ_discrete}
@@ -127,9 +127,6 @@ module _ {right : Bool} {es : List Edge} {at i : ℕ} {tops table : List ℕ} (k
 module _ {w : List ℕ} {l : Lattice} {es : List Edge} (keeps : HoldsLine w l es) where
   pub keeps_count : length es ≡ l.count
   keeps_count = (kept_of_lem keeps.holds keeps.not_full).count
-
-  pub keeps_few : l.count ≤ 1024
-  keeps_few = (kept_of_lem keeps.holds keeps.not_full).few
 
   module _ {i at : ℕ} (more : i < l.count) (stands : at ≡ offset es i) where
     there : EdgeThere keeps.chars w l.len es i

@@ -8,6 +8,8 @@ use mathlib.Core.Option.{Option, none, some}
 use Prim.Native.Nat.{ℕ, ◌≤◌, ◌<◌}
 use native.Mathlib.Omega.{arith}
 use lib.ListN.{length, get_or}
+use Rattle.std.specs.Prelude as std
+use Rattle.std.specs.Prelude.{Some, None}
 use Rattle.edge.specs.Edge.{Edge, Numeric}
 use Rattle.lattice.specs.Lattice.{inactive, turn_off}
 use Rattle.lattice.specs.Kept.{no_edge}
@@ -15,9 +17,9 @@ use Rattle.numbers.proofs.stages.InactiveLaws.{inactive_start, inactive_end, ina
 use Rattle.numbers.specs.Listed.{value_of, whole_value}
 use Rattle.numbers.specs.Fractions.{is_numeric, script_of}
 use Rattle.fraction_choices.specs.declared.decision.Form.{Form}
-use Rattle.fraction_choices.specs.declared.decision.Form.TheVariants.{Nothing, Percent, Fraction, TxtPercent}
+use Rattle.fraction_choices.specs.declared.decision.Form.TheVariants.{Percent, Fraction, TxtPercent}
 use Rattle.fraction_choices.specs.declared.decision.Choice.{Choice}
-use Rattle.fraction_choices.specs.Choice.{number_or, HasValue, Two, One, Ratio, Uses, Valid}
+use Rattle.fraction_choices.specs.Choice.{number_or, HasValue, Two, One, Ratio, Uses, UsesOf, Valid}
 
 -- ---- one edge
 pub record Same (e d : Edge) : Type 0 where
@@ -69,19 +71,19 @@ module _ {es fs : List Edge} (k : Keeps es fs) where
   one_keeps : {j : ℕ} → One es j → One fs j
   one_keeps {j} t = let b = t.right in let l = k.longer in record { right = omega arith; numeric = (k.same j t.right).numeric ∙ t.numeric }
 
-  pub valid_keeps : {c : Choice} → Valid es c → Valid fs c
-  valid_keeps {c} v = record { uses = go c.form v.uses }
-    where
-      go : (f : Form) → Uses f es c.left c.right → Uses f fs c.left c.right
-      go Nothing u = tt
-      go Percent u = two_keeps u
-      go Fraction u = record { two = two_keeps u.two; not_zero = subst (λ (x : Option ℕ). 0 < number_or x) (sym (k.same c.left u.two.left).value) u.not_zero }
-      go TxtPercent u = one_keeps u
+  uses_keep : (f : Form) (i j : ℕ) → Uses f es i j → Uses f fs i j
+  uses_keep Percent i j u = two_keeps u
+  uses_keep Fraction i j u = record { two = two_keeps u.two; not_zero = subst (λ (x : Option ℕ). 0 < number_or x) (sym (k.same i u.two.left).value) u.not_zero }
+  uses_keep TxtPercent i j u = one_keeps u
+
+  pub valid_keeps : {m : std.Option Choice} → Valid es m → Valid fs m
+  valid_keeps {m = None} v = record { uses = tt }
+  valid_keeps {m = Some c} v = record { uses = uses_keep c.form c.left c.right v.uses }
 
 -- ---- what a choice of a form uses
-module _ {es : List Edge} {c : Choice} (v : Valid es c) where
+module _ {es : List Edge} {m : std.Option Choice} (v : Valid es m) {c : Choice} (d : m ≡ Some c) where
   abbrev uses_as : (f : Form) → c.form ≡ f → Uses f es c.left c.right
-  uses_as f e = subst (λ (g : Form). Uses g es c.left c.right) e v.uses
+  uses_as f e = subst (λ (g : Form). Uses g es c.left c.right) e (subst (UsesOf es) d v.uses)
 
   pub uses_percent : c.form ≡ Percent → Two es c.left c.right
   uses_percent e = uses_as Percent e

@@ -4,7 +4,9 @@ use mathlib.Core.Path.{◌≡◌}
 use mathlib.Core.Logic.{inl}
 use mathlib.Core.List.{List, ◌∷◌, ◌++◌}
 use mathlib.Core.Option.{Option}
-use Prim.Native.Nat.{ℕ, ◌+◌}
+use Prim.Native.Nat.{ℕ}
+use Rattle.std.specs.Prelude as std
+use Rattle.std.specs.Prelude.{Some, None}
 use Rattle.edge.specs.Edge.{Text, Edge}
 use Rattle.passes.specs.Characters.{lowest}
 use Rattle.whole.specs.Decimal.{decimal}
@@ -13,7 +15,7 @@ use Rattle.lattice.specs.Lattice.{add}
 use Rattle.lattice.specs.Kept.{Holds, AddingIs}
 use Rattle.lattice.proofs.HoldsLaws.{add_nothing}
 use Rattle.numbers.specs.Fractions.{Outcome, made, nothing, fraction_edge, script_of}
-use Rattle.fraction_choices.specs.declared.decision.Form.TheVariants.{Nothing, Percent, Fraction, TxtPercent}
+use Rattle.fraction_choices.specs.declared.decision.Form.TheVariants.{Percent, Fraction, TxtPercent}
 use Rattle.fraction_choices.specs.declared.decision.Choice.{Choice}
 use Rattle.fraction_choices.specs.Choice.{value_or, outcome_of}
 use Rattle.fractions.specs.NewParts.{fraction_with, txt_percent_of}
@@ -27,20 +29,20 @@ unfolding fraction_with fraction_edge
 fraction_is d e p q x y r g s = rw (p, q, r, g, s, x, y)
 
 -- ---- what a choice makes, by its form
-module _ {w : List ℕ} {l : Lattice} (es : List Edge) (p : ℕ) (c : Choice) where
-  pub makes_percent : c.form ≡ Percent → Holds w l (add es (percent_of es c.left c.right)) → Holds w l (add_outcome es (outcome_of es p c))
+module _ {w : List ℕ} {l : Lattice} (es : List Edge) (p : ℕ) {m : std.Option Choice} where
+  pub makes_percent : {c : Choice} → m ≡ Some c → c.form ≡ Percent → Holds w l (add es (percent_of es c.left c.right)) → Holds w l (add_outcome es (outcome_of es p m))
   unfolding outcome_of
-  makes_percent e h = rw e h
+  makes_percent d e h = rw (d, e) h
 
-  pub makes_fraction : c.form ≡ Fraction → Holds w l (add es (fraction_of es c.left c.right)) → Holds w l (add_outcome es (outcome_of es p c))
+  pub makes_fraction : {c : Choice} → m ≡ Some c → c.form ≡ Fraction → Holds w l (add es (fraction_of es c.left c.right)) → Holds w l (add_outcome es (outcome_of es p m))
   unfolding outcome_of
-  makes_fraction e h = rw e h
+  makes_fraction d e h = rw (d, e) h
 
-  pub makes_txt : c.form ≡ TxtPercent → Holds w l (add es (txt_percent_of es p c.right)) → Holds w l (add_outcome es (outcome_of es p c))
+  pub makes_txt : {c : Choice} → m ≡ Some c → c.form ≡ TxtPercent → Holds w l (add es (txt_percent_of es p c.right)) → Holds w l (add_outcome es (outcome_of es p m))
   unfolding outcome_of
-  makes_txt e h = rw e h
+  makes_txt d e h = rw (d, e) h
 
-  pub makes_nothing : c.form ≡ Nothing → Holds w l es → Holds w l (add_outcome es (outcome_of es p c))
+  pub makes_nothing : m ≡ None → Holds w l es → Holds w l (add_outcome es (outcome_of es p m))
   unfolding outcome_of
   makes_nothing e h = rw e h
 

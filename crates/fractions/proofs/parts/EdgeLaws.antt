@@ -1,6 +1,6 @@
 -- What is read of the edges of a lattice. No contract cites this file.
 -- In order: tests and options; the head of an edge; its value; its script. Assumes nothing.
-use mathlib.Core.Path.{◌≡◌, refl, sym, ap, ◌∙◌, subst}
+use mathlib.Core.Path.{◌≡◌, refl, sym, ap, ◌∙◌}
 use mathlib.Core.Bool.{Bool, true, false, not, true≢false}
 use mathlib.Core.List.{List}
 use mathlib.Core.Option
@@ -9,16 +9,15 @@ use Prim.Native.Nat.{ℕ, ◌+◌, ◌≤◌, ◌<◌}
 use native.Mathlib.Omega.{arith}
 use lib.ListN.{length, get_or}
 use lib.Ieee.{binary64, of_bits, to_unsigned}
-use Rattle.fields.specs.Part.{part, part_of}
+use Rattle.fields.specs.Part.{part_of}
 use Rattle.fields.specs.Fields.{le_at}
 use Rattle.fields.proofs.PartLaws.{length_part}
 use Rattle.whole.specs.Whole.{TOP}
 use Rattle.whole.proofs.WholeLaws.{of_nat-to_unsigned}
 use Rattle.edge.specs.Edge.{Text, Edge, Numeric, f64_bits}
-use Rattle.edge.specs.Layout.{stands, only, map_at, text_at, string_end, txt_at, head_end, fields_end, next_at, script_at, numeric_at, edge_at}
+use Rattle.edge.specs.Layout.{stands, only, map_at, text_at, string_end, txt_at, head_end, fields_end, next_at, numeric_at, edge_at}
 use Rattle.edge.specs.View.{view_at, fields_at}
 use Rattle.edge.specs.declared.EdgeView.{EdgeView}
-use Rattle.edge.specs.declared.NumFields.{NumFields}
 use Rattle.edge.proofs.CheckLaws.{head_within, fields_within, fields_inside}
 use Rattle.edge.proofs.theorems.Theorems.{f64_bits_back}
 use Rattle.lattice.specs.declared.Lattice.{Lattice}

@@ -13,7 +13,6 @@ use Rattle.fields.specs.Fields.{bytes_of}
 use Rattle.fields.specs.Part.{part}
 use Rattle.fields.proofs.FieldsLaws.{length-bytes_of}
 use Rattle.fields.proofs.PartLaws.{length_part}
-use Rattle.fields.specs.Flag.{there}
 use Rattle.edge.specs.Edge.{Edge, map_of, edge_bytes}
 use Rattle.lattice.specs.Lattice.{same_key, has}
 use Rattle.lattice.specs.Kept.{key, no_edge, offset, Kept, Keyed, Stands, Holds, AddingIs, bucket}

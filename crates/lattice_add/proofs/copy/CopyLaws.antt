@@ -1,17 +1,16 @@
 -- A copy inside a list, and the bytes of an edge with a longer txt. No contract cites this file.
--- In order: a turn of a loop that copies bytes; a front part and an end part that meet; words; the copy's bytes in four steps; where the fields of an edge stand; the copy's bytes; the copy in the lattice. Assumes nothing.
+-- In order: a copy inside a list; the copy's bytes in four steps; where the fields of an edge stand; the copy's bytes; the copy in the lattice. Assumes nothing.
 use mathlib.Core.Path.{◌≡◌, refl, sym, ap, ◌∙◌}
 use mathlib.Core.Logic.{inl, inr}
-use mathlib.Core.List.{List, [], ◌∷◌, ◌++◌, append_assoc}
-use Prim.Native.Nat.{ℕ, suc, ◌+◌, ◌-◌, ◌≤◌, ◌<◌}
+use mathlib.Core.List.{List, ◌++◌, append_assoc}
+use Prim.Native.Nat.{ℕ, ◌+◌, ◌-◌, ◌≤◌, ◌<◌}
 use native.Mathlib.Omega.{arith}
-use lib.ListN.{length, take, drop, get_or, set, length-append}
-use lib.Seq.{sets, set-set, length-sets, take_at}
-use Rattle.whole.proofs.SetsLaws.{sets_append, sets_set_before}
+use lib.ListN.{length, take, drop, length-append}
+use lib.Seq.{sets, sets-eq, drop-drop, length-sets, take_at}
 use Rattle.fields.specs.Fields.{le_at, bytes_of}
 use Rattle.fields.specs.Part.{part}
 use Rattle.fields.proofs.FieldsLaws.{length-bytes_of}
-use Rattle.fields.proofs.PartLaws.{length_part, part_at, part_sets, part_sets_other, part_add, drop_sets, copy_turn, copy_ends}
+use Rattle.fields.proofs.PartLaws.{length_part, part_of_take, part_sets, part_sets_other, drop_sets}
 use Rattle.edge.specs.Edge.{Edge, Text, map_of, str, head_bytes, edge_bytes, EdgeFits}
 use Rattle.edge.specs.Layout.{map_at, txt_at, head_end, string_end}
 use Rattle.edge.specs.declared.EdgeView.{EdgeView}
@@ -24,59 +23,18 @@ use Rattle.lattice.specs.Kept.{key, Fits, Stands, Holds, END, SameBehind}
 use Rattle.lattice.proofs.KeyLaws.{length_key}
 use Rattle.lattice.proofs.KeptLaws.{fields_bytes, length_edge, begins}
 use Rattle.lattice.proofs.HoldsLaws.{holds_beside}
-use Rattle.lattice_add.proofs.GivenLaws.{number_there as word_there}
 use Rattle.lattice_add.specs.Copy.{prefixed, prefixed_bytes, Source}
 
--- ---- a turn of the loop that copies inside a list
-module _ (s : List ℕ) (from to n : ℕ) (apart : from + n ≤ to) (room : to + n ≤ length s) where
-  pub inside_turn : {now : List ℕ} (i : ℕ) → i < n → now ≡ sets s to (take i (part s from n)) → set now (to + i) (get_or now (from + i) 0) ≡ sets s to (take (i + 1) (part s from n))
-  inside_turn {now} i h e =
-      let l = length_part s from n (omega arith) in
-      let r : get_or now (from + i) 0 ≡ get_or (part s from n) i 0 =
-      sym (part_at now from n i h) ∙ ap (λ (z : List ℕ). get_or z i 0) (ap (λ (z : List ℕ). part z from n) e ∙ part_sets_other s to (take i (part s from n)) from n (inr apart)) in
-      ap (set now (to + i)) r ∙ copy_turn s (part s from n) to i (omega arith) e
-
-  pub inside_ends : {now : List ℕ} (i : ℕ) → n ≤ i → now ≡ sets s to (take i (part s from n)) → now ≡ sets s to (part s from n)
-  inside_ends i h e = let l = length_part s from n (omega arith) in copy_ends s (part s from n) to i (omega arith) e
-
--- ---- a row of stores over one that is no longer
-sets_over : (s : List ℕ) (at : ℕ) (a b : List ℕ) → length a ≤ length b → sets (sets s at a) at b ≡ sets s at b
-sets_over s at [] b h = refl
-sets_over s at (x ∷ a) [] h = absurd (omega arith)
-sets_over s at (x ∷ a) (y ∷ b) h =
-    ap (λ (z : List ℕ). sets z (suc at) b) (sets_set_before (set s at x) (suc at) a at y (omega arith) ∙ ap (λ (z : List ℕ). sets z (suc at) a) (set-set s at x y))
-    ∙ sets_over (set s at y) (suc at) a b (omega arith)
-
--- ---- a front part and an end part that meet: with k bytes copied, m bytes are copied from the j-th on, j no more than k
-module _ (s : List ℕ) (from to k j m : ℕ) {t : List ℕ} (apart : from + (j + m) ≤ to) (room : from + (j + m) ≤ length s) (meets : j ≤ k) (more : k ≤ j + m) (first : t ≡ sets s to (part s from k)) where
-  -- what is copied next is as it was
-  inside_kept : part t (from + j) m ≡ part s (from + j) m
-  inside_kept = ap (λ (z : List ℕ). part z (from + j) m) first ∙ part_sets_other s to (part s from k) (from + j) m (inr (omega arith))
-
-  front_twice : t ≡ sets (sets s to (part s from j)) (to + j) (part s (from + j) (k - j))
-  front_twice =
-      let e : k ≡ j + (k - j) = omega arith in
-      let l = length_part s from j (omega arith) in
-      first ∙ ap (λ (z : ℕ). sets s to (part s from z)) e ∙ ap (sets s to) (part_add s from j (k - j)) ∙ sets_append s to (part s from j) (part s (from + j) (k - j)) ∙ rw l
-
-  pub inside_more : {u : List ℕ} (n : ℕ) → n ≡ j + m → u ≡ sets t (to + j) (part t (from + j) m) → u ≡ sets s to (part s from n)
-  inside_more n e then =
-      let l = length_part s from j (omega arith) in
-      let x = length_part s (from + j) (k - j) (omega arith) in
-      let y = length_part s (from + j) m (omega arith) in
-      let o = sets_over (sets s to (part s from j)) (to + j) (part s (from + j) (k - j)) (part s (from + j) m) (omega arith) in
-      let w : sets t (to + j) (part s (from + j) m) ≡ sets (sets s to (part s from j)) (to + j) (part s (from + j) m) = ap (λ (z : List ℕ). sets z (to + j) (part s (from + j) m)) front_twice ∙ o in
-      then ∙ ap (sets t (to + j)) inside_kept ∙ w ∙ rw (e, part_add s from j m, sets_append s to (part s from j) (part s (from + j) m), l)
-
--- ---- words: their bytes are read and written; the second is read before the first is written
-module _ (s : List ℕ) (bytes : (i : ℕ) → get_or s i 0 < 256) (from to v : ℕ) {t : List ℕ} (read : v ≡ le_at s from 8) (wrote : t ≡ sets s to (bytes_of 8 v)) where
-  pub word_copied : from + 8 ≤ length s → t ≡ sets s to (part s from 8)
-  word_copied h = wrote ∙ ap (sets s to) (ap (bytes_of 8) read ∙ sym (word_there s bytes from 8 h))
-
-  pub pair_copied : (u : ℕ) → from + 16 ≤ length s → u ≡ le_at s (from + 8) 8 → {z : List ℕ} → z ≡ sets t (to + 8) (bytes_of 8 u) → z ≡ sets s to (part s from 16)
-  pair_copied u h behind then =
-      let l = length_part s from 8 (omega arith) in
-      then ∙ rw (behind, ← word_there s bytes (from + 8) 8 (omega arith), word_copied (omega arith)) (rw (part_add s from 8 8, sets_append s to (part s from 8) (part s (from + 8) 8), l))
+-- ---- a copy inside a list: its front ends where the copy begins, and its back begins there
+pub inside_copied : (w : List ℕ) (from to n : ℕ) → from + n ≤ to → to + n ≤ length w → {front back c : List ℕ} → front ≡ take to w → back ≡ drop to w
+    → c ≡ take (from + n - from) (drop from front) → front ++ (c ++ drop n back) ≡ sets w to (part w from n)
+unfolding part
+inside_copied w from to n apart room {front} {back} {c} f b copied =
+    let size : from + n - from ≡ n = omega arith in
+    let l = length_part w from n (omega arith) in
+    let p : c ≡ part w from n = copied ∙ rw (size, f) (part_of_take w to from n apart) in
+    let long : length (part w from n) ≡ n = l in
+    rw (f, b, p, drop-drop n to w) (sym (sets-eq (part w from n) w to (omega arith) ∙ rw (long, append_assoc)))
 
 -- ---- the copy's bytes in four steps
 module _ (s x : List ℕ) (len at txt n to head behind : ℕ) (a : at + 2 ≤ txt) (b : txt ≤ to) (d : to ≤ len) (room : len + (to - at) + length x ≤ length s) (is-head : head ≡ txt - 2 - at) (is-behind : behind ≡ len + head + 2) {t u v z : List ℕ} (first : t ≡ sets s len (part s at head)) (second : u ≡ sets t (len + head) (bytes_of 2 (length x + n))) (third : v ≡ sets u behind x) (fourth : z ≡ sets v (behind + length x) (part v txt (to - txt))) where

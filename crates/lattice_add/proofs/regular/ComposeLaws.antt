@@ -11,8 +11,6 @@ use lib.Seq.{sets, length-sets}
 use borrow.Author.Tests.{le-leb}
 use Rattle.fields.proofs.PartLaws.{part_sets, drop_sets}
 use Rattle.edge.specs.declared.NumFields.{NumFields}
-use Rattle.edge.specs.declared.Written.{Written}
-use Rattle.edge.specs.declared.Written.TheVariants.{To, NoRoom}
 use Rattle.edge.specs.Edge.{Edge, Text, edge_bytes, numeric_bytes, head_bytes}
 use Rattle.edge.specs.Layout.{bit, stands, script_at}
 use Rattle.edge.specs.View.{numeric_of}
@@ -20,8 +18,10 @@ use Rattle.edge.specs.Write.{written, written_to, regular, numeric, text_past_if
 use Rattle.edge.proofs.WriteLaws.{regular_bytes, length_head, length_fields, numeric_bytes_lem}
 use Rattle.lattice.specs.declared.Lattice.{Lattice}
 use Rattle.lattice.specs.Kept.{END, Fits, Stands, Holds, SameBehind}
+use Rattle.lattice_add.specs.Planned.{WrittenBehind}
 use Rattle.lattice.proofs.KeyLaws.{length_key}
 use Rattle.lattice.proofs.HoldsLaws.{holds_beside}
+use Rattle.std.specs.Prelude.{Option, Some, None}
 
 -- ---- how long an edge is
 length_regular : (a z : ℕ) (ty tx : Text) → length (edge_bytes (regular a z ty tx)) ≡ 10 + length ty + length tx
@@ -49,20 +49,20 @@ length_numeric o c v d h a z ty tx =
     omega arith
 
 -- ---- what a writer leaves: r is its answer, t the work space then
-pub record Composed (w t : List ℕ) (l : Lattice) (e : Edge) (r : Written) : Type 0 where
+pub record Composed (w t : List ℕ) (l : Lattice) (e : Edge) (r : Option ℕ) : Type 0 where
   pub frame : SameBehind w t
   pub holds : (es : List Edge) → Holds w l es → Holds t l es
-  pub placed : (to : ℕ) → r ≡ To to → Stands t l.len (8 + length e.type + length e.txt) to e
-  pub room : r ≡ NoRoom → ⊥
+  pub placed : (to : ℕ) → r ≡ Some to → Stands t l.len (8 + length e.type + length e.txt) to e
+  pub room : r ≡ None → ⊥
 
-composed : {w t : List ℕ} {l : Lattice} {es : List Edge} {r : Written} → Holds w l es → (e : Edge) → Fits e → length (edge_bytes e) ≤ 2048
+composed : {w t : List ℕ} {l : Lattice} {es : List Edge} {r : Option ℕ} → Holds w l es → (e : Edge) → Fits e → length (edge_bytes e) ≤ 2048
     → r ≡ written w l.len (edge_bytes e) → t ≡ written_to w l.len (edge_bytes e) → Composed w t l e r
 composed {w} {t} {l} {es} {r} q e f size answer left =
     let at = l.len in
     let long = q.room in
     let short = q.short in
     let inside : at + length (edge_bytes e) ≤ length w = omega arith in
-    let x : r ≡ To (at + length (edge_bytes e)) = answer ∙ rw (le-leb (at + length (edge_bytes e)) (length w) inside) in
+    let x : r ≡ Some (at + length (edge_bytes e)) = answer ∙ rw (le-leb (at + length (edge_bytes e)) (length w) inside) in
     let y : t ≡ sets w at (edge_bytes e) = left ∙ rw (le-leb (at + length (edge_bytes e)) (length w) inside) in
     let n = length-sets w at (edge_bytes e) in
     record {
@@ -74,8 +74,12 @@ composed {w} {t} {l} {es} {r} q e f size answer left =
       room = λ p. let z : ◌≡◌ {A = ℕ} 0 1 = cc in omega arith;
     }
 
+-- what `add_written` asks for
+pub composed_behind : {w t : List ℕ} {l : Lattice} {e : Edge} {r : Option ℕ} → Composed w t l e r → {es : List Edge} → Holds w l es → WrittenBehind t l es e (8 + length e.type + length e.txt) r
+composed_behind m q = record { holds = m.holds _ q; placed = m.placed; room = m.room }
+
 -- ---- regular and numeric edges
-module _ {w t : List ℕ} {l : Lattice} {es : List Edge} {r : Written} (q : Holds w l es) (a z : ℕ) (ty tx : Text) (start : a < 65536) (end : z < 65536) where
+module _ {w t : List ℕ} {l : Lattice} {es : List Edge} {r : Option ℕ} (q : Holds w l es) (a z : ℕ) (ty tx : Text) (start : a < 65536) (end : z < 65536) where
   pub regular_composed : length ty + length tx ≤ 2000 → r ≡ written w l.len (edge_bytes (regular a z ty tx)) → t ≡ written_to w l.len (edge_bytes (regular a z ty tx)) → Composed w t l (regular a z ty tx) r
   regular_composed h = let n = length_regular a z ty tx in composed q (regular a z ty tx) (record { start = start; end = end; type = omega arith; txt = omega arith }) (omega arith)
 

@@ -16,9 +16,3 @@ pub returns-then-last_differs : goal.returns-then-last_differs
 returns-then-last_differs c =
     let is_offset : get_or c.args.offs.now c.args.here.0 0 ≡ offset_of c.args.line.now c.args.here.0 = c.requires.1.at c.args.here.0 c.requires.2 in
     sign_not_before c.args.line.now c.args.here.0 c.args.sign.now c.requires.3 is_offset (c.last_differs.ensures c.if-last_differs.true)
-
-pub counted_back-requires : goal.counted_back-requires
-counted_back-requires c = c.requires
-
-pub returns : goal.returns
-returns c = c.counted_back.ensures

@@ -1,7 +1,8 @@
 -- `nearest_number::comes_first` meets its contract: by the distances, then the starts, then the ends, which tell the longer of two edges with one start. Assumes nothing.
+use mathlib.Core.Path.{◌∙◌}
 use native.Mathlib.Omega.{arith}
 use Rattle.paths.proofs.BestLaws.{head_bytes_lem}
-use Rattle.nearest_number.proofs.NearestLaws.{Read, read_span, first_nearer, first_earlier, first_longer}
+use Rattle.nearest_number.proofs.NearestLaws.{Read, read_span, triples_by_parts, first_by_parts}
 use Rattle.nearest_number.proofs.comes_first.Goals as goal
 
 pub overflow_add-at : goal.overflow_add-at
@@ -38,20 +39,9 @@ distance-held_far-requires c =
     let that : let a = c.args in Read a.s.now a.held c.u16_at-held_start.result c.u16_at-held_end.result = read_span _ _ c.requires.1 c.u16_at-held_start.ensures c.u16_at-held_end.ensures in
     (that).rises
 
-pub returns-then-far-held_far : goal.returns-then-far-held_far
-returns-then-far-held_far c =
-    let this : let a = c.args in Read a.s.now a.at c.u16_at-start.result c.u16_at-end.result = read_span _ _ c.requires.0 c.u16_at-start.ensures c.u16_at-end.ensures in
-    let that : let a = c.args in Read a.s.now a.held c.u16_at-held_start.result c.u16_at-held_end.result = read_span _ _ c.requires.1 c.u16_at-held_start.ensures c.u16_at-held_end.ensures in
-    first_nearer _ _ _ _ this that c.distance-far.ensures c.distance-held_far.ensures c.if-far-held_far.true
-
-pub returns-then-start-held_start : goal.returns-then-start-held_start
-returns-then-start-held_start c =
-    let this : let a = c.args in Read a.s.now a.at c.u16_at-start.result c.u16_at-end.result = read_span _ _ c.requires.0 c.u16_at-start.ensures c.u16_at-end.ensures in
-    let that : let a = c.args in Read a.s.now a.held c.u16_at-held_start.result c.u16_at-held_end.result = read_span _ _ c.requires.1 c.u16_at-held_start.ensures c.u16_at-held_end.ensures in
-    first_earlier _ _ _ _ this that c.distance-far.ensures c.distance-held_far.ensures c.if-far-held_far.false c.if-start-held_start.true
-
 pub returns : goal.returns
 returns c =
     let this : let a = c.args in Read a.s.now a.at c.u16_at-start.result c.u16_at-end.result = read_span _ _ c.requires.0 c.u16_at-start.ensures c.u16_at-end.ensures in
     let that : let a = c.args in Read a.s.now a.held c.u16_at-held_start.result c.u16_at-held_end.result = read_span _ _ c.requires.1 c.u16_at-held_start.ensures c.u16_at-held_end.ensures in
-    first_longer _ _ _ _ this that c.distance-far.ensures c.distance-held_far.ensures c.if-far-held_far.false c.if-start-held_start.false
+    c.lt.ensures ∙ triples_by_parts c.distance-far.result c.u16_at-start.result c.u16_at-held_end.result c.distance-held_far.result c.u16_at-held_start.result c.u16_at-end.result
+    ∙ first_by_parts _ _ _ _ this that c.distance-far.ensures c.distance-held_far.ensures

@@ -11,8 +11,8 @@ is_number-requires c = head_within _ _ _ c.requires.0.whole
 pub returns-then-not-is_number : goal.returns-then-not-is_number
 returns-then-not-is_number c = stays_no_number _ _ _ c.args.held c.is_number.ensures (ap not c.if-not-is_number.true)
 
-pub returns-in-Nothing : goal.returns-in-Nothing
-returns-in-Nothing c = replaces_nothing _ _ _ _ c.is_number.ensures (ap not c.if-not-is_number.false) c.in-Nothing.is
+pub returns-in-None : goal.returns-in-None
+returns-in-None c = replaces_nothing _ _ _ _ c.is_number.ensures (ap not c.if-not-is_number.false) c.in-None.is
 
-pub returns-in-At : goal.returns-in-At
-returns-in-At c = replaces_later _ _ _ _ c.is_number.ensures (ap not c.if-not-is_number.false) c.in-At.is c.comes_first.ensures
+pub returns-in-Some : goal.returns-in-Some
+returns-in-Some c = replaces_later _ _ _ _ c.is_number.ensures (ap not c.if-not-is_number.false) c.in-Some.is c.comes_first.ensures

@@ -2,6 +2,8 @@
 use mathlib.Core.Path.{◌≡◌, refl, sym, ap, ◌∙◌, subst}
 use mathlib.Core.Bool.{Bool, true, false, cond, not}
 use mathlib.Core.List.{List}
+use Rattle.std.specs.Prelude as std
+use Rattle.std.specs.Option.{is_some}
 use mathlib.Core.Option
 use mathlib.Core.Option.{Option, none, some, some-injective, some-ne-none}
 use Prim.Native.Nat.{ℕ, zero, suc, ◌+◌, ◌*◌, ◌-◌, ◌≤◌, ◌<◌}
@@ -19,7 +21,6 @@ use Rattle.fields.proofs.PartLaws.{part_all}
 use Rattle.fields.specs.Flag.{there, flag}
 use Rattle.fields.proofs.FlagLaws.{flag_le, flag_stands}
 use Rattle.text.specs.Text.{chars}
-use Rattle.table.specs.Check.{small}
 use Rattle.table.specs.Answers.{optionally}
 use Rattle.pass_list.specs.declared.record.PassEdge.{PassEdge}
 use Rattle.pass_list.specs.StoredEdge.{StoredEdge, pass_edge}
@@ -34,10 +35,10 @@ use Rattle.edge.specs.Write.{numeric, fields_of, Writable}
 use Rattle.edge.proofs.theorems.ReadBackLaws.{Bits, map_bits}
 use Rattle.passes.specs.NumEdge.{NumEdge}
 use Rattle.numbers.specs.Listed.{listed_with, listed_edge, quotient_bits, listed_by, listed_decimal}
-use Rattle.pass_edge.specs.declared.Fraction.{Fraction}
+use Rattle.passes.specs.declared.ratio.Ratio.{Ratio}
 use Rattle.pass_edge.specs.Grounded.{LegalAt, Grounded, StoredIs}
 use Rattle.pass_edge.specs.Texts.{char_type, type_of, TextsAre}
-use Rattle.pass_edge.specs.Fields.{stored_fraction, FractionIs, stored_map, divided, part_or, stored_fields, Listable}
+use Rattle.pass_edge.specs.Fields.{stored_fraction, parts, FractionIs, stored_map, divided, part_or, stored_fields, Listable}
 use Rattle.pass_edge.specs.Adding.{listed_of}
 use Rattle.pass_edge.proofs.TextLaws.{part_places, spans, Spans, between_short, txt_short, type_short, places_of, value_is, decimals_are}
 
@@ -151,11 +152,11 @@ there_count : (k : ℕ) → there (count_of k) ≡ flag (ltb 0 k)
 there_count zero = refl
 there_count (suc k) = ap flag (sym (lt-ltb 0 (suc k) (omega arith)))
 
-module _ (w t : List ℕ) (x : StoredEdge) (f : Fraction) (h : FractionIs f (stored_fraction t (kind_number x.kind) x.record_offset)) where
-  pub map_listed : stored_map (pass_edge x) f.there ≡ numeric_map (numeric_in w t x)
+module _ (w t : List ℕ) (x : StoredEdge) (f : std.Option Ratio) (h : FractionIs f (stored_fraction t (kind_number x.kind) x.record_offset)) where
+  pub map_listed : stored_map (pass_edge x) (is_some f) ≡ numeric_map (numeric_in w t x)
   unfolding numeric_map numeric_in
   map_listed =
-      let fraction : there (stored_fraction t (kind_number x.kind) x.record_offset) ≡ flag f.there = ap there (sym h) ∙ there_only f.there (f.numerator, f.denominator) in
+      let fraction : there (stored_fraction t (kind_number x.kind) x.record_offset) ≡ flag (is_some f) = ap there (sym h) ∙ there_only (is_some f) (parts f) in
       rw (
         there_map (value_bits x.decimals) (optionally x.has_value x.value),
         there_only x.has_value x.value,
@@ -213,14 +214,14 @@ count_told (suc k) a e = some-injective (suc k) a e
 txt_of_digits : (w t : List ℕ) (x : StoredEdge) → eqb (kind_number x.kind) 1 ≡ true → txt_of w t x ≡ row_text x
 txt_of_digits w t x e = let k : kind_number x.kind ≡ 1 = eqb-true (kind_number x.kind) 1 e in rw (ne_eqb (kind_number x.kind) 0 (λ o. omega arith), e)
 
-module _ (line offs t : List ℕ) (x : StoredEdge) (f : Fraction) {point : ℕ → Bool} (sound : Grounded point (chars line) t x) (o : Offsets line offs) (h : FractionIs f (stored_fraction t (kind_number x.kind) x.record_offset)) (txt : Text) (is : txt ≡ txt_of (chars line) t x) where
+module _ (line offs t : List ℕ) (x : StoredEdge) (f : std.Option Ratio) {point : ℕ → Bool} (sound : Grounded point (chars line) t x) (o : Offsets line offs) (h : FractionIs f (stored_fraction t (kind_number x.kind) x.record_offset)) (txt : Text) (is : txt ≡ txt_of (chars line) t x) where
   pub fields_are : FieldsAre line t txt (stored_fields offs (pass_edge x) f (length txt)) (numeric_in (chars line) t x)
   unfolding stored_fields fields_of numeric_in f64_bits
   fields_are = record {
     map = map_listed (chars line) t x f h;
     orig = part_places line offs x.start x.end o (omega (arith, sound.made.ordered)) sound.made.inside;
     value = λ a e. value_bits_lem x.decimals x.value ∙ map_told (value_bits x.decimals) x.has_value x.value a e;
-    fraction = λ a e. only_told f.there (f.numerator, f.denominator) a (h ∙ e);
+    fraction = λ a e. only_told (is_some f) (parts f) a (h ∙ e);
     base = only_told x.has_base x.base;
     mult = map_told f64_bits x.has_mult x.mult;
     script = script_told t x.has_script x.script_offset x.script_len;
@@ -240,7 +241,7 @@ part_or_len false at n m h = omega arith
 pub record Room (ty txt : Text) (d : NumFields) : Type 0 where
   pub all : length ty + length txt + d.orig.len + d.script.len + d.value_s.len ≤ 1990
 
-module _ (line offs t : List ℕ) (x : StoredEdge) (f : Fraction) {point : ℕ → Bool} (sound : Grounded point (chars line) t x) (o : Offsets line offs) (h : FractionIs f (stored_fraction t (kind_number x.kind) x.record_offset)) (txt : Text) (is : txt ≡ txt_of (chars line) t x) (few : length (chars line) ≤ 256) where
+module _ (line offs t : List ℕ) (x : StoredEdge) (f : std.Option Ratio) {point : ℕ → Bool} (sound : Grounded point (chars line) t x) (o : Offsets line offs) (h : FractionIs f (stored_fraction t (kind_number x.kind) x.record_offset)) (txt : Text) (is : txt ≡ txt_of (chars line) t x) (few : length (chars line) ≤ 256) where
   orig_spans : Spans line offs x.start x.end
   orig_spans = spans line offs x.start x.end o (omega (arith, sound.made.ordered)) sound.made.inside
 
@@ -262,7 +263,7 @@ module _ (line offs t : List ℕ) (x : StoredEdge) (f : Fraction) {point : ℕ �
       let d = stored_fields offs (pass_edge x) f (length txt) in
       record {
         numeric = eq-eqb (bit 0 d.map) 1 (bits_of d (numeric_in (chars line) t x) (map_listed (chars line) t x f h)).numeric;
-        map = map_small (pass_edge x) f.there;
+        map = map_small (pass_edge x) (is_some f);
         orig = omega (arith, orig_spans.rises, orig_spans.within);
         script = λ k. part_or_in x.has_script x.script_offset x.script_len (length t) (λ b. (sound.rooted.script b).within);
         value_s = λ k. part_or_in (eqb (kind_number x.kind) 1) 0 (length txt) (length txt) (λ b. omega arith);
@@ -291,7 +292,7 @@ module _ (line offs t : List ℕ) (e : PassEdge) (x : StoredEdge) (h : StoredIs 
         mult = rw (ap (λ (e : PassEdge). e.num.base_multiplier) h.is.is) (of_nat-not_nan h.sound.small.mult);
       }
 
-module _ (line offs t : List ℕ) (e : PassEdge) (x : StoredEdge) (f : Fraction) (ty txt : Text) (a : TextsAre line t e ty txt x) (o : Offsets line offs) (few : length (chars line) ≤ 256) (h : FractionIs f (stored_fraction t (kind_number e.kind) e.record_at.0)) (d : NumFields) (is : d ≡ stored_fields offs e f (length txt)) where
+module _ (line offs t : List ℕ) (e : PassEdge) (x : StoredEdge) (f : std.Option Ratio) (ty txt : Text) (a : TextsAre line t e ty txt x) (o : Offsets line offs) (few : length (chars line) ≤ 256) (h : FractionIs f (stored_fraction t (kind_number e.kind) e.record_at.0)) (d : NumFields) (is : d ≡ stored_fields offs e f (length txt)) where
   stored_edge_fraction : FractionIs f (stored_fraction t (kind_number x.kind) x.record_offset)
   stored_edge_fraction = h ∙ ap (λ (e : PassEdge). stored_fraction t (kind_number e.kind) e.record_at.0) a.stored_edge.is.is
 

@@ -2,18 +2,17 @@
 -- Assumes nothing.
 use mathlib.Core.Path.{◌≡◌, refl, sym, ap, ◌∙◌, subst}
 use mathlib.Core.Bool.{Bool, true, false, cond, ◌&&◌}
-use mathlib.Core.List.{List, [], ◌∷◌, ◌++◌}
+use mathlib.Core.List.{List, [], ◌∷◌}
 use mathlib.Core.Option.{Option, none, some, get_or, map}
 use Prim.Native.Nat.{ℕ, zero, suc, ◌+◌, ◌-◌, ◌/◌, ◌%◌, ◌^◌, ◌≤◌, ◌<◌}
 use native.Mathlib.Omega.{arith}
 use lib.ListN.{length, take, drop}
-use lib.Dec.{eqb, ltb, leb}
+use lib.Dec.{eqb, ltb}
 use borrow.Author.Tests.{ltb-true, leb-true, lt-ltb, le-leb, eqb-true}
 use Rattle.whole.specs.Whole.{TOP}
 use Rattle.whole.specs.Decimal.{decimal, padded}
 use Rattle.whole.proofs.DecimalLaws.{padded_decimal}
-use Rattle.text.specs.Table.{within}
-use Rattle.text.specs.Sequence.{scalar, encode}
+use Rattle.text.specs.Sequence.{encode}
 use Rattle.text.specs.Text.{encodes, Scalars, well_formed}
 use Rattle.text.proofs.RowLaws.{and-true, is_within}
 use Rattle.text.proofs.TextLaws.{encodes_well_formed, scalars_take, scalars_drop}
@@ -23,12 +22,12 @@ use Rattle.table.specs.Check.{all_of, small, positive, legal_ratio, legal_texts,
 use Rattle.passes.specs.Characters.{lowest}
 use Rattle.passes.specs.DecimalPasses.{point_character}
 use Rattle.passes.proofs.ratio.RatioLaws.{lowest_at_most, lowest_positive}
-use Rattle.edge.specs.Check.{each, up_to_top, sound_fraction}
+use Rattle.edge.specs.Check.{each, sound_fraction}
 use Rattle.pass_list.specs.StoredEdge.{StoredEdge, Every, nil, cons}
 use Rattle.pass_list.specs.Edges.{between, digits_text, row_text, kind_name, txt_of}
 use Rattle.pass_list.proofs.in_turn.EveryLaws.{every_append}
 use Rattle.pass_list.specs.Kind.{kind_number}
-use Rattle.pass_edge.specs.Grounded.{LegalAt, Grounded}
+use Rattle.pass_edge.specs.Grounded.{Grounded}
 use Rattle.pass_edge.specs.Texts.{char_txt, char_type, type_of}
 use Rattle.pass_edge.specs.Fields.{stored_fraction}
 use Rattle.pass_edge.proofs.DigitsLaws.{digits_parts}

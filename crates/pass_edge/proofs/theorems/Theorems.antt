@@ -1,13 +1,13 @@
 -- The edges that sound stored edges stand for are edges of the call (numbers/specs/CallEdge.antt): they may be listed, they are short, and their value is whole where they have no decimals.
 -- In order: fields that may be absent; the numeric data; the edge; lists of stored edges. Assumes nothing.
 use mathlib.Core.Path.{◌≡◌, refl, sym, ap, ◌∙◌, subst}
-use mathlib.Core.Bool.{Bool, true, false, cond, ◌&&◌}
+use mathlib.Core.Bool.{Bool, true, false}
 use mathlib.Core.List.{List, [], ◌∷◌, map}
 use mathlib.Core.Option.{Option, none, some, some-injective, some-ne-none}
 use Prim.Native.Nat.{ℕ, zero, suc, ◌^◌, ◌≤◌, ◌<◌}
 use native.Mathlib.Omega.{arith}
 use lib.ListN.{length}
-use lib.Dec.{eqb, ltb, leb}
+use lib.Dec.{eqb}
 use borrow.Author.Tests.{lt-ltb, le-leb}
 use Rattle.whole.specs.Whole.{TOP}
 use Rattle.decimals.proofs.QuotientLaws.{quotient_bits_fit}
@@ -17,8 +17,7 @@ use Rattle.text.specs.Text.{Scalars, well_formed}
 use Rattle.table.specs.Table.{Text}
 use Rattle.table.specs.Answers.{optionally}
 use Rattle.edge.specs.Edge.{Edge, Numeric, f64_bits, NumericFits, EdgeFits}
-use Rattle.edge.specs.Check.{each, up_to_top, sound_fraction, sound_count, sound_numbers, sound_numeric, sound}
-use Rattle.edge.specs.Legal.{Legal}
+use Rattle.edge.specs.Check.{each, up_to_top, sound_count, sound_numeric, sound}
 use Rattle.edge.proofs.theorems.Theorems.{f64_bits_fit}
 use Rattle.pass_list.specs.StoredEdge.{StoredEdge, Every, nil, cons}
 use Rattle.pass_list.specs.Edges.{between, row_text, txt_of}

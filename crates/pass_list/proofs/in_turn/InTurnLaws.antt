@@ -14,7 +14,7 @@ use Rattle.passes.specs.NumEdge.{NumEdge}
 use Rattle.passes.specs.Passes.{Pass}
 use Rattle.passes.specs.DecimalPasses as decimal
 use Rattle.passes.specs.DecimalPasses.{DecimalEdge, point_character, bare_edges}
-use Rattle.pass_list.specs.StoredEdge.{StoredEdge, Every, nil, cons}
+use Rattle.pass_list.specs.StoredEdge.{StoredEdge, Every, nil}
 use Rattle.pass_list.specs.StoredPass.{after, added, first_above}
 use Rattle.pass_list.specs.Edges.{edge_of, decimal_edge_of, WellMade}
 use Rattle.pass_list.proofs.in_turn.Simulation.{after_agrees, after_made, added_agrees, added_made, above_map}

@@ -15,8 +15,7 @@ use native.Mathlib.Omega.{arith}
 use lib.ListN.{length, get_or, take, drop, length-drop, length-append}
 use lib.Seq.{take-add, drop-drop, drop-cons, length-take-le, take-append-le, drop-append-le, take-append_seam, drop-append_seam}
 use lib.Dec.{ltb, leb, eqb}
-use borrow.Author.Tests.{leb-true, ltb-true, eqb-true, eq-eqb, ne_eqb}
-use Rattle.whole.specs.Whole.{TOP}
+use borrow.Author.Tests.{leb-true, ltb-true, eqb-true}
 use Rattle.whole.specs.Decimal.{padded}
 use Rattle.text.specs.Bytes.{same}
 use Rattle.text.specs.Sequence.{scalar, encode}
@@ -28,13 +27,13 @@ use Rattle.table.specs.Answers.{optionally}
 use Rattle.passes.specs.NumEdge.{NumEdge, or_zero, has}
 use Rattle.passes.specs.NumEdge as edges
 use Rattle.passes.specs.Chains.{from, chains}
-use Rattle.passes.proofs.ChainsLaws.{from_nil, from_none, from_some, chains_cons}
+use Rattle.passes.proofs.ChainsLaws.{from_nil, from_none, from_some}
 use Rattle.passes.specs.Passes as passes
 use Rattle.passes.specs.Passes.{Pass, D1, G1, G2, G3, G4, power_of_ten, digit_edge, digit_type, one_place, is_script, cjk, exceeds, under}
 use Rattle.passes.specs.DecimalPasses as decimal
 use Rattle.passes.specs.DecimalPasses.{DecimalEdge, DecimalChain, point_character, one_more, with_point, whole_chain, is_g3, decimal_rule, digits_product, decimal_product, joins_digit, joins_point, longer_decimal, next_digit, next_later, bare_edges}
 use Rattle.pass_list.specs.StoredEdge.{StoredEdge, Every, nil, cons}
-use Rattle.pass_list.specs.StoredPass.{StoredChain, begin, touches, over_point, meets, d1_rule, g1_rule, g2_rule, g3_rule, g4_rule, rule, both_whole, whole_product, takes_decimal, decimals_fit, retags, with_numbers, counted, value_of, kind_of, over, joined_value, joined_decimals, joins, longer, next, chains_of, edges_of, joined_of, after, added, first_above}
+use Rattle.pass_list.specs.StoredPass.{StoredChain, begin, touches, over_point, meets, d1_rule, g1_rule, g2_rule, g3_rule, g4_rule, rule, both_whole, whole_product, takes_decimal, decimals_fit, retags, with_numbers, counted, kind_of, over, joined_value, joined_decimals, joins, longer, next, chains_of, edges_of, joined_of, after, added, first_above}
 use Rattle.pass_list.proofs.NextLaws.{joins_of_next}
 use Rattle.pass_list.specs.Edges.{between, pointed, digits_text, row_text, edge_of, chain_of, decimal_edge_of, decimal_chain_of, WellMade}
 

@@ -3,7 +3,7 @@
 use Prim.Native.Nat.{ℕ, zero, suc}
 use native.Mathlib.Omega.{arith}
 use mathlib.Core.Path.{◌≡◌, refl, sym, ap, ◌∙◌}
-use mathlib.Core.Bool.{Bool, true, false, false≢true}
+use mathlib.Core.Bool.{Bool, true, false≢true}
 use mathlib.Core.List.{List, [], ◌∷◌, map}
 use lib.ListN.{length, get_or}
 use lib.Dec.{eqb}
@@ -15,7 +15,6 @@ use Rattle.passes.specs.NumEdge.{NumEdge}
 use Rattle.passes.specs.NumEdge as edges
 use Rattle.passes.specs.Characters.{first_list}
 use Rattle.passes.specs.Passes.{five, fifth_list, joined_edges, above_at}
-use Rattle.passes.specs.Passes as passes
 use Rattle.passes.specs.DecimalPasses as decimal
 use Rattle.passes.specs.DecimalPasses.{DecimalEdge, whole_edge, point_character, bare_edges}
 use Rattle.passes.proofs.DecimalAgrees.{through_whole, added_by_whole, bare_whole}

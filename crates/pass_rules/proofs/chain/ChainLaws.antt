@@ -1,5 +1,5 @@
 -- Laws of a chain and its next edge (`pass_list`, specs/StoredPass.antt and specs/Answers.antt), for this crate's proofs and its callers'. No contract
--- cites this file. In order: an edge as it counts; the decimals of the edge over both; what `Chain::join` answers.
+-- cites this file. In order: the base that the next is held against; an edge as it counts; the decimals of the edge over both; what `Chain::join` answers.
 -- Assumes nothing.
 use mathlib.Core.Path.{◌≡◌, refl, ap}
 use mathlib.Core.Bool.{Bool, true, false, cond, ◌&&◌}
@@ -13,11 +13,22 @@ use Rattle.whole.specs.Whole.{TOP}
 use Rattle.text.proofs.RowLaws.{and-true, or-true}
 use Rattle.passes.specs.Passes.{Pass, D1, G1, G2, G3, G4, power_of_ten}
 use Rattle.pass_rules.specs.declared.chain.Chain.{Chain}
-use Rattle.pass_rules.specs.declared.chain.Next.TheVariants.{Longer, Ends, Above}
 use Rattle.pass_list.specs.StoredEdge.{StoredEdge, Fits, EdgeIs}
 use Rattle.pass_list.specs.StoredPass.{StoredChain, touches, over_point, meets, rule, decimals_fit, retaggable, retags, with_numbers, retagged, counted, joins, joined_value, joined_decimals, longer}
 use Rattle.passes.specs.DecimalPasses.{one_more}
 use Rattle.pass_rules.specs.Chain.{pass_chain, ChainIs, answer}
+use Rattle.std.specs.Prelude as std
+use Rattle.std.specs.Prelude.{Some, None, Ok, Err}
+use Rattle.whole.specs.Answers.{above_top}
+
+-- ---- the base that the next edge is held against: it is there, or not
+pub near_there : (b : Bool) (n k : ℕ) → ◌≡◌ {A = std.Option ℕ} (Some k) (cond b (Some n) None) → (b ≡ true) × (k ≡ n)
+near_there true n k e = (refl, cc)
+near_there false n k e = absurd (let z : ◌≡◌ {A = ℕ} 0 1 = cc in omega arith)
+
+pub near_none : (b : Bool) (n : ℕ) → ◌≡◌ {A = std.Option ℕ} None (cond b (Some n) None) → b ≡ false
+near_none true n e = absurd (let z : ◌≡◌ {A = ℕ} 0 1 = cc in omega arith)
+near_none false n e = refl
 
 -- ---- an edge as it counts fits like the edge itself
 numbers_fit : (e : StoredEdge) (v b : ℕ) → Fits e → v ≤ TOP → b ≤ TOP → Fits (with_numbers e v b)
@@ -74,26 +85,26 @@ few_decimals G3 x y j = omega arith
 few_decimals G4 x y j = omega arith
 
 module _ (p : Pass) (x : StoredChain) (y : StoredEdge) where
-  pub apart : meets p x y ≡ false → Ends ≡ answer p x y
+  pub apart : meets p x y ≡ false → Ok None ≡ answer p x y
   unfolding answer joins
   apart t = rw t
 
   module _ (t : meets p x y ≡ true) where
-    pub refused : rule p x (counted p x.edge y) ≡ false → Ends ≡ answer p x y
+    pub refused : rule p x (counted p x.edge y) ≡ false → Ok None ≡ answer p x y
     unfolding answer joins
     refused r = rw (t, r)
 
     module _ (r : rule p x (counted p x.edge y) ≡ true) where
       -- the decimals of both keep them apart
-      pub unfit : decimals_fit p x.edge (counted p x.edge y) ≡ false → Ends ≡ answer p x y
+      pub unfit : decimals_fit p x.edge (counted p x.edge y) ≡ false → Ok None ≡ answer p x y
       unfolding answer joins
       unfit f = rw (t, r, f)
 
       module _ (f : decimals_fit p x.edge (counted p x.edge y) ≡ true) where
-        pub too_large : TOP < joined_value p x y → Above ≡ answer p x y
+        pub too_large : TOP < joined_value p x y → Err above_top ≡ answer p x y
         unfolding answer joins
         too_large v = rw (t, r, f, lt-ltb TOP (joined_value p x y) v)
 
-        pub longer_answer : joined_value p x y ≤ TOP → Longer (pass_chain (longer p x y)) ≡ answer p x y
+        pub longer_answer : joined_value p x y ≤ TOP → Ok (Some (pass_chain (longer p x y))) ≡ answer p x y
         unfolding answer joins
         longer_answer v = rw (t, r, f, le-ltb TOP (joined_value p x y) v)

@@ -9,60 +9,59 @@ use lib.Ieee.{Float}
 use borrow.Author.Tests.{ltb-true, ltb-false, eqb-true, lt-ltb, le-ltb}
 use Rattle.text.proofs.RowLaws.{and-true}
 use Rattle.whole.specs.Whole.{TOP, of_nat}
-use Rattle.whole.specs.declared.Bounded.TheVariants as Bounded
 use Rattle.whole.specs.Answers.{value}
 use Rattle.whole.proofs.AnswersLaws.{value_fits, value_above}
-use Rattle.wide.specs.declared.Quotient.TheVariants as Quotient
 use Rattle.wide.specs.Numbers.{exact_quotient}
 use Rattle.decimals.proofs.ProductLaws.{product_not_whole, product_whole, product_above}
 use Rattle.passes.specs.Passes.{Pass, D1, G1, G2, G3, G4}
 use Rattle.pass_list.specs.StoredEdge.{StoredEdge}
 use Rattle.pass_list.specs.StoredPass.{value_of, both_whole, whole_product, takes_decimal, decimals_fit}
-use Rattle.pass_rules.specs.declared.value.Over.{Over}
 use Rattle.pass_rules.specs.Over.{over_answer}
+use Rattle.std.specs.Prelude.{Some, None, Ok, Err}
+use Rattle.whole.specs.Answers.{above_top}
 
 -- ---- what each answer says
 module _ (f : Bool) (n : ℕ) where
-  pub over_apart : over_answer f n ≡ Over.Apart → f ≡ false
+  pub over_apart : over_answer f n ≡ Ok None → f ≡ false
   over_apart e = go f (ltb TOP n) e
     where
-      go : (f above : Bool) → cond f (cond above Over.Above (Over.Value (of_nat n))) Over.Apart ≡ Over.Apart → f ≡ false
+      go : (f above : Bool) → cond f (cond above (Err above_top) (Ok (Some (of_nat n)))) (Ok None) ≡ Ok None → f ≡ false
       go true true e = absurd (let z : ◌≡◌ {A = ℕ} 0 1 = cc in omega arith)
       go true false e = absurd (let z : ◌≡◌ {A = ℕ} 0 1 = cc in omega arith)
       go false above e = refl
 
-  pub over_above : over_answer f n ≡ Over.Above → (f ≡ true) × (TOP < n)
+  pub over_above : over_answer f n ≡ Err above_top → (f ≡ true) × (TOP < n)
   over_above e = go f (ltb TOP n) refl e
     where
-      go : (f above : Bool) → ltb TOP n ≡ above → cond f (cond above Over.Above (Over.Value (of_nat n))) Over.Apart ≡ Over.Above → (f ≡ true) × (TOP < n)
+      go : (f above : Bool) → ltb TOP n ≡ above → cond f (cond above (Err above_top) (Ok (Some (of_nat n)))) (Ok None) ≡ Err above_top → (f ≡ true) × (TOP < n)
       go true true h e = (refl, ltb-true TOP n h)
       go true false h e = absurd (let z : ◌≡◌ {A = ℕ} 0 1 = cc in omega arith)
       go false above h e = absurd (let z : ◌≡◌ {A = ℕ} 0 1 = cc in omega arith)
 
-  pub over_value : {v : Float} → over_answer f n ≡ Over.Value v → (f ≡ true) × (n ≤ TOP) × (v ≡ of_nat n)
+  pub over_value : {v : Float} → over_answer f n ≡ Ok (Some v) → (f ≡ true) × (n ≤ TOP) × (v ≡ of_nat n)
   over_value {v} e = go f (ltb TOP n) refl e
     where
-      go : (f above : Bool) → ltb TOP n ≡ above → cond f (cond above Over.Above (Over.Value (of_nat n))) Over.Apart ≡ Over.Value v → (f ≡ true) × (n ≤ TOP) × (v ≡ of_nat n)
+      go : (f above : Bool) → ltb TOP n ≡ above → cond f (cond above (Err above_top) (Ok (Some (of_nat n)))) (Ok None) ≡ Ok (Some v) → (f ≡ true) × (n ≤ TOP) × (v ≡ of_nat n)
       go true true h e = absurd (let z : ◌≡◌ {A = ℕ} 0 1 = cc in omega arith)
       go true false h e = (refl, ltb-false TOP n h, cc)
       go false above h e = absurd (let z : ◌≡◌ {A = ℕ} 0 1 = cc in omega arith)
 
 -- the answer of a sum or a product n
-pub known_value : (n : ℕ) {v : Float} → value n ≡ Bounded.Fits v → Over.Value v ≡ over_answer true n
+pub known_value : (n : ℕ) {v : Float} → value n ≡ Ok v → Ok (Some v) ≡ over_answer true n
 known_value n e = let a = value_fits n e in rw (a.1, le-ltb TOP n a.0)
 
-pub known_above : (n : ℕ) → value n ≡ Bounded.Above → Over.Above ≡ over_answer true n
+pub known_above : (n : ℕ) → value n ≡ Err above_top → Err above_top ≡ over_answer true n
 known_above n e = rw (lt-ltb TOP n (value_above n e))
 
 -- ---- the exact product n by d
 module _ (n d : ℕ) where
-  pub product_apart : exact_quotient n d ≡ Quotient.NotWhole → Over.Apart ≡ over_answer (eqb (n % d) 0) (n / d)
+  pub product_apart : exact_quotient n d ≡ Ok None → Ok None ≡ over_answer (eqb (n % d) 0) (n / d)
   product_apart e = rw (product_not_whole n d e)
 
-  pub product_large : exact_quotient n d ≡ Quotient.Above → Over.Above ≡ over_answer (eqb (n % d) 0) (n / d)
+  pub product_large : exact_quotient n d ≡ Err above_top → Err above_top ≡ over_answer (eqb (n % d) 0) (n / d)
   product_large e = let a = product_above n d e in rw (a.0, lt-ltb TOP (n / d) a.1)
 
-  pub product_fits : {v : ℕ} {u : Float} → exact_quotient n d ≡ Quotient.Whole v → u ≡ of_nat v → Over.Value u ≡ over_answer (eqb (n % d) 0) (n / d)
+  pub product_fits : {v : ℕ} {u : Float} → exact_quotient n d ≡ Ok (Some v) → u ≡ of_nat v → Ok (Some u) ≡ over_answer (eqb (n % d) 0) (n / d)
   product_fits e h = let a = product_whole n d e in rw (a.0, le-ltb TOP (n / d) a.2, h, a.1)
 
 -- ---- two whole edges, and edges with decimals

@@ -1,10 +1,17 @@
-use borrow.Author.Rules.{rules}
-use lib.ListN.{length-set}
-use Rattle.pass_run.proofs.RunLaws.{moved_turn, moved_ends}
+-- `copy_record` meets its contract. Assumes nothing.
+use mathlib.Core.Path.{◌≡◌, ◌∙◌}
+use Prim.Native.Nat.{◌+◌, ◌-◌}
+use native.Mathlib.Omega.{arith}
+use Rattle.std.proofs.lemmas.List.Edits.{sets-eq}
+use Rattle.fields.specs.Part.{part}
+use Rattle.fields.proofs.PartLaws.{length_part}
+use Rattle.pass_list.specs.Layout.{SIZE}
 use Rattle.pass_run.proofs.copy_record.Goals as goal
 
-pub loop-j-preserved : goal.loop-j-preserved
-loop-j-preserved c = (search rules, simp length-set c.loop-j.invariant.1, moved_turn _ _ _ c.requires.0 c.requires.1 _ c.loop-j-test.true c.loop-j.invariant.2)
-
 pub returns : goal.returns
-returns c = moved_ends _ _ _ c.requires.0 c.requires.1 _ c.loop-j-test.false c.loop-j.invariant.2
+unfolding part
+returns c =
+    let a = c.args in
+    let n : a.from + SIZE - a.from ≡ SIZE = omega arith in
+    let l = length_part a.list.now a.from SIZE c.requires.1 in
+    c.copy_within.ensures.after ∙ rw (n, sets-eq (part a.list.now a.from SIZE) a.list.now a.to (omega arith), l)

@@ -15,9 +15,9 @@ use Rattle.passes.specs.Passes.{Pass, D1, G1, G2, G3, G4, power_of_ten}
 use Rattle.pass_list.specs.StoredEdge.{StoredEdge}
 use Rattle.pass_list.specs.Stored.{stored_at}
 use Rattle.pass_list.specs.StoredPass.{StoredChain, begin, touches, over_point, meets, d1_rule, g1_rule, comparable, g2_rule, g3_rule, g4_rule, rule, retaggable, retags, with_numbers, retagged, counted, joins, next}
-use Rattle.pass_rules.specs.declared.chain.Next.TheVariants.{Ends}
 use Rattle.pass_rules.specs.Chain.{answer}
 use Rattle.pass_list.proofs.read.FieldLaws.{fields_at, stored_at-fields}
+use Rattle.std.specs.Prelude.{None, Ok}
 
 -- ---- rows of tests
 all_three : (a b c : Bool) → (a && b && c) ≡ true → (a ≡ true) × (b ≡ true) × (c ≡ true)
@@ -57,6 +57,20 @@ module _ (c : StoredChain) (y : StoredEdge) where
       go true false h = absurd (let z : ◌≡◌ {A = ℕ} 0 1 = cc in omega arith)
       go false b h = or_right (ltb y.base c.near) y.gap h
 
+  -- of a chain: the base that the next is held against is there
+  near_needs : g2_rule c y ≡ true → ((c.has_near && ltb y.base c.near) || y.gap) ≡ true
+  unfolding g2_rule
+  near_needs h = go (comparable c y) (ltb y.value c.near) refl (all_four c.edge.has_value (not c.edge.large_power) (not y.large_power) _ h).3
+    where
+      go : (a b : Bool) → comparable c y ≡ a → ((a && (b && ltb y.base c.near)) || (not a && y.gap)) ≡ true → ((c.has_near && ltb y.base c.near) || y.gap) ≡ true
+      go true true e h = rw (all_three c.has_near y.has_value y.has_base e).0 (either (or-true (ltb y.base c.near) false h))
+        where
+          either : (ltb y.base c.near ≡ true) ⊎ (false ≡ true) → (ltb y.base c.near || y.gap) ≡ true
+          either (inl k) = or_left _ _ k
+          either (inr k) = absurd (let z : ◌≡◌ {A = ℕ} 0 1 = cc in omega arith)
+      go true false e h = absurd (let z : ◌≡◌ {A = ℕ} 0 1 = cc in omega arith)
+      go false b e h = or_right (c.has_near && ltb y.base c.near) y.gap h
+
   g3_needs : g3_rule c y ≡ true → (not c.more && (not c.edge.large_power && y.large_power)) ≡ true
   unfolding g3_rule
   g3_needs h = let t = all_five (not c.more) c.edge.has_value (not c.edge.large_power) y.has_value y.large_power h in rw (t.0, t.2, t.4)
@@ -84,7 +98,7 @@ module _ (c : StoredChain) (y : StoredEdge) where
 abbrev pub may_take : Pass → StoredChain → StoredEdge → Bool
 may_take D1 c y = (touches c y || c.edge.point) && y.digit
 may_take G1 c y = touches c y && not c.more
-may_take G2 c y = touches c y && (ltb y.base c.near || y.gap)
+may_take G2 c y = touches c y && ((c.has_near && ltb y.base c.near) || y.gap)
 may_take G3 c y = touches c y && not c.more
 may_take G4 c y = touches c y && (leb 1000 c.edge.base || ltb y.base c.edge.base)
 
@@ -115,7 +129,7 @@ may_take_lem D1 c y m h = rw ((and-true (c.more || c.edge.digit) y.digit h).1, e
     either (inl k) = or_left (touches c y) c.edge.point k
     either (inr k) = or_right (touches c y) c.edge.point k
 may_take_lem G1 c y m h = rw (m, (and-true (not c.more) _ (g1_needs c y h)).0)
-may_take_lem G2 c y m h = rw m (and-true (not c.edge.large_power) _ (g2_needs c y h)).1
+may_take_lem G2 c y m h = rw m (near_needs c y h)
 may_take_lem G3 c y m h = rw (m, (and-true (not c.more) _ (g3_needs c y h)).0)
 may_take_lem G4 c y m h = rw m (g4_needs c y h)
 
@@ -181,6 +195,6 @@ module _ (p : Pass) (c : StoredChain) (y : StoredEdge) {r : Bool} (f : joins p c
   unfolding next
   next_none = rw apart
 
-  pub answer_ends : Ends ≡ answer p c y
+  pub answer_ends : (Ok None) ≡ answer p c y
   unfolding answer
   answer_ends = rw apart

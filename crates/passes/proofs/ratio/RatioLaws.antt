@@ -1,11 +1,10 @@
 -- Euclid's algorithm one step at a time: how many steps are allowed does not matter, as long as they are enough. In order: one step; the end; the steps;
 -- a turn of the loop; the divisor of a fraction is not 0; neither part of a fraction in lowest terms is above what it was, and its lower part is not 0.
-use Prim.Native.Nat.{ℕ, zero, suc, ◌+◌, ◌*◌, ◌/◌, ◌%◌, ◌≤◌, ◌<◌, ◌∣◌}
+use Prim.Native.Nat.{ℕ, zero, suc, ◌+◌, ◌*◌, ◌%◌, ◌≤◌, ◌<◌, ◌∣◌}
 use mathlib.Core.Path.{◌≡◌, refl, sym, ◌∙◌}
 use native.Mathlib.Omega.{arith}
 use native.Mathlib.Nat.{le_refl, mod-lt, div-le_self, dvd-zero, mul-pos, mul-zero}
 use borrow.Author.Tests.{ne_eqb}
-use lib.Dec.{eqb}
 use Rattle.passes.specs.Characters.{gcd_within, gcd, lowest}
 use Rattle.passes.proofs.LowestLaws.{lowest_same, lowest_coprime}
 

@@ -18,9 +18,6 @@ use Rattle.edge.specs.Edge.{Edge}
 use Rattle.edge.specs.Layout.{edge_at}
 use Rattle.paths.specs.declared.Query.{Query}
 use Rattle.paths.specs.declared.Query.TheVariants.{Right}
-use Rattle.paths.specs.declared.Found.TheVariants.{At}
-use Rattle.paths.specs.declared.ReadCheck.TheVariants as ReadCheck
-use Rattle.paths.specs.declared.EdgeAnswer.TheVariants as EdgeAnswer
 use Rattle.paths.specs.Best.{class, score, Best, best, with_offsets, found}
 use Rattle.paths.specs.Reading.{read_check, inside, answer}
 use Rattle.paths.specs.Path.{path, rights}
@@ -29,6 +26,7 @@ use Rattle.paths.proofs.BestLaws.{Each, each_map, OfBest}
 use Rattle.paths.proofs.ReadingLaws.{reads, Listed, best_listed, answer_outside, answer_best}
 use Rattle.paths.proofs.PathLaws.{path_each}
 use Rattle.paths.proofs.theorems.Theorems.{best_first, shown_is}
+use Rattle.std.specs.Prelude.{Some, Ok}
 
 pub record Alike (skip : Bool) (e f : Edge) : Type 0 where
   pub start : e.start ≡ f.start
@@ -62,13 +60,13 @@ module _ (skip : Bool) (q : Query) (xs : List (ℕ × Edge)) where
   first_held (some x) e = best_first_of_class e
 
 -- ---- of the calls, over a line and a listing of k edges that the checks do not refuse
-module _ (line s : List ℕ) {n k : ℕ} (readable : read_check line s ≡ ReadCheck.Readable n k) where
-  pub answer_first : (q : Query) (skip : Bool) {o : Offset} → answer line s q skip ≡ EdgeAnswer.Best (At o)
+module _ (line s : List ℕ) {n k : ℕ} (readable : read_check line s ≡ Ok (n, k)) where
+  pub answer_first : (q : Query) (skip : Bool) {o : Offset} → answer line s q skip ≡ Ok (Some o)
       → FirstOfClass skip (with_offsets k s 2) (o.0, edge_at s o.0)
   unfolding found
   answer_first q skip {o} e = by_place (inside n q) refl
     where
-      by_best : (b : Best) → best skip q (with_offsets k s 2) ≡ b → OfBest (Listed n s) b → found b ≡ At o
+      by_best : (b : Best) → best skip q (with_offsets k s 2) ≡ b → OfBest (Listed n s) b → found b ≡ Some o
           → FirstOfClass skip (with_offsets k s 2) (o.0, edge_at s o.0)
       by_best none g l f = let z : ◌≡◌ {A = ℕ} 0 1 = cc in absurd (omega arith)
       by_best (some (x, d)) g l f =

@@ -1,33 +1,32 @@
 -- The path's listing (01: "The path is written to the output as a listing"), read again, is the path's edges, and is accepted over the same line.
 -- In order: what is read of bytes fits; the edges of an accepted listing; their bytes; the path. Assumes nothing.
 use mathlib.Core.Path.{◌≡◌, refl, sym, ap, ◌∙◌, subst}
-use mathlib.Core.Bool.{Bool, true, false, cond, ◌&&◌}
-use mathlib.Core.List.{List, [], ◌∷◌, ◌++◌, map}
-use mathlib.Core.Option.{Option, none, some, some-injective}
-use Prim.Native.Nat.{ℕ, zero, suc, ◌+◌, ◌*◌, ◌-◌, ◌^◌, ◌≤◌, ◌<◌}
+use mathlib.Core.Bool.{Bool, true, false, ◌&&◌}
+use mathlib.Core.List.{List, [], ◌∷◌, map}
+use mathlib.Core.Option.{some, some-injective}
+use Prim.Native.Nat.{ℕ, zero, suc, ◌+◌, ◌*◌, ◌-◌, ◌^◌, ◌<◌}
 use native.Mathlib.Omega.{arith}
-use lib.ListN.{length, take, drop, get_or, length-take}
+use lib.ListN.{length, drop, get_or, length-take}
 use native.Mathlib.Nat.{min-le_left, lt_of_le_of_lt}
 use lib.Dec.{leb, ltb}
-use borrow.Author.Tests.{leb-true}
 use Rattle.text.proofs.RowLaws.{cond_cases, and-true}
-use Rattle.fields.specs.Fields.{le_at, bytes_of}
+use Rattle.fields.specs.Fields.{le_at}
 use Rattle.fields.specs.Part.{part}
 use Rattle.fields.proofs.FieldsLaws.{le_at-lt}
-use Rattle.edge.specs.declared.ListingCheck.{ListingCheck}
-use Rattle.edge.specs.declared.ListingCheck.TheVariants.{Edges, Refused}
-use Rattle.edge.specs.Edge.{Edge, Numeric, Text, map_of, edge_bytes, edges_bytes, listing_bytes, EdgeFits, NumericFits}
+use Rattle.edge.specs.Edge.{Edge, Text, edge_bytes, edges_bytes, listing_bytes, EdgeFits, NumericFits}
 use Rattle.edge.specs.Layout.{stands, only, map_at, text_at, string_end, txt_at, head_end, fraction_at, base_at, mult_at, script_at, value_sAt, decimals_at, numeric_at, edge_at, next_at, listed}
 use Rattle.edge.specs.Check.{allowed, sound, good, check_edges, check_listing}
 use Rattle.edge.proofs.CheckLaws.{good_whole}
 use Rattle.edge.specs.Legal.{Legal, AllLegal, no_edge, one_more_lem}
 use Rattle.edge.proofs.theorems.ListedLaws.{edge_run, edge_map, good_allowed}
 use Rattle.edge.proofs.theorems.Theorems.{listing_read_back, listing_accepted}
-use Rattle.paths.specs.Best.{Best, best, with_offsets}
+use Rattle.paths.specs.Best.{with_offsets}
 use Rattle.paths.specs.Path.{path, edge_part, edge_parts, path_listing, rights}
 use Rattle.paths.specs.declared.Query.TheVariants as Query
 use Rattle.paths.proofs.BestLaws.{Each, best_holds}
 use Rattle.paths.proofs.PathLaws.{path_each, path_short}
+use Rattle.std.specs.Prelude.{Result, Ok}
+use Rattle.text.specs.declared.Offset.{Offset}
 
 -- ---- what is read of bytes fits
 only_holds : {A : Type 0} (P : A → Type 0) (b : Bool) (a x : A) → only b a ≡ some x → P a → P x
@@ -76,27 +75,27 @@ module _ (s : List ℕ) (small : (i : ℕ) → get_or s i 0 < 256) where
       pub edge : x.1 ≡ edge_at s x.0
       pub checked : good false n s x.0 ≡ true
 
-    edges_good : (k at c : ℕ) → check_edges false n s k at ≡ Edges c → Each Good (with_offsets k s at)
+    edges_good : (k at c : ℕ) → check_edges false n s k at ≡ Ok c → Each Good (with_offsets k s at)
     unfolding check_edges with_offsets
     edges_good zero at c = λ e. tt
     edges_good (suc k) at c =
-        cond_cases (λ (r : ListingCheck). r ≡ Edges c → Each Good ((at, edge_at s at) ∷ with_offsets k s (next_at s at))) (good false n s at)
+        cond_cases (λ (r : Result ℕ Offset). r ≡ Ok c → Each Good ((at, edge_at s at) ∷ with_offsets k s (next_at s at))) (good false n s at)
         (λ g e. (record { edge = refl; checked = g }, edges_good k (next_at s at) c e))
         (λ g e. let z : ◌≡◌ {A = ℕ} 0 1 = cc in absurd (omega arith))
 
-    counted : (j at k : ℕ) → check_edges false n s j at ≡ Edges k → le_at s 0 2 ≡ k
+    counted : (j at k : ℕ) → check_edges false n s j at ≡ Ok k → le_at s 0 2 ≡ k
     unfolding check_edges
     counted zero at k =
-        cond_cases (λ (r : ListingCheck). r ≡ Edges k → le_at s 0 2 ≡ k) (ltb at (length s)) (λ t e. let z : ◌≡◌ {A = ℕ} 0 1 = cc in absurd (omega arith)) (λ t e. cc)
+        cond_cases (λ (r : Result ℕ Offset). r ≡ Ok k → le_at s 0 2 ≡ k) (ltb at (length s)) (λ t e. let z : ◌≡◌ {A = ℕ} 0 1 = cc in absurd (omega arith)) (λ t e. cc)
     counted (suc j) at k =
-        cond_cases (λ (r : ListingCheck). r ≡ Edges k → le_at s 0 2 ≡ k) (good false n s at)
+        cond_cases (λ (r : Result ℕ Offset). r ≡ Ok k → le_at s 0 2 ≡ k) (good false n s at)
         (λ t e. counted j (next_at s at) k e)
         (λ t e. let z : ◌≡◌ {A = ℕ} 0 1 = cc in absurd (omega arith))
 
-    listing_good : (k : ℕ) → check_listing false n s ≡ Edges k → Each Good (with_offsets k s 2)
+    listing_good : (k : ℕ) → check_listing false n s ≡ Ok k → Each Good (with_offsets k s 2)
     unfolding check_listing
     listing_good k =
-        cond_cases (λ (r : ListingCheck). r ≡ Edges k → Each Good (with_offsets k s 2)) (leb 2 (length s))
+        cond_cases (λ (r : Result ℕ Offset). r ≡ Ok k → Each Good (with_offsets k s 2)) (leb 2 (length s))
         (λ t e. let c = counted (le_at s 0 2) 2 k e in rw (← c) (edges_good (le_at s 0 2) 2 k e))
         (λ t e. let z : ◌≡◌ {A = ℕ} 0 1 = cc in absurd (omega arith))
 
@@ -137,7 +136,7 @@ module _ (s : List ℕ) (small : (i : ℕ) → get_or s i 0 < 256) where
     listing_is xs g = rw (parts_are xs g, length_edges xs)
 
     -- ---- the path
-    module _ (k : ℕ) (accepted : check_listing false n s ≡ Edges k) (skip : Bool) (a z : ℕ) (few : z - a < 2 ^ 16) where
+    module _ (k : ℕ) (accepted : check_listing false n s ≡ Ok k) (skip : Bool) (a z : ℕ) (few : z - a < 2 ^ 16) where
       abbrev taken : List (ℕ × Edge)
       taken = path (rights skip s k) a z
 
@@ -152,5 +151,5 @@ module _ (s : List ℕ) (small : (i : ℕ) → get_or s i 0 < 256) where
       path_read_back = rw (listing_is taken taken_good) (listing_read_back false n (edges taken) (all_legal taken taken_good) taken_few)
 
       -- and accepted over the same line
-      pub path_accepted : check_listing false n (path_listing s taken) ≡ Edges (length taken)
-      path_accepted = rw (listing_is taken taken_good) (listing_accepted false n (edges taken) (all_legal taken taken_good) taken_few ∙ ap Edges (length_edges taken))
+      pub path_accepted : check_listing false n (path_listing s taken) ≡ Ok (length taken)
+      path_accepted = rw (listing_is taken taken_good) (listing_accepted false n (edges taken) (all_legal taken taken_good) taken_few ∙ ap Ok (length_edges taken))

@@ -18,21 +18,19 @@ use Rattle.fields.proofs.FieldsLaws.{length-bytes_of}
 use Rattle.edge.specs.Edge.{Edge}
 use Rattle.edge.specs.Layout.{next_at}
 use Rattle.paths.specs.declared.Query.TheVariants as Query
-use Rattle.paths.specs.declared.ReadCheck.{ReadCheck}
-use Rattle.paths.specs.declared.ReadCheck.TheVariants as ReadCheck
 use Rattle.paths.specs.declared.ReadRefusal.TheVariants.{ShortOutput}
 use Rattle.paths.specs.Best.{Best, score, with_offsets, Whole}
-use Rattle.text.specs.declared.LineCheck.{LineCheck}
-use Rattle.text.specs.declared.LineCheck.TheVariants.{Chars, IllFormed, TooLong}
 use Rattle.text.specs.Line.{line_check}
 use Rattle.edge.specs.Check.{check_listing}
-use Rattle.edge.specs.declared.ListingCheck.{ListingCheck}
-use Rattle.edge.specs.declared.ListingCheck.TheVariants as ListingCheck
 use Rattle.paths.specs.Reading.{after_listing, after_line, read_check, readable, inside, Spans}
 use Rattle.paths.specs.Path.{passed, onward, path_from, path, edge_parts, path_listing, rights, refused, fitting, path_in, path_out}
 use Rattle.paths.proofs.BestLaws.{head_bytes_lem, Each, each_map, OfBest, best_holds, best_positive, score_asks, right_start}
 use Rattle.paths.proofs.ReadingLaws.{reads, spans_whole, best_listed, Listed}
 use Rattle.paths.specs.Shorter.{Shorter}
+use Rattle.std.specs.Prelude.{Result, Ok, Err}
+use Rattle.text.specs.declared.LineRefusal.{LineRefusal}
+use Rattle.text.specs.declared.Offset.{Offset}
+use Rattle.paths.specs.declared.ReadRefusal.{ReadRefusal}
 
 module _ (s : List ℕ) where
   -- ---- sizes: of one edge; of all; of those that start at place p or later
@@ -141,18 +139,18 @@ module _ (s : List ℕ) where
         (omega (arith, parts_short ys, path_sizes (z - a) a, from_all a xs, sizes_all k 2 (spans_whole n k s 2 spans)))
 
 -- the checks of a reading call never refuse 8
-never_short : (line s : List ℕ) → read_check line s ≡ ReadCheck.Refused ShortOutput → ⊥
+never_short : (line s : List ℕ) → read_check line s ≡ Err ShortOutput → ⊥
 unfolding read_check
 never_short line s e = by_line (line_check line) e
   where
-    by_listing : (n : ℕ) (c : ListingCheck) → after_listing n c ≡ ReadCheck.Refused ShortOutput → ⊥
-    by_listing n (ListingCheck.Edges k) e = let z : ◌≡◌ {A = ℕ} 0 1 = cc in omega arith
-    by_listing n (ListingCheck.Refused at) e = let z : ◌≡◌ {A = ℕ} 0 1 = cc in omega arith
+    by_listing : (n : ℕ) (c : Result ℕ Offset) → after_listing n c ≡ Err ShortOutput → ⊥
+    by_listing n (Ok k) e = let z : ◌≡◌ {A = ℕ} 0 1 = cc in omega arith
+    by_listing n (Err at) e = let z : ◌≡◌ {A = ℕ} 0 1 = cc in omega arith
 
-    by_line : (c : LineCheck) → after_line c s ≡ ReadCheck.Refused ShortOutput → ⊥
-    by_line (Chars n) e = by_listing n (check_listing false n s) e
-    by_line (IllFormed at) e = let z : ◌≡◌ {A = ℕ} 0 1 = cc in omega arith
-    by_line (TooLong at) e = let z : ◌≡◌ {A = ℕ} 0 1 = cc in omega arith
+    by_line : (c : Result ℕ LineRefusal) → after_line c s ≡ Err ShortOutput → ⊥
+    by_line (Ok n) e = by_listing n (check_listing false n s) e
+    by_line (Err (LineRefusal.IllFormed at)) e = let z : ◌≡◌ {A = ℕ} 0 1 = cc in omega arith
+    by_line (Err (LineRefusal.TooLong at)) e = let z : ◌≡◌ {A = ℕ} 0 1 = cc in omega arith
 
 -- ---- what is said: of the path that a call writes, whatever the output; and in an output as long as the listing it is never refused 8
 module _ (line s : List ℕ) (a z : Place) (skip : Bool) (room : ℕ) where
@@ -167,9 +165,9 @@ module _ (line s : List ℕ) (a z : Place) (skip : Bool) (room : ℕ) where
   unfolding path_out
   path_out_shorter = go (read_check line s) refl
     where
-      go : (c : ReadCheck) → read_check line s ≡ c → Shorter s room (readable refused (path_in s a z skip room) c)
-      go (ReadCheck.Readable n k) e =
+      go : (c : Result (ℕ × ℕ) ReadRefusal) → read_check line s ≡ c → Shorter s room (readable refused (path_in s a z skip room) c)
+      go (Ok (n, k)) e =
           cond_cases (Shorter s room) (inside n (Query.Span a z))
           (λ t. fitted (path_listing s (path (rights skip s k) a.0 z.0)) (path_shorter s n k (reads line s n k e).spans skip z.0 a.0))
           (λ t. record { written = λ cs e. let z : ◌≡◌ {A = ℕ} 0 1 = cc in absurd (omega arith); short = λ e. let z : ◌≡◌ {A = ℕ} 0 1 = cc in absurd (omega arith) })
-      go (ReadCheck.Refused r) e = record { written = λ cs f. let z : ◌≡◌ {A = ℕ} 0 1 = cc in absurd (omega arith); short = λ f. let q : r ≡ ShortOutput = cc in absurd (never_short line s (e ∙ ap ReadCheck.Refused q)) }
+      go (Err r) e = record { written = λ cs f. let z : ◌≡◌ {A = ℕ} 0 1 = cc in absurd (omega arith); short = λ f. let q : r ≡ ShortOutput = cc in absurd (never_short line s (e ∙ ap Err q)) }

@@ -16,8 +16,8 @@ use native.Mathlib.Nat.{add-zero, max-le, max-eq_left, max-eq_right}
 use native.Mathlib.Decide.{dec_lt}
 use native.Mathlib.Omega.{arith}
 use lib.ListN.{length, take, drop, length-append, take-append-drop}
-use lib.Seq.{take-add, drop-drop}
-use lib.Dec.{eqb, ltb}
+use lib.Seq.{take-add}
+use lib.Dec.{ltb}
 use borrow.Author.Tests.{ltb-true, ltb-false, lt-ltb, eq-eqb, ne_eqb}
 use Rattle.text.specs.declared.Place.{Place}
 use Rattle.text.specs.Text.{chars, well_formed, encodes, offset_of, part_of}
@@ -28,13 +28,13 @@ use Rattle.edge.specs.Edge.{Text, Edge}
 use Rattle.edge.specs.Layout.{text_at, next_at, edge_at, edges_at, listed}
 use Rattle.paths.specs.declared.Query.{Query}
 use Rattle.paths.specs.declared.Query.TheVariants.{Right}
-use Rattle.paths.specs.declared.ReadCheck.TheVariants as ReadCheck
 use Rattle.paths.specs.Best.{class, asked, score, Best, highest, first_of, best, with_offsets, found}
 use Rattle.paths.specs.Reading.{read_check}
 use Rattle.paths.specs.Shown.{shown_by, shown, shown_part}
 use Rattle.paths.proofs.BestLaws.{Each, each_map, each_append, OfBest, scored, best_from, best_walk, class_le, score_asks, score_never, score_asked, best_holds}
-use Rattle.paths.proofs.ReadingLaws.{Reads, reads, Listed, best_listed}
+use Rattle.paths.proofs.ReadingLaws.{reads, Listed, best_listed}
 use Rattle.paths.proofs.ShownLaws.{shown_inside}
+use Rattle.std.specs.Prelude.{Ok}
 
 -- ---- the first of the highest score
 pub record IsFirst (skip : Bool) (q : Query) (xs : List (ℕ × Edge)) (x : ℕ × Edge) : Type 0 where
@@ -184,7 +184,7 @@ unfolding with_offsets edges_at
 offsets_edges zero s at = refl
 offsets_edges (suc k) s at = ap (λ (es : List Edge). edge_at s at ∷ es) (offsets_edges k s (next_at s at))
 
-pub read_edges : (line s : List ℕ) {n k : ℕ} → read_check line s ≡ ReadCheck.Readable n k → map (λ (x : ℕ × Edge). x.1) (with_offsets k s 2) ≡ listed s
+pub read_edges : (line s : List ℕ) {n k : ℕ} → read_check line s ≡ Ok (n, k) → map (λ (x : ℕ × Edge). x.1) (with_offsets k s 2) ≡ listed s
 read_edges line s {n} {k} e = offsets_edges k s 2 ∙ ap (λ (j : ℕ). edges_at j s 2) (reads line s n k e).edges
 
 -- ---- the text shown
@@ -225,13 +225,13 @@ abbrev pub text_shown : List ℕ → ℕ → Best → Text
 text_shown line p none = part_of line p (suc p)
 text_shown line p (some x) = x.1.txt
 
-pub shown_is : (line s : List ℕ) (p : Place) {n k : ℕ} → read_check line s ≡ ReadCheck.Readable n k → p.0 < n
+pub shown_is : (line s : List ℕ) (p : Place) {n k : ℕ} → read_check line s ≡ Ok (n, k) → p.0 < n
     → shown_part line s (shown line s p) ≡ text_shown line p.0 (best false (Right p) (with_offsets k s 2))
 unfolding shown_part shown_by found edge_at text_at
 shown_is line s p {n} {k} e h =
     let r = reads line s n k e in
     ap (shown_part line s) (sym (shown_inside line s p e h refl)) ∙ by_best r.is_well_formed (best false (Right p) (with_offsets k s 2)) (best_listed false (Right p) n k s 2 r.spans)
   where
-    by_best : well_formed line ≡ true → (b : Best) → OfBest (Listed n s) b → shown_part line s (shown_by line s p.0 (found b)) ≡ text_shown line p.0 b
+    by_best : well_formed line ≡ true → (b : Best) → OfBest (Listed n s) b → shown_part line s (Ok (shown_by line s p.0 (found b))) ≡ text_shown line p.0 b
     by_best w none l = character line p.0 w
     by_best w (some x) l = sym (ap (λ (d : Edge). d.txt) l.edge)

@@ -4,4 +4,4 @@ use Rattle.print_line.proofs.LineRowsLaws.{listing_front, rows_fit}
 use Rattle.print_line.proofs.answer_line.Goals as goal
 
 pub put_rows-requires : goal.put_rows-requires
-put_rows-requires c = rows_fit _ _ _ _ _ _ _ no_edges_bytes (listing_front _ c.add_numbers.ensures _ c.in-Listing.is).is c.requires
+put_rows-requires c = rows_fit _ _ _ _ _ _ _ no_edges_bytes (listing_front _ c.add_numbers.ensures _ c.in-Ok.is).is c.requires

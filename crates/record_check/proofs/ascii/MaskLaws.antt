@@ -1,6 +1,6 @@
 -- Laws of ASCII bytes: looked at by a mask, and joined. No contract cites this file.
 -- In order: bytes whose highest bits a mask finds clear; the bytes from an offset on; two parts that meet, and three; a part of them; UTF-8.
-use mathlib.Core.Path.{◌≡◌, refl, sym, ap, ◌∙◌, subst}
+use mathlib.Core.Path.{◌≡◌, sym, ap, ◌∙◌, subst}
 use mathlib.Core.Bool.{true}
 use mathlib.Core.List.{List, [], ◌∷◌, ◌++◌}
 use Prim.Native.Nat.{ℕ, zero, suc, ◌+◌, ◌-◌, ◌*◌, ◌/◌, ◌%◌, ◌^◌, ◌≤◌, ◌<◌}

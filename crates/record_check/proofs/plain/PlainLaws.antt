@@ -24,10 +24,9 @@ use Rattle.table.specs.Check.{digit, all_of, is_digit_type, legal_digit, digit_r
 use Rattle.table.proofs.LayoutLaws.{number_is, text_is, optional_there, fields_are, record_is}
 use Rattle.record_check.specs.PlainContent.{Head, Digit, Numbers}
 use Rattle.record_check.specs.Plain.{LegalAt, Tail, TailIs, FieldsIs}
-use Rattle.record_check.specs.declared.plain.Behind.{Behind}
-use Rattle.record_check.specs.declared.plain.Behind.TheVariants as Behind
 use Rattle.record_check.specs.Ascii.{Ascii}
 use Rattle.record_check.proofs.ascii.MaskLaws.{ascii_part, ascii_formed}
+use Rattle.std.specs.Prelude.{Option, Some, None}
 
 -- ---- the map
 odd : (n : ℕ) → (2 * n + 1) % 2 ≡ 1
@@ -131,10 +130,10 @@ pub tail_is : (s : List ℕ) (t rom at : ℕ) → 17 ≤ length s - at → get_o
     → Ascii s (at + 17) (at + 17 + get_or s (at + 16) 0) → Numbers t (le_at s rom 2) (le_at s at 8) (le_at s (at + 8) 8) → Tail s t rom at (at + 17 + get_or s (at + 16) 0)
 tail_is s t rom at h k l a n = record { numbers = n; room = omega arith; short = k; behind = refl; ends = omega arith; script = a }
 
-pub fields_is : (s : List ℕ) (at n q : ℕ) (r : Behind) → n ≡ get_or s at 0 → q ≡ get_or s (at + 1 + n) 0 → n + 2 + q ≤ 24 → ((i : ℕ) → get_or s i 0 < 256) → at + (n + 2 + q) ≤ length s
+pub fields_is : (s : List ℕ) (at n q : ℕ) (r : Option ℕ) → n ≡ get_or s at 0 → q ≡ get_or s (at + 1 + n) 0 → n + 2 + q ≤ 24 → ((i : ℕ) → get_or s i 0 < 256) → at + (n + 2 + q) ≤ length s
     → Ascii s at (at + (n + 2 + q)) → TailIs s (get_or s (at + 1) 0) (at + 1 + n) (at + (n + 2 + q)) r → FieldsIs s at r
-fields_is s at n q Behind.Other en eq l f w a t = tt
-fields_is s at n q (Behind.At next) en eq l f w a t =
+fields_is s at n q None en eq l f w a t = tt
+fields_is s at n q (Some next) en eq l f w a t =
     let end = at + (n + 2 + q) in
     λ least c m h. fields_plain least c m s at h
     (formed_is s at (at + 1 + n) (omega arith) (omega arith) (omega arith) (ascii_part s at end (at + 1) (at + 1 + n) (omega arith) (omega arith) a))
@@ -142,7 +141,7 @@ fields_is s at n q (Behind.At next) en eq l f w a t =
     (formed_is s (end + 16) next (omega (arith, t.short)) (omega (arith, t.behind)) t.ends (let g : end + 17 ≡ end + 16 + 1 = omega arith in subst (λ (x : ℕ). Ascii s x next) g t.script))
     (omega (arith, t.room)) t.numbers (λ e. one_digit s (get_or s (at + 1) 0) (at + 1 + n) (le_at s end 8) (omega (arith, t.room)) f t.numbers.digit (digit_first s (at + 1) (get_or s at 0) (omega arith) e))
 
-pub record_is_plain : (s : List ℕ) (at least : ℕ) {code next : ℕ} → at + 5 ≤ length s → Head least (le_at s at 4) (get_or s (at + 4) 0) → FieldsIs s (at + 5) (Behind.At next) → code ≡ le_at s at 4
+pub record_is_plain : (s : List ℕ) (at least : ℕ) {code next : ℕ} → at + 5 ≤ length s → Head least (le_at s at 4) (get_or s (at + 4) 0) → FieldsIs s (at + 5) (Some next) → code ≡ le_at s at 4
     → LegalAt least code (read_record s at) next
 record_is_plain s at least {code} {next} l h f e =
     let k = f least (le_at s at 4) (get_or s (at + 4) 0) h in

@@ -1,9 +1,9 @@
 -- Laws of `specs/Rest.antt`. No contract cites this file.
--- In order: nothing taken off, or some and then more; nothing left; a character's bytes; one, two and three of them.
-use mathlib.Core.Path.{◌≡◌, refl, sym, ap, ◌∙◌, subst}
+-- In order: nothing taken off; some and then more; nothing left; a character's bytes; one, two and three of them.
+use mathlib.Core.Path.{◌≡◌, refl, sym, ap, ◌∙◌}
 use mathlib.Core.Bool.{true}
 use mathlib.Core.List.{List, [], ◌∷◌, ◌++◌}
-use Prim.Native.Nat.{ℕ, ◌+◌, ◌-◌, ◌*◌, ◌/◌, ◌%◌, ◌≤◌, ◌<◌}
+use Prim.Native.Nat.{ℕ, ◌+◌, ◌-◌, ◌*◌, ◌/◌, ◌≤◌, ◌<◌}
 use native.Mathlib.Omega.{arith}
 use lib.ListN.{length, get_or}
 use borrow.Author.Tests.{le-leb, lt-ltb, le-ltb}
@@ -20,9 +20,6 @@ use Rattle.record_check.specs.Rest.{Trail, Rest}
 module _ (s : List ℕ) (from end : ℕ) where
   pub rest_start : from ≤ end → Rest s from end from
   rest_start h = record { behind = omega arith; before = h; same = refl }
-
-  pub rest_none : from ≤ end → Rest s from end (from + 0)
-  rest_none h = let z : from ≡ from + 0 = omega arith in subst (Rest s from end) z (rest_start h)
 
   pub rest_more : (at : ℕ) {next : ℕ} → Rest s from end at → Rest s at end next → Rest s from end next
   rest_more at p q = record { behind = omega (arith, p.behind, q.behind); before = q.before; same = p.same ∙ q.same }

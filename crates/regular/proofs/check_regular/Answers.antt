@@ -1,12 +1,15 @@
 -- `regular::check_regular` meets its contract, by what the table's check answers. Assumes nothing.
+use Rattle.std.proofs.lemmas.Result.{err_from_is_err_and}
 use Rattle.regular.proofs.CheckLaws.{table_full, answer_table, answer_refused}
 use Rattle.regular.proofs.check_regular.Goals as goal
 
 pub first_irregular-requires : goal.first_irregular-requires
-first_irregular-requires c = table_full _ c.check_table.ensures.table_is c.in-Table.is
+first_irregular-requires c = table_full _ c.check_table.ensures.table_is c.in_ok-shape.was
 
-pub returns-in-Refused : goal.returns-in-Refused
-returns-in-Refused c = answer_refused _ c.check_table.ensures.table_is c.in-Refused.is
+pub returns-in_err-shape : goal.returns-in_err-shape
+returns-in_err-shape c =
+    let p = err_from_is_err_and c.from_residual.result c.from_residual.ensures.1 in
+    rw (p.1, p.2) (answer_refused _ c.check_table.ensures.table_is c.in_err-shape.was)
 
-pub returns-in-Table : goal.returns-in-Table
-returns-in-Table c = answer_table _ c.check_table.ensures.table_is c.in-Table.is c.first_irregular.ensures
+pub returns : goal.returns
+returns c = answer_table _ c.check_table.ensures.table_is c.in_ok-shape.was c.first_irregular.ensures

@@ -1,4 +1,3 @@
-use native.Mathlib.Omega.{arith}
 use Rattle.separators.proofs.StepLaws.{setting_start, setting_here, setting_next, setting_end}
 use Rattle.separators.proofs.set_all_apart.Goals as goal
 
@@ -9,12 +8,6 @@ pub set_apart-grown-requires : goal.set_apart-grown-requires
 set_apart-grown-requires c =
     let d = setting_here c.loop-i.invariant c.loop-i-test.true c.requires.0 c.requires.2.0 c.requires.1 c.requires.2.1 c.requires.2.2 c.requires.2.3 in
     (c.requires.0, c.requires.1, d)
-
-pub overflow_add-i : goal.overflow_add-i
-overflow_add-i c = omega arith
-
-pub loop-i-smaller : goal.loop-i-smaller
-loop-i-smaller c = omega arith
 
 pub loop-i-preserved : goal.loop-i-preserved
 loop-i-preserved c = setting_next c.loop-i.invariant c.loop-i-test.true c.set_apart-grown.auto.work c.set_apart-grown.ensures.0 c.set_apart-grown.ensures.1

@@ -1,11 +1,7 @@
 -- `separators::set_all_apart` meets its contract. The loop's invariant: with the edges from the i-th on set apart, the lattice is what it shall be (`Setting`).
--- The measure is how many are left. Assumes nothing.
-use Prim.Native.Nat.{◌-◌}
+-- Assumes nothing.
 use Rattle.separators.proofs.StepLaws.{Setting}
 use Rattle.separators.proofs.set_all_apart.Given as goal
 
 abbrev pub invariant-loop-i : goal.invariant-loop-i
-invariant-loop-i l = Setting l.initial.work l.initial.grown l.marks l.count l.work l.grown l.i
-
-abbrev pub decreases-loop-i : goal.decreases-loop-i
-decreases-loop-i l = l.count - l.i
+invariant-loop-i l = Setting l.initial.work l.initial.grown l.marks l.i-end l.work l.grown l.i

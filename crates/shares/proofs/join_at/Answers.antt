@@ -7,11 +7,11 @@ share_at-requires c = c.requires.1.whole
 
 pub pool-requires : goal.pool-requires
 pool-requires c =
-    let sound = share_fits c.args.sum _ _ c.share_at.ensures _ _ c.in-Of.is c.requires.1 in
+    let sound = share_fits c.args.sum _ _ c.share_at.ensures _ _ c.in-Some.is c.requires.1 in
     (c.requires.0, sound.0, sound.1, sound.2)
 
-pub returns-in-Nothing : goal.returns-in-Nothing
-returns-in-Nothing c = joined_nothing _ _ _ c.share_at.ensures c.in-Nothing.is
+pub returns-in-None : goal.returns-in-None
+returns-in-None c = joined_nothing _ _ _ c.share_at.ensures c.in-None.is
 
-pub returns-in-Of : goal.returns-in-Of
-returns-in-Of c = joined_share _ _ _ c.share_at.ensures _ _ c.in-Of.is c.pool.ensures
+pub returns-in-Some : goal.returns-in-Some
+returns-in-Some c = joined_share _ _ _ c.share_at.ensures _ _ c.in-Some.is c.pool.ensures

@@ -4,6 +4,7 @@ use mathlib.Core.List.{List}
 use Prim.Native.Nat.{◌≤◌}
 use native.Mathlib.Omega.{arith}
 use lib.ListN.{length}
+use borrow.Author.Tests.{not-true, not-false}
 use Rattle.text.specs.Text.{chars}
 use Rattle.table.specs.Layout.{list_at}
 use Rattle.table.specs.Answers.{table_of}
@@ -15,13 +16,20 @@ use Rattle.numbers.specs.Signs.{signed}
 use Rattle.markers.specs.Marks.{Formed}
 use Rattle.markers.proofs.MarkLaws.{Marks, table_marks, all_formed}
 use Rattle.signs.proofs.StoredEdgeLaws.{both_holds, none_holds, first_holds}
+use Rattle.signs.proofs.add_edge_signs.Goals.{then-edge-eq0-via-then-edge-eq0, then-edge-eq0-via-else-edge-eq0+then-not-edge}
 use Rattle.signs.proofs.add_edge_signs.Goals as goal
 
 pub returns-then-edge-eq0 : goal.returns-then-edge-eq0
 returns-then-edge-eq0 c =
     let marks : Marks (table_of c.args.table.now c.args.shape) = table_marks c.args.table.now c.requires.3.1.checked in
     let a = c.args in
-    (refl, λ es i q e. first_holds (chars a.line.now) a.table.now a.shape e c.if-edge-eq0.true marks es q)
+    let w = chars a.line.now in (
+      refl,
+      λ es i q e. elim c.then-edge-eq0.branch [
+        | then-edge-eq0-via-then-edge-eq0 v ↦ first_holds w a.table.now a.shape e v.if-edge-eq0.true marks es q
+        | then-edge-eq0-via-else-edge-eq0+then-not-edge v ↦ none_holds w a.table.now a.shape e (not-true _ v.if-not-edge.true) es q
+      ],
+    )
 
 pub add_signs_of-minus-requires : goal.add_signs_of-minus-requires
 unfolding table_of
@@ -41,14 +49,11 @@ add_signs_of-requires c =
     let held = c.add_signs_of-minus.ensures.holds c.requires.0.0 c.requires.2.0 c.requires.0.1 c.requires.2.1.is in
     (record { holds = (add_all c.requires.0.0 (minus c.requires.2.0), held); offsets = c.requires.1; stored_edge = c.requires.2; few = few }, plus_formed)
 
-pub shape_of-work-then-edge : goal.shape_of-work-then-edge
-shape_of-work-then-edge c = c.add_signs_of.auto.work ∙ c.add_signs_of-minus.auto.work
-
-pub returns-then-edge : goal.returns-then-edge
-returns-then-edge c =
-    let minus : StoredEdge → List Edge = λ i. let w = chars c.args.line.now in let t = c.args.table.now in signed w 45 (edge_of w t i) (list_at t c.args.shape.minus) in
-    let a = c.args in
-    (c.add_signs_of.ensures.frame ∙ c.add_signs_of-minus.ensures.frame, λ es i q e. both_holds (chars a.line.now) a.table.now a.shape e c.if-edge.true es (c.add_signs_of.ensures.holds (add_all es (minus i)) i (c.add_signs_of-minus.ensures.holds es i q e) e))
+pub shape_of-work : goal.shape_of-work
+shape_of-work c = c.add_signs_of.auto.work ∙ c.add_signs_of-minus.auto.work
 
 pub returns : goal.returns
-returns c = let a = c.args in (refl, λ es i q e. none_holds (chars a.line.now) a.table.now a.shape e c.if-edge.false es q)
+returns c =
+    let minus : StoredEdge → List Edge = λ i. let w = chars c.args.line.now in let t = c.args.table.now in signed w 45 (edge_of w t i) (list_at t c.args.shape.minus) in
+    let a = c.args in
+    (c.add_signs_of.ensures.frame ∙ c.add_signs_of-minus.ensures.frame, λ es i q e. both_holds (chars a.line.now) a.table.now a.shape e (not-false _ c.if-not-edge.false) es (c.add_signs_of.ensures.holds (add_all es (minus i)) i (c.add_signs_of-minus.ensures.holds es i q e) e))

@@ -53,9 +53,6 @@ add_edge_signs-grown-requires c =
     let d = c.loop-i.invariant.0.holds c.requires.0.0 c.requires.0.1 in
     ((d.0, d.1), c.requires.1, (_, record { is = read_is; marks = here.0.0; sound = here.0.1 }), c.requires.2)
 
-pub loop-i-smaller : goal.loop-i-smaller
-loop-i-smaller c = omega arith
-
 pub loop-i-preserved : goal.loop-i-preserved
 loop-i-preserved c =
     let list_is : let w = c.loop-i.work in take (length w - END) (drop END w) ≡ drop END c.args.work.now = part_to_end c.loop-i.work END ∙ c.loop-i.invariant.0.frame in

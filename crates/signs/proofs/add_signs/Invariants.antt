@@ -1,5 +1,5 @@
 -- `signs::add_signs` meets its contract. The loop's invariant: with the stored edges that are left, the lattice is what it shall be (`Toward`), and they are sound.
--- The measure is how many are left. Assumes nothing.
+-- Assumes nothing.
 use mathlib.Core.List.{map}
 use Prim.Native.Nat.{◌-◌, ◌≤◌}
 use lib.ListN.{drop}
@@ -18,6 +18,3 @@ abbrev pub invariant-loop-i : goal.invariant-loop-i
 invariant-loop-i l =
     Toward l.initial.work l.initial.grown (signs (table_of l.table l.shape) (chars l.line) (map (edge_of (chars l.line) l.table) (stored_list_at (drop END l.initial.work) 0 l.stored))) l.work l.grown (rest (table_of l.table l.shape) (chars l.line) l.table (drop END l.initial.work) l.stored l.i)
     × AllGrounded (chars l.line) l.table (stored_list_at (drop END l.initial.work) l.i (l.stored - l.i)) × (l.i ≤ l.stored)
-
-abbrev pub decreases-loop-i : goal.decreases-loop-i
-decreases-loop-i l = l.stored - l.i

@@ -1,18 +1,16 @@
 -- Laws of the edges that signs give (`specs/SignEdges.antt`), for this crate's proofs and its callers'. No contract cites this file.
 -- In order: one sign; the signs of a list one at a time; the line's first place. Assumes nothing.
-use mathlib.Core.Path.{◌≡◌, refl, sym, ap, ◌∙◌}
+use mathlib.Core.Path.{◌≡◌, refl, ap, ◌∙◌}
 use mathlib.Core.Bool.{Bool, true, false, cond}
 use mathlib.Core.List.{List, [], ◌∷◌, ◌++◌}
-use Prim.Native.Nat.{ℕ, ◌+◌, ◌-◌, ◌≤◌, ◌<◌}
+use Prim.Native.Nat.{ℕ, ◌-◌, ◌≤◌}
 use native.Mathlib.Omega.{arith}
-use lib.ListN.{length, get_or}
+use lib.ListN.{length}
 use lib.Dec.{leb}
 use borrow.Author.Tests.{lt-leb, leb-true}
 use Rattle.text.specs.Text.{chars}
 use Rattle.text.proofs.RowLaws.{and-true}
 use Rattle.table.specs.Table.{Text}
-use Rattle.table.specs.Layout.{Is, Fault, text, texts_at, list_at}
-use Rattle.table.proofs.LayoutLaws.{many_nil, many_fault, many_cons, list_texts, number_cut}
 use Rattle.passes.specs.NumEdge.{NumEdge}
 use Rattle.edge.specs.Edge.{Edge}
 use Rattle.lattice.specs.declared.Lattice.{Lattice}
@@ -22,30 +20,25 @@ use Rattle.pass_list.specs.StoredEdge.{nil, cons}
 use Rattle.numbers.specs.Fractions.{stands_at}
 use Rattle.numbers.specs.Signs.{ends_at, sign_edge, signed}
 use Rattle.markers.specs.Marks.{sign_of}
-use Rattle.markers.specs.declared.Sign.{Sign}
-use Rattle.markers.specs.declared.Sign.TheVariants as Sign
 use Rattle.markers.proofs.MarkLaws.{Legal, legal_count}
+use Rattle.std.specs.Prelude.{Some, None}
 
 -- ---- one sign
--- what an answer for the sign x says of the sign m
-pub sign_told : (w : List ℕ) (a : ℕ) {x m : Text} {r s : Sign} → x ≡ m → r ≡ sign_of w a x → r ≡ s → sign_of w a m ≡ s
-sign_told w a p e t = ap (sign_of w a) (sym p) ∙ sym e ∙ t
-
-pub sign_fits : (w : List ℕ) (a : ℕ) (m : Text) {k : ℕ} → sign_of w a m ≡ Sign.Before k → k ≤ a
+pub sign_fits : (w : List ℕ) (a : ℕ) (m : Text) {k : ℕ} → sign_of w a m ≡ Some k → k ≤ a
 sign_fits w a m {k} e = go (ends_at w a m) refl e
   where
-    go : (b : Bool) → ends_at w a m ≡ b → cond b (Sign.Before (length (chars m))) Sign.NoSign ≡ Sign.Before k → k ≤ a
+    go : (b : Bool) → ends_at w a m ≡ b → cond b (Some (length (chars m))) None ≡ Some k → k ≤ a
     go true t f = let q : length (chars m) ≡ k = cc in omega (arith, leb-true (length (chars m)) a (and-true (leb (length (chars m)) a) (stands_at w (a - length (chars m)) m) t).0)
     go false t f = let o : ◌≡◌ {A = ℕ} 0 1 = cc in absurd (omega arith)
 
 -- before the passes' edge e, which starts at place a
 module _ (w : List ℕ) (c : ℕ) (e : NumEdge) {a : ℕ} (at : a ≡ e.start) (m : Text) where
-  module _ {k : ℕ} (f : sign_of w a m ≡ Sign.Before k) where
+  module _ {k : ℕ} (f : sign_of w a m ≡ Some k) where
     sign_edge_lem : signed w c e (m ∷ []) ≡ sign_edge (a - k) c e ∷ []
     unfolding signed
     sign_edge_lem = rw (← at) (go (ends_at w a m) f)
       where
-        go : (b : Bool) → cond b (Sign.Before (length (chars m))) Sign.NoSign ≡ Sign.Before k → cond b (sign_edge (a - length (chars m)) c e ∷ []) [] ≡ sign_edge (a - k) c e ∷ []
+        go : (b : Bool) → cond b (Some (length (chars m))) None ≡ Some k → cond b (sign_edge (a - length (chars m)) c e ∷ []) [] ≡ sign_edge (a - k) c e ∷ []
         go true f = let q : length (chars m) ≡ k = cc in rw q
         go false f = let o : ◌≡◌ {A = ℕ} 0 1 = cc in absurd (omega arith)
 
@@ -53,12 +46,12 @@ module _ (w : List ℕ) (c : ℕ) (e : NumEdge) {a : ℕ} (at : a ≡ e.start) (
     unfolding add_all
     sign_added es h = rw sign_edge_lem h
 
-  module _ (f : sign_of w a m ≡ Sign.NoSign) where
+  module _ (f : sign_of w a m ≡ None) where
     no_edge : signed w c e (m ∷ []) ≡ []
     unfolding signed
     no_edge = rw (← at) (go (ends_at w a m) f)
       where
-        go : (b : Bool) → cond b (Sign.Before (length (chars m))) Sign.NoSign ≡ Sign.NoSign → cond b (sign_edge (a - length (chars m)) c e ∷ []) [] ≡ []
+        go : (b : Bool) → cond b (Some (length (chars m))) None ≡ None → cond b (sign_edge (a - length (chars m)) c e ∷ []) [] ≡ []
         go true f = let o : ◌≡◌ {A = ℕ} 0 1 = cc in absurd (omega arith)
         go false f = refl
 
@@ -66,7 +59,7 @@ module _ (w : List ℕ) (c : ℕ) (e : NumEdge) {a : ℕ} (at : a ≡ e.start) (
     unfolding add_all
     sign_absent es h = rw no_edge h
 
--- ---- the signs of a list of the table s, one at a time
+-- ---- the signs of a list, one at a time
 module _ (w : List ℕ) (c : ℕ) (e : NumEdge) where
   signed_first : (m : Text) (ms : List Text) → signed w c e (m ∷ ms) ≡ signed w c e (m ∷ []) ++ signed w c e ms
   unfolding signed
@@ -76,24 +69,13 @@ module _ (w : List ℕ) (c : ℕ) (e : NumEdge) where
       go true x r = refl
       go false x r = refl
 
-  module _ (s : List ℕ) (next left : ℕ) where
-    pub signs_turn : {m : Text} {behind : ℕ} → 0 < left → text s next ≡ Is m behind → signed w c e (texts_at left s next) ≡ signed w c e (m ∷ []) ++ signed w c e (texts_at (left - 1) s behind)
-    signs_turn {m} {behind} h q = ap (signed w c e) (sym (many_cons text s next left (λ z. omega arith) q)) ∙ signed_first m (texts_at (left - 1) s behind)
+  module _ {left : List Text} where
+    pub signs_turn : {m : Text} {more : List Text} → left ≡ m ∷ more → signed w c e left ≡ signed w c e (m ∷ []) ++ signed w c e more
+    signs_turn {m} {more} q = ap (signed w c e) q ∙ signed_first m more
 
-    pub signs_fault : text s next ≡ Fault → [] ≡ signed w c e (texts_at left s next)
+    pub signs_end : left ≡ [] → [] ≡ signed w c e left
     unfolding signed
-    signs_fault q = ap (signed w c e) (many_fault text s next left q)
-
-    pub signs_end : left ≤ 0 → [] ≡ signed w c e (texts_at left s next)
-    unfolding signed
-    signs_end h = ap (signed w c e) (many_nil text s next left (omega arith))
-
-  pub signs_missing : (s : List ℕ) (list : ℕ) → length s ≤ list → {v : List ℕ} {l : Lattice} (es : List Edge) → Holds v l es → Holds v l (add_all es (signed w c e (list_at s list)))
-  unfolding signed list_at add_all
-  signs_missing s list h es q = rw (number_cut s list 1 (omega arith)) q
-
-  pub signs_list : (s : List ℕ) (list : ℕ) → list < length s → signed w c e (texts_at (get_or s list 0) s (list + 1)) ≡ signed w c e (list_at s list)
-  signs_list s list h = ap (signed w c e) (sym (list_texts s list h))
+    signs_end q = rw q
 
 -- ---- no sign stands before the first place: none is empty
 module _ (w : List ℕ) (c : ℕ) (e : NumEdge) (z : e.start ≡ 0) where

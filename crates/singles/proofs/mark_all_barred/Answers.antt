@@ -46,9 +46,6 @@ mark_barred-requires c =
     let stored_is : (table : List ℕ) → let a = c.args in AllGrounded (chars a.line.now) table (stored_list_at (drop END a.work.now) 0 a.count) → StoredIs a.line.now table c.read_edge-edge.result (stored_at (drop END a.work.now) (c.loop-i.i * SIZE)) = λ table g. let h = here table g in record { is = read_is; marks = h.0; sound = h.1 } in
     (c.requires.0, c.requires.1, (c.requires.2.0, _, stored_is c.requires.2.0 c.requires.2.1))
 
-pub loop-i-smaller : goal.loop-i-smaller
-loop-i-smaller c = omega arith
-
 pub loop-i-preserved : goal.loop-i-preserved
 loop-i-preserved c =
     let here : (table : List ℕ) → let a = c.args in AllGrounded (chars a.line.now) table (stored_list_at (drop END a.work.now) 0 a.count) → (b : Bool) × Grounded (points_of b (chars a.line.now)) (chars a.line.now) table (stored_at (drop END a.work.now) (c.loop-i.i * SIZE)) = λ table g.

@@ -1,5 +1,4 @@
 use mathlib.Core.Path.{◌≡◌}
-use native.Mathlib.Omega.{arith}
 use Rattle.singles.proofs.StageLaws.{walked_start, walked_here, walked_next, walked_end}
 use Rattle.singles.proofs.silence_all.Goals as goal
 
@@ -11,12 +10,6 @@ silence_one-requires c =
     let not_full : c.args.lattice.len ≡ 0 → ⊥ = c.requires.0 in
     let p = c.requires.1 in
     (not_full, (p.0, p.1, walked_here c.loop-i.invariant not_full c.loop-i-test.true p.0 p.2.0 p.1 p.2.1 p.2.2))
-
-pub overflow_add-i : goal.overflow_add-i
-overflow_add-i c = omega arith
-
-pub loop-i-smaller : goal.loop-i-smaller
-loop-i-smaller c = omega arith
 
 pub loop-i-preserved : goal.loop-i-preserved
 loop-i-preserved c =

@@ -1,21 +1,21 @@
 -- Laws of `specs/Index.antt`. No contract cites this file.
 -- In order: the records from an offset on, one at a time; a turn of `find_from`; a turn of `index_record`; the index with an entry more, with a bit more in its filter; where a search in it ends.
 use mathlib.Core.Path.{◌≡◌, refl, sym, ap, subst, ◌∙◌}
-use mathlib.Core.Bool.{Bool, true, false, cond}
+use mathlib.Core.Bool.{Bool, true, not}
 use mathlib.Core.List.{List, [], ◌∷◌}
 use mathlib.Core.Option.{none, some}
 use Prim.Native.Nat.{ℕ, ◌+◌, ◌-◌, ◌*◌, ◌/◌, ◌≤◌, ◌<◌}
 use native.Mathlib.Omega.{arith}
 use native.Mathlib.Nat.{eq-or-lt_of_le, mul-le-mul_right, add-mul}
 use native.Mathlib.Decide.{dec_le}
-use mathlib.Core.Logic.{◌⊎◌, ⊎_elim}
+use mathlib.Core.Logic.{⊎_elim}
 use lib.ListN.{length, get_or, set, length-set}
 use lib.Seq.{get_or-set_same, get_or-set_other}
-use lib.Dec.{leb, ltb}
-use borrow.Author.Tests.{leb-true, eq-eqb, ne_eqb}
+use lib.Dec.{leb}
+use borrow.Author.Tests.{leb-true, eq-eqb, ne_eqb, not-true, not-false}
 use Rattle.fields.specs.Fields.{le_at}
 use Rattle.text.proofs.RowLaws.{and-true}
-use Rattle.table.specs.Table.{Record, find}
+use Rattle.table.specs.Table.{Record, find, is_none}
 use Rattle.table.specs.Layout.{Field, Is, Fault, read_record, records_at}
 use Rattle.table.specs.Check.{rising}
 use Rattle.table.specs.Answers.{record_of, Inside}
@@ -28,8 +28,7 @@ use Rattle.table.specs.Filter.{mark, with_mark, Filtered}
 use Rattle.table.proofs.filter.FilterLaws.{entry_kept}
 use Rattle.table.specs.Index.{FoundAt, FoundIs, Whole, RecordsTail, RecordsAhead, Entry, stride_of, Entered, IndexGrowing, Filtering}
 use Rattle.table.specs.declared.index.Index.{Index}
-use Rattle.table.specs.declared.index.CharRecord.{CharRecord}
-use Rattle.table.specs.declared.index.CharRecord.TheVariants.{At, Nothing}
+use Rattle.std.specs.Prelude.{Option, Some, None, is_some}
 
 -- ---- lists of records
 find_nil : (c : ℕ) → find [] c ≡ none
@@ -237,12 +236,17 @@ pub ahead_all : (t : List ℕ) (c at left : ℕ) → Whole t at left → Records
 ahead_all t c at left h = record { whole = h; finds = refl }
 
 -- what is found from there on is found among all
-pub found_ahead : (t : List ℕ) (rs : List Record) (c at left : ℕ) (r : CharRecord) → RecordsAhead t rs c at left → FoundIs t (records_at left t at) c r → FoundIs t rs c r
-found_ahead t rs c at left (At p o) a f = record { found = sym a.finds ∙ f.found; reads = f.reads; inside = f.inside }
-found_ahead t rs c at left Nothing a f = sym a.finds ∙ f
+pub found_ahead : (t : List ℕ) (rs : List Record) (c at left : ℕ) (r : Option (NumProp × ℕ)) → RecordsAhead t rs c at left → FoundIs t (records_at left t at) c r → FoundIs t rs c r
+found_ahead t rs c at left (Some (p, o)) a f = record { found = sym a.finds ∙ f.found; reads = f.reads; inside = f.inside }
+found_ahead t rs c at left None a f = sym a.finds ∙ f
 
-pub found_told : (t : List ℕ) (rs : List Record) (c : ℕ) {r : CharRecord} {p : NumProp} {at : ℕ} → FoundIs t rs c r → r ≡ At p at → FoundAt t rs c p at
+pub found_told : (t : List ℕ) (rs : List Record) (c : ℕ) {r : Option (NumProp × ℕ)} {p : NumProp} {at : ℕ} → FoundIs t rs c r → r ≡ Some (p, at) → FoundAt t rs c p at
 found_told t rs c f e = rw e at f
 
-pub nothing_told : (t : List ℕ) (rs : List Record) (c : ℕ) {r : CharRecord} → FoundIs t rs c r → r ≡ Nothing → find rs c ≡ none
+pub nothing_told : (t : List ℕ) (rs : List Record) (c : ℕ) {r : Option (NumProp × ℕ)} → FoundIs t rs c r → r ≡ None → find rs c ≡ none
 nothing_told t rs c f e = rw e at f
+
+-- whether nothing is found
+pub none_told : (t : List ℕ) (rs : List Record) (c : ℕ) (r : Option (NumProp × ℕ)) → FoundIs t rs c r → {b : Bool} → is_some r ≡ not b → b ≡ is_none (find rs c)
+none_told t rs c (Some (p, at)) f e = rw f.found (not-true _ (sym e))
+none_told t rs c None f e = rw f (not-false _ (sym e))

@@ -11,7 +11,7 @@ use lib.ListN.{length, get_or}
 use Rattle.fields.specs.Fields.{le_at}
 use Rattle.fields.specs.Part.{part, part_of}
 use Rattle.table.specs.Table.{Text, Record}
-use Rattle.table.specs.Layout.{Field, Is, Fault, Numbers, then_field, map_field, bit, text, optional, read_numbers, record_with, read_fields, read_record}
+use Rattle.table.specs.Layout.{Field, Is, Fault, Numbers, map_field, bit, text, optional, read_numbers, record_with, read_fields, read_record}
 use Rattle.table.proofs.LayoutLaws.{no_fault, then_is, text_missing, text_long, text_cut, text_is, numbers_are, numbers_cut, record_cut, record_bit_7, record_is, text_ends, opt_text_ends, ends_at}
 use Rattle.table.specs.Answers.{optionally, numbers_of, record_of, Within, Inside}
 use Rattle.fields.specs.declared.Part.{Part}

@@ -8,24 +8,23 @@ use Rattle.table.specs.Layout.{Field, on_field, text, many_at, texts_at, list_at
 use Rattle.table.specs.Check.{Fine, read_table}
 use Rattle.fields.specs.Part.{part_of}
 use Rattle.table.specs.Answers.{text_field, table_of, table_answer}
-use Rattle.table.specs.declared.layout.TextAt.{TextAt}
-use Rattle.table.specs.declared.layout.TextAt.TheVariants as TextAt
 use Rattle.table.specs.declared.shape.Shape.{Shape}
-use Rattle.table.specs.declared.shape.TableCheck.TheVariants as TableCheck
+use Rattle.std.specs.Prelude.{Option, Some, None, Ok}
+use Rattle.fields.specs.declared.Part.{Part}
 
 -- the strings from an answer on: it, and n behind it
-abbrev pub from_answer : List ℕ → ℕ → TextAt → List Text
-from_answer s n (TextAt.Text p next) = part_of s p ∷ texts_at n s next
-from_answer s n TextAt.Fault = []
+abbrev pub from_answer : List ℕ → ℕ → Option (Part × ℕ) → List Text
+from_answer s n (Some (p, next)) = part_of s p ∷ texts_at n s next
+from_answer s n None = []
 
 -- what `text_at` ensures of its answer r
-pub one_by_one : (s : List ℕ) (at n : ℕ) (r : TextAt) → text_field s r ≡ text s at → texts_at (suc n) s at ≡ from_answer s n r
+pub one_by_one : (s : List ℕ) (at n : ℕ) (r : Option (Part × ℕ)) → text_field s r ≡ text s at → texts_at (suc n) s at ≡ from_answer s n r
 unfolding many_at
 one_by_one s at n r e = ap (λ (f : Field Text). on_field f (λ t next. t ∷ texts_at n s next) []) (sym e) ∙ go r
   where
-    go : (r : TextAt) → on_field (text_field s r) (λ t next. t ∷ texts_at n s next) [] ≡ from_answer s n r
-    go (TextAt.Text p next) = refl
-    go TextAt.Fault = refl
+    go : (r : Option (Part × ℕ)) → on_field (text_field s r) (λ t next. t ∷ texts_at n s next) [] ≡ from_answer s n r
+    go (Some (p, next)) = refl
+    go None = refl
 
 -- the lists of a table that passed are those at the offsets of its shape
 pub record Lists (s : List ℕ) (h : Shape) (t : Table) : Type 0 where
@@ -34,7 +33,7 @@ pub record Lists (s : List ℕ) (h : Shape) (t : Table) : Type 0 where
   pub plus : t.plus_signs ≡ list_at s h.plus
   pub minus : t.minus_signs ≡ list_at s h.minus
 
-pub table_lists : (s : List ℕ) (h : Shape) {t : Table} {end : ℕ} → table_answer s (TableCheck.Table h) ≡ read_table s → read_table s ≡ Fine t end → Lists s h t
+pub table_lists : (s : List ℕ) (h : Shape) {t : Table} {end : ℕ} → table_answer s (Ok h) ≡ read_table s → read_table s ≡ Fine t end → Lists s h t
 unfolding table_of
 table_lists s h {t} {end} e f =
     let q : table_of s h ≡ t = cc (e ∙ f) in

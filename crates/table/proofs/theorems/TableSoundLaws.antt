@@ -19,7 +19,7 @@ use Rattle.fields.specs.Flag.{there, flag, bytes_if}
 use Rattle.fields.proofs.FlagLaws.{flag_is}
 use Rattle.table.specs.Table.{Text, Record, Table}
 use Rattle.table.specs.Layout.{Field, Is, Fault, map_field, bit, number, text_of, text, fraction, optional, Numbers, read_numbers, record_with, read_fields, read_record}
-use Rattle.table.specs.Check.{Checked, Fine, Refused, then_item, item, all_of, legal_mark, legal_record, read_texts, read_list, read_records, read_table}
+use Rattle.table.specs.Check.{Checked, Fine, Refused, then_item, item, all_of, legal_mark, legal_record, read_texts, read_list, read_records, read_table, bad_layout, bad_content}
 use Rattle.table.specs.TableBytes.{string, in_row, list, pair, map_of, record_bytes, table_bytes, short, short_texts, legal_strings, legal_list, legal_records, legal}
 use Rattle.table.proofs.LayoutLaws.{OnField, on_then}
 use Rattle.table.proofs.theorems.TableBytesLaws.{Stands, complete}
@@ -66,7 +66,7 @@ unfolding item
 on_item P at legal Fault p = tt
 on_item P at legal (Is a next) p = go (legal a) refl
   where
-    go : (b : Bool) → legal a ≡ b → OnItem (λ a next. P a next × (legal a ≡ true)) (cond b (Fine a next) (Refused 5 at))
+    go : (b : Bool) → legal a ≡ b → OnItem (λ a next. P a next × (legal a ≡ true)) (cond b (Fine a next) (Refused bad_content at))
     go true e = (p, e)
     go false e = tt
 
@@ -260,7 +260,7 @@ module _ (s : List ℕ) (low : (i : ℕ) → get_or s i 0 < 256) where
   abbrev TableIs : Table → ℕ → Type 0
   TableIs t next = (Stands s 0 (table_bytes t) next) × (legal t ≡ true) × (next ≡ length s)
 
-  table_ends : (t : Table) (end : ℕ) → Stands s 0 (table_bytes t) end → legal t ≡ true → (b : Bool) → eqb end (length s) ≡ b → OnItem TableIs (cond b (Fine t end) (Refused 4 end))
+  table_ends : (t : Table) (end : ℕ) → Stands s 0 (table_bytes t) end → legal t ≡ true → (b : Bool) → eqb end (length s) ≡ b → OnItem TableIs (cond b (Fine t end) (Refused bad_layout end))
   table_ends t end h l true e = (h, l, eqb-true end (length s) e)
   table_ends t end h l false e = tt
 

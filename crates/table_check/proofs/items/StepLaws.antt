@@ -1,10 +1,12 @@
 -- Laws of a step from record to record (`record_check::record`, Step). No contract cites this file.
--- In order: a record told by few tests; a turn over the records; the index that is made on the way.
+-- In order: a record told by few tests; a turn over the records; the answer of a record's check; the index that is made on the way.
 use mathlib.Core.Path.{◌≡◌, refl, sym, ap, subst, ◌∙◌}
 use mathlib.Core.List.{List}
 use Prim.Native.Nat.{ℕ, ◌+◌, ◌-◌, ◌*◌, ◌≤◌, ◌<◌}
 use native.Mathlib.Omega.{arith}
 use lib.ListN.{length}
+use Rattle.std.specs.Prelude.{Result, Ok, Err}
+use Rattle.std.specs.Result.{MatchResult, IsErrAnd}
 use Rattle.table.specs.Table.{Record}
 use Rattle.table.specs.Layout.{read_record, records_at}
 use Rattle.table.specs.Check.{legal_record, read_records}
@@ -25,6 +27,22 @@ module _ (s : List ℕ) (at least : ℕ) where
 
   pub passed_turn : (left : ℕ) {c next : ℕ} → 0 < left → Passed s at least c next → end_of (read_records left least s at) ≡ end_of (read_records (left - 1) (c + 1) s next)
   passed_turn left {c} {next} h k = records_turn s at least left h k.is ∙ ap (λ (x : ℕ). end_of (read_records (left - 1) (x + 1) s next)) k.point
+
+-- ---- what a record's check answered, from what `map_err` made of it
+module _ {A E D : Type 0} (r : Result A E) {m : Result A D} (Q : E → D → Type 0) (cases : MatchResult r (λ x. m ≡ Ok x) (λ e. IsErrAnd m (Q e))) where
+  pub item_passed : {x : A} → m ≡ Ok x → r ≡ Ok x
+  item_passed {x} e = go r cases
+    where
+      go : (r : Result A E) → MatchResult r (λ x. m ≡ Ok x) (λ e. IsErrAnd m (Q e)) → r ≡ Ok x
+      go (Ok y) h = let q : y ≡ x = cc in ap Ok q
+      go (Err k) h = absurd (rw e at h)
+
+  pub item_refused : {d : D} → m ≡ Err d → (e : E) × (r ≡ Err e) × Q e d
+  item_refused {d} e = go r cases
+    where
+      go : (r : Result A E) → MatchResult r (λ x. m ≡ Ok x) (λ e. IsErrAnd m (Q e)) → (e : E) × (r ≡ Err e) × Q e d
+      go (Ok y) h = let z : ◌≡◌ {A = ℕ} 0 1 = cc in absurd (omega arith)
+      go (Err k) h = (k, refl, rw e at h)
 
 -- ---- the index, whose entries are right if all records are laid out and rise; its filter has the bits of the records so far
 pub record Making (s : List ℕ) (from n : ℕ) (offs : List ℕ) (at left : ℕ) (x : Index) : Type 0 where

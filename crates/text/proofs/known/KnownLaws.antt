@@ -1,18 +1,17 @@
 -- Laws of a character that is known to stand at an offset, for this crate's proof and its callers'.
 -- In order: the bytes behind a lead byte tell the code point; a sequence by comparisons of its lead byte; a walk over a well-formed line.
-use mathlib.Core.Path.{◌≡◌, refl, sym, ap, ◌∙◌, subst}
-use mathlib.Core.Bool.{Bool, true, false, cond}
+use mathlib.Core.Path.{◌≡◌, refl, sym, ◌∙◌}
+use mathlib.Core.Bool.{true}
 use mathlib.Core.List.{List, [], ◌∷◌}
 use Prim.Native.Nat.{ℕ, zero, suc, ◌+◌, ◌%◌, ◌≤◌, ◌<◌}
 use native.Mathlib.Omega.{arith}
 use native.Mathlib.Decide.{dec_le}
 use lib.ListN.{length, get_or, drop, drop_of_length-le, length-drop}
 use lib.Seq.{get_or-drop}
-use Rattle.text.specs.declared.Seq.{Seq}
-use Rattle.text.specs.declared.Seq.TheVariants.{Char, Ill, End}
+use Rattle.text.specs.declared.Seq.TheVariants.{Char, Ill}
 use Rattle.text.specs.Table.{row_of, within, six, bits}
 use Rattle.text.specs.Sequence.{trailing, by_size, seq, encode}
-use Rattle.text.specs.Text.{chars, well_formed, offset_of}
+use Rattle.text.specs.Text.{chars, well_formed}
 use Rattle.text.proofs.RowLaws.{cond_cases, by_row}
 use Rattle.text.proofs.SequenceLaws.{drop_at, seq_end}
 use Rattle.text.proofs.TextLaws.{chars_nil}

@@ -1,16 +1,34 @@
-use mathlib.Core.Path.{refl, sym, ◌∙◌}
+-- `vectors::until` meets its contract, by the length of what stands before the byte.
+use mathlib.Core.Path.{◌≡◌, ap, ◌∙◌}
+use mathlib.Core.List.{List}
+use Prim.Native.Nat.{ℕ, ◌-◌, ◌<◌}
+use native.Mathlib.Nat.{le_refl}
 use native.Mathlib.Omega.{arith}
-use Rattle.vectors.proofs.UntilLaws.{end_here, end_later, end_none}
+use lib.Dec.{eqb}
+use lib.ListN.{length, take, drop, length-drop}
+use lib.Seq.{take_all}
+use Rattle.std.specs.List.{position}
+use Rattle.vectors.specs.Until.{until_byte}
+use Rattle.vectors.proofs.UntilLaws.{until_some, until_none}
 use Rattle.vectors.proofs.until.Goals as goal
 
-pub loop-at-init : goal.loop-at-init
-loop-at-init c = (refl, c.requires)
+-- the slice up to the end is all that is left
+to_end : (s : List ℕ) (from b : ℕ) → position (λ x. eqb x b) (take (length s - from) (drop from s)) ≡ position (λ x. eqb x b) (drop from s)
+to_end s from b = ap (λ (l : List ℕ). position (λ x. eqb x b) l) (take_all (length s - from) (drop from s) (rw length-drop (le_refl _)))
 
-pub returns-then-s-at : goal.returns-then-s-at
-returns-then-s-at c = (end_here _ _ _ c.loop-at-test.true c.if-s-at.true ∙ c.loop-at.invariant.0, c.loop-at.invariant.1)
+pub returns-in-Some : goal.returns-in-Some
+returns-in-Some c =
+    let a = c.args in
+    let rest = drop a.from a.s.now in
+    let u : (c.in-Some.i ≡ length (until_byte a.stop rest)) × (c.in-Some.i < length rest) =
+    until_some a.stop rest c.in-Some.i (c.in-Some.ensures ∙ to_end a.s.now a.from a.stop) in
+    let long = length-drop a.from a.s.now in
+    (omega (arith, u.0), omega (arith, u.1))
 
-pub loop-at-preserved : goal.loop-at-preserved
-loop-at-preserved c = let t = c.loop-at-test.true in (sym (end_later _ _ _ t c.if-s-at.false) ∙ c.loop-at.invariant.0, omega arith)
-
-pub returns : goal.returns
-returns c = (end_none _ _ _ c.loop-at-test.false ∙ c.loop-at.invariant.0, c.loop-at.invariant.1)
+pub returns-in-None : goal.returns-in-None
+returns-in-None c =
+    let a = c.args in
+    let rest = drop a.from a.s.now in
+    let whole : length rest ≡ length (until_byte a.stop rest) = until_none a.stop rest (c.in-None.ensures ∙ to_end a.s.now a.from a.stop) in
+    let long = length-drop a.from a.s.now in
+    (omega (arith, c.requires, whole), le_refl _)

@@ -12,8 +12,8 @@ use Rattle.edge.specs.Layout.{txt_at, head_end, next_at}
 use Rattle.edge.specs.View.{view_at}
 use Rattle.edge.proofs.LayoutLaws.{if_on, if_off, string_end_ge}
 use Rattle.edge.proofs.CheckLaws.{head_within}
-use Rattle.walker.specs.declared.steps.Here.TheVariants.{Edge, End}
 use Rattle.walker.specs.Walk.{whole, here_at, behind, onward}
+use Rattle.std.specs.Prelude.{Some, None}
 
 -- ---- an edge: it ends behind its offset
 pub next_past : (s : List ℕ) (at : ℕ) → at + 10 ≤ next_at s at
@@ -37,11 +37,11 @@ module _ (s : List ℕ) (at : ℕ) {b : Bool} (is : b ≡ whole s at) where
   pub whole_from : b ≡ true → at ≤ length s
   whole_from on = omega (arith, next_past s at, whole_within on)
 
-  pub here_edge : {v : EdgeView} → b ≡ true → v ≡ view_at s at → Edge v ≡ here_at s at
-  here_edge on e = if_on (whole s at) (Edge (view_at s at)) End (sym is ∙ on) (ap Edge e)
+  pub here_edge : {v : EdgeView} → b ≡ true → v ≡ view_at s at → Some v ≡ here_at s at
+  here_edge on e = if_on (whole s at) (Some (view_at s at)) None (sym is ∙ on) (ap Some e)
 
-  pub here_end : b ≡ false → End ≡ here_at s at
-  here_end off = if_off (whole s at) (Edge (view_at s at)) End (sym is ∙ off) refl
+  pub here_end : b ≡ false → None ≡ here_at s at
+  here_end off = if_off (whole s at) (Some (view_at s at)) None (sym is ∙ off) refl
 
   pub behind_edge : {n : ℕ} → b ≡ true → n ≡ next_at s at → n ≡ behind s at
   behind_edge on e = if_on (whole s at) (next_at s at) at (sym is ∙ on) e

@@ -1,35 +1,20 @@
 -- `weights::weigh_digits` meets its contract, by what S-4 says of the line. Assumes nothing.
-use mathlib.Core.Path.{sym, ◌∙◌}
-use Rattle.weights.proofs.WeighedLaws.{no_numeral, refused_above, refused_form, refused_length}
+use mathlib.Core.Path.{refl, sym, ap, ◌∙◌}
+use Rattle.std.specs.Prelude.{Ok}
+use Rattle.std.proofs.lemmas.Result.{err_from_is_err_and}
+use Rattle.weights.proofs.WeighedLaws.{no_numeral, refused}
 use Rattle.weights.proofs.weigh_digits.Goals as goal
 
+pub returns-in_err-one_number : goal.returns-in_err-one_number
+returns-in_err-one_number c =
+    let p = err_from_is_err_and c.from_residual.result c.from_residual.ensures.1 in
+    let a = refused c.args.line.now c.args.out.now c.in_err-one_number.ensures _ refl in
+    rw (p.1, p.2) (record { answer = a.0; after = a.1 })
+
 pub weigh_numeral-requires : goal.weigh_numeral-requires
-weigh_numeral-requires c = (_, sym c.one_number-field.ensures ∙ c.in-Number.is)
+weigh_numeral-requires c = (_, sym c.in_ok-one_number.ensures ∙ ap Ok c.in-Some.is)
 
-pub returns-in-NotANumber : goal.returns-in-NotANumber
-returns-in-NotANumber c =
-    record {
-      answer = (no_numeral _ _ c.one_number-field.ensures c.in-NotANumber.is).0;
-      after = (no_numeral _ _ c.one_number-field.ensures c.in-NotANumber.is).1;
-    }
-
-pub returns-in-AboveTop : goal.returns-in-AboveTop
-returns-in-AboveTop c =
-    record {
-      answer = (refused_above _ _ c.one_number-field.ensures c.in-AboveTop.is).0;
-      after = (refused_above _ _ c.one_number-field.ensures c.in-AboveTop.is).1;
-    }
-
-pub returns-in-IllFormed : goal.returns-in-IllFormed
-returns-in-IllFormed c =
-    record {
-      answer = (refused_form _ _ c.one_number-field.ensures _ c.in-IllFormed.is).0;
-      after = (refused_form _ _ c.one_number-field.ensures _ c.in-IllFormed.is).1;
-    }
-
-pub returns-in-TooLong : goal.returns-in-TooLong
-returns-in-TooLong c =
-    record {
-      answer = (refused_length _ _ c.one_number-field.ensures _ c.in-TooLong.is).0;
-      after = (refused_length _ _ c.one_number-field.ensures _ c.in-TooLong.is).1;
-    }
+pub returns-in-None : goal.returns-in-None
+returns-in-None c =
+    let a = no_numeral c.args.line.now c.args.out.now c.in_ok-one_number.ensures (ap Ok c.in-None.is) in
+    record { answer = a.0; after = a.1 }

@@ -3,5 +3,5 @@ use mathlib.Core.Path.{sym, ◌∙◌}
 use Rattle.worn.proofs.AnswerLaws.{rows_fit}
 use Rattle.worn_vectors.proofs.rows_len.Goals as goal
 
-pub returns-in-Rows : goal.returns-in-Rows
-returns-in-Rows c = rows_fit _ _ _ (sym c.worn_character-answer.ensures.answer ∙ c.in-Rows.is)
+pub returns-in-Ok : goal.returns-in-Ok
+returns-in-Ok c = rows_fit _ _ _ (sym c.worn_character-answer.ensures.answer ∙ c.in-Ok.is)

@@ -8,11 +8,11 @@ use Rattle.worn_vectors.proofs.show_in.Goals as goal
 pub slice_bounds-write_all-end : goal.slice_bounds-write_all-end
 slice_bounds-write_all-end c =
     let a = c.args in
-    let h = rows_held a.line.now a.out.now _ c.in-Rows.is (c.worn_character-answer.ensures.answer, c.worn_character-answer.ensures.after) in
+    let h = rows_held a.line.now a.out.now _ c.in-Ok.is (c.worn_character-answer.ensures.answer, c.worn_character-answer.ensures.after) in
     omega arith
 
-pub slice_bounds-write_all-end-in-Rows : goal.slice_bounds-write_all-end-in-Rows
-slice_bounds-write_all-end-in-Rows c =
+pub slice_bounds-write_all-end-in-Ok : goal.slice_bounds-write_all-end-in-Ok
+slice_bounds-write_all-end-in-Ok c =
     let a = c.args in
-    let h = rows_held a.line.now a.out.now _ c.in-Rows.is (c.worn_character-answer.ensures.answer, c.worn_character-answer.ensures.after) in
+    let h = rows_held a.line.now a.out.now _ c.in-Ok.is (c.worn_character-answer.ensures.answer, c.worn_character-answer.ensures.after) in
     sym (length-take-le _ _ (omega arith))

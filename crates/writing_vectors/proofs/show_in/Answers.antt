@@ -5,14 +5,14 @@ use lib.Seq.{length-take-le}
 use Rattle.writing.proofs.AnswerLaws.{stored_fits}
 use Rattle.writing_vectors.proofs.show_in.Goals as goal
 
-pub slice_bounds-write_all-end-in-Bytes : goal.slice_bounds-write_all-end-in-Bytes
-slice_bounds-write_all-end-in-Bytes c =
+pub slice_bounds-write_all-end-in-Ok : goal.slice_bounds-write_all-end-in-Ok
+slice_bounds-write_all-end-in-Ok c =
     let a = c.args in
-    let h = stored_fits a.n a.out.now _ _ c.in-Bytes.is (c.write_number.ensures.answer, c.write_number.ensures.after) in
+    let h = stored_fits a.n a.out.now _ _ c.in-Ok.is (c.write_number.ensures.answer, c.write_number.ensures.after) in
     omega arith
 
-pub slice_bounds-write_all-end-in-Bytes-2 : goal.slice_bounds-write_all-end-in-Bytes-2
-slice_bounds-write_all-end-in-Bytes-2 c =
+pub slice_bounds-write_all-end-in-Ok-2 : goal.slice_bounds-write_all-end-in-Ok-2
+slice_bounds-write_all-end-in-Ok-2 c =
     let a = c.args in
-    let h = stored_fits a.n a.out.now _ _ c.in-Bytes.is (c.write_number.ensures.answer, c.write_number.ensures.after) in
+    let h = stored_fits a.n a.out.now _ _ c.in-Ok.is (c.write_number.ensures.answer, c.write_number.ensures.after) in
     sym (length-take-le _ _ (omega arith))

@@ -1,27 +1,14 @@
 -- `call::checks::check` meets its contract, by what the line's check answers. Assumes nothing.
+use Rattle.std.proofs.lemmas.Result.{err_from_is_err_and}
 use Rattle.call.specs.Checks.{CallCheckIndexed}
-use Rattle.call.proofs.checks.CheckLaws.{lent_ill, lent_long, lent_chars}
+use Rattle.call.proofs.checks.CheckLaws.{lent_refused, lent_chars}
 use Rattle.call.proofs.checks.check.Goals as goal
 
-pub returns-in-IllFormed : goal.returns-in-IllFormed
+pub returns-in_err-chars : goal.returns-in_err-chars
 unfolding CallCheckIndexed
-returns-in-IllFormed c =
-    record {
-      call_check_is = lent_ill _ _ _ c.check_line.ensures.is c.in-IllFormed.is;
-      indexed = tt;
-    }
+returns-in_err-chars c =
+    let p = err_from_is_err_and c.from_residual.result c.from_residual.ensures.1 in
+    rw (p.1, p.2) (record { call_check_is = lent_refused _ _ _ c.check_line.ensures.is _ c.in_err-chars.was; indexed = tt })
 
-pub returns-in-TooLong : goal.returns-in-TooLong
-unfolding CallCheckIndexed
-returns-in-TooLong c =
-    record {
-      call_check_is = lent_long _ _ _ c.check_line.ensures.is c.in-TooLong.is;
-      indexed = tt;
-    }
-
-pub returns-in-Chars : goal.returns-in-Chars
-returns-in-Chars c =
-    record {
-      call_check_is = lent_chars _ _ _ c.check_line.ensures.is c.in-Chars.is _ c.check_rest.ensures.rest_is;
-      indexed = c.check_rest.ensures.indexed;
-    }
+pub returns-clause-call_check_is : goal.returns-clause-call_check_is
+returns-clause-call_check_is c = lent_chars _ _ _ c.check_line.ensures.is c.in_ok-chars.was _ c.check_rest.ensures.rest_is

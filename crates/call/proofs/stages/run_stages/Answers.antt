@@ -5,6 +5,7 @@ use mathlib.Core.Bool.{Bool, true}
 use mathlib.Core.List.{List, []}
 use native.Mathlib.Omega.{arith}
 use lib.ListN.{length, length-replicate}
+use Rattle.std.proofs.lemmas.Result.{err_from_is_err_and}
 use borrow.Author.Tests.{eqb-true}
 use Rattle.text.specs.Text.{chars}
 use Rattle.text.proofs.RowLaws.{and-true}
@@ -18,7 +19,6 @@ use Rattle.lattice.specs.Kept.{Holds}
 use Rattle.numbers.specs.CallEdge.{CallEdges}
 use Rattle.pass_edge.proofs.theorems.Theorems.{stored_edges_call}
 use Rattle.first_stages.specs.Bare.{bare}
-use Rattle.first_stages.specs.declared.five_passes.PassesAnswer.{PassesAnswer}
 use Rattle.first_stages.proofs.bare.BareLaws.{none_given}
 use Rattle.numbers.specs.Call.{with_edges}
 use Rattle.call.specs.Kinds.{has_decimals, call_passes, call_lattice}
@@ -56,36 +56,32 @@ run_first_stages-requires c = (c.place_offsets.ensures, c.requires.0, (c.args.pl
 pub run_last_stages-requires : goal.run_last_stages-requires
 unfolding CallPassed
 run_last_stages-requires c =
-    let Passed : Bool → PassesAnswer → Type 0 = λ d r. CallPassed d c.args.line.now c.args.table.now c.args.shape c.args.edges.now c.run_first_stages.new.work r in
-    let answered : (r : PassesAnswer) → c.run_first_stages.result ≡ r → Passed (has_decimals c.args.kind) r = λ r e. subst (λ (d : Bool). Passed d r) c.has_decimals-decimals.ensures (subst (Passed c.has_decimals-decimals.result) e c.run_first_stages.ensures) in
-    let done : CallDone (has_decimals c.args.kind) c.args.line.now c.args.table.now c.args.shape c.args.edges.now c.run_first_stages.new.work c.in-Added.m c.in-Added.k = answered _ c.in-Added.is in
-    let in_line : (es : List Edge) → CallEdges (length (chars c.args.line.now)) es → CallEdges c.args.places es = λ es q. subst (λ (n : ℕ). CallEdges n es) c.requires.1.ready.count q in
-    let few : length (chars c.args.line.now) ≤ 256 = let r = c.requires.1.ready in omega (arith, r.few, r.count) in
-    let d = done in
+    let s = c.args in
+    let d : CallDone (has_decimals s.kind) s.line.now s.table.now s.shape s.edges.now c.run_first_stages.new.work c.in_ok-lattice.lattice c.in_ok-lattice.stored = subst (λ (d : Bool). CallDone d s.line.now s.table.now s.shape s.edges.now c.run_first_stages.new.work c.in_ok-lattice.lattice c.in_ok-lattice.stored) c.has_decimals-decimals.ensures c.in_ok-lattice.ensures in
+    let in_line : (es : List Edge) → CallEdges (length (chars s.line.now)) es → CallEdges s.places es = λ es q. subst (λ (n : ℕ). CallEdges n es) c.requires.1.ready.count q in
+    let few : length (chars s.line.now) ≤ 256 = let r = c.requires.1.ready in omega (arith, r.few, r.count) in
     (c.requires.1.ready, (_, d.holds, in_line _ d.call), c.place_offsets.ensures, d.sounds, in_line _ (stored_edges_call _ _ (chars_scalars _) few _ d.sounds), omega (arith, d.few, c.run_first_stages.auto.work, c.requires.0))
 
-pub returns-in-Above : goal.returns-in-Above
+pub returns-in_err-lattice : goal.returns-in_err-lattice
 unfolding StagesAre CallPassed
-returns-in-Above c =
-    let Passed : Bool → PassesAnswer → Type 0 = λ d r. CallPassed d c.args.line.now c.args.table.now c.args.shape c.args.edges.now c.run_first_stages.new.work r in
-    let answered : (r : PassesAnswer) → c.run_first_stages.result ≡ r → Passed (has_decimals c.args.kind) r = λ r e. subst (λ (d : Bool). Passed d r) c.has_decimals-decimals.ensures (subst (Passed c.has_decimals-decimals.result) e c.run_first_stages.ensures) in
-    answered _ c.in-Above.is
+returns-in_err-lattice c =
+    let s = c.args in
+    let p = err_from_is_err_and c.from_residual.result c.from_residual.ensures.1 in
+    rw (p.1, p.2, sym c.has_decimals-decimals.ensures) c.in_err-lattice.ensures
 
-pub returns-in-Added : goal.returns-in-Added
+pub returns : goal.returns
 unfolding StagesAre CallPassed
-returns-in-Added c =
-    let Passed : Bool → PassesAnswer → Type 0 = λ d r. CallPassed d c.args.line.now c.args.table.now c.args.shape c.args.edges.now c.run_first_stages.new.work r in
-    let answered : (r : PassesAnswer) → c.run_first_stages.result ≡ r → Passed (has_decimals c.args.kind) r = λ r e. subst (λ (d : Bool). Passed d r) c.has_decimals-decimals.ensures (subst (Passed c.has_decimals-decimals.result) e c.run_first_stages.ensures) in
-    let done : CallDone (has_decimals c.args.kind) c.args.line.now c.args.table.now c.args.shape c.args.edges.now c.run_first_stages.new.work c.in-Added.m c.in-Added.k = answered _ c.in-Added.is in
-    let T : Table = table_of c.args.table.now c.args.shape in
-    let in_line : (es : List Edge) → CallEdges (length (chars c.args.line.now)) es → CallEdges c.args.places es = λ es q. subst (λ (n : ℕ). CallEdges n es) c.requires.1.ready.count q in
-    let final : Holds c.run_last_stages.new.work c.run_last_stages.result (call_lattice c.args.kind T (chars c.args.line.now) (listed c.args.edges.now)) =
-    let k = c.args.kind in
-    let w = chars c.args.line.now in
-    let d = done in
-    let es = with_edges (call_passes k T w) (listed c.args.edges.now) in
-    subst (Holds c.run_last_stages.new.work c.run_last_stages.result)
-    (ap (λ (fs : List NumEdge). rest_of c.silences_singles.result T w fs es) d.fifth
-    ∙ ap (λ (b : Bool). rest_of b T w (call_passes k T w).fifth es) c.silences_singles.ensures ∙ rest_is k T w (listed c.args.edges.now) (checked_given _ _ _ c.requires.1.edges))
-    (c.run_last_stages.ensures es d.holds (in_line es d.call)) in
-    (done.above, final)
+returns c =
+    let s = c.args in
+    let k = s.kind in
+    let w = chars s.line.now in
+    let T : Table = table_of s.table.now s.shape in
+    let es = with_edges (call_passes k T w) (listed s.edges.now) in
+    let d : CallDone (has_decimals s.kind) s.line.now s.table.now s.shape s.edges.now c.run_first_stages.new.work c.in_ok-lattice.lattice c.in_ok-lattice.stored = subst (λ (d : Bool). CallDone d s.line.now s.table.now s.shape s.edges.now c.run_first_stages.new.work c.in_ok-lattice.lattice c.in_ok-lattice.stored) c.has_decimals-decimals.ensures c.in_ok-lattice.ensures in
+    let in_line : CallEdges (length w) es → CallEdges s.places es = λ q. subst (λ (n : ℕ). CallEdges n es) c.requires.1.ready.count q in (
+      d.above,
+      subst (Holds c.run_last_stages.new.work c.run_last_stages.result)
+          (ap (λ (fs : List NumEdge). rest_of c.silences_singles-silencing.result T w fs es) d.fifth
+          ∙ ap (λ (b : Bool). rest_of b T w (call_passes k T w).fifth es) c.silences_singles-silencing.ensures ∙ rest_is k T w (listed s.edges.now) (checked_given _ _ _ c.requires.1.edges))
+          (c.run_last_stages.ensures es d.holds (in_line d.call)),
+    )

@@ -1,5 +1,4 @@
 use mathlib.Core.Path.{refl, ◌∙◌}
-use native.Mathlib.Omega.{arith}
 use Rattle.digits.specs.TextEnds.{ends_with_digit}
 use Rattle.digits.proofs.DigitsLaws.{tested}
 use Rattle.digits.proofs.TextEndsLaws.{NotWhole, other_length, no_char, none_left, too_short, whole_ending, longer_ending}
@@ -8,15 +7,15 @@ use Rattle.digits.proofs.ends.last_is_digit.Goals as goal
 
 pub loop-k-init : goal.loop-k-init
 unfolding ends_with_digit
-loop-k-init c = (omega arith, omega arith, refl)
+loop-k-init c = refl
 
 pub returns-then-txt-k : goal.returns-then-txt-k
-returns-then-txt-k c = too_short _ c.loop-k.k c.loop-k.invariant.2 c.loop-k-test.true c.if-txt-k.true
+returns-then-txt-k c = too_short _ c.loop-k.k c.loop-k.invariant c.loop-k-test.true c.if-txt-k.true
 
 pub returns-then-len-k : goal.returns-then-len-k
 returns-then-len-k c =
     tested _ c.is_digit.ensures
-    ∙ whole_ending _ c.loop-k.k c.loop-k.invariant.2 c.loop-k-test.true c.if-txt-k.false _
+    ∙ whole_ending _ c.loop-k.k c.loop-k.invariant c.loop-k-test.true c.if-txt-k.false _
     c.seq_at.ensures c.in-Char.is c.if-len-k.true
 
 pub loop-k-preserved : goal.loop-k-preserved
@@ -25,12 +24,7 @@ loop-k-preserved c =
     elim c.match-seq_at.branch [
       | in-Char+else-len-k w ↦ rw w.in-Char.is (other_length _ _ _ w.if-len-k.false)
       | in_default w ↦ no_char _ c.seq_at.result w.in_default.not-Char
-    ] in (
-      omega arith,
-      omega arith,
-      longer_ending _ c.loop-k.k c.loop-k.invariant.2 c.loop-k-test.true c.if-txt-k.false _
-          c.seq_at.ensures not_whole,
-    )
+    ] in longer_ending _ c.loop-k.k c.loop-k.invariant c.loop-k-test.true c.if-txt-k.false _ c.seq_at.ensures not_whole
 
 pub returns : goal.returns
-returns c = none_left _ c.loop-k.k c.loop-k.invariant.2 c.loop-k-test.false
+returns c = none_left _ c.loop-k.k c.loop-k.invariant c.loop-k-test.false

@@ -1,12 +1,9 @@
 -- `digits::ends::last_is_digit` meets its contract. The loop's invariant: no shorter ending than of k bytes is one whole sequence, so that those
--- from k bytes on decide. The measure is the number of endings left. Assumes nothing.
+-- from k bytes on decide. Assumes nothing.
 use mathlib.Core.Path.{◌≡◌}
-use Prim.Native.Nat.{◌-◌, ◌≤◌}
+use Prim.Native.Nat.{◌-◌}
 use Rattle.digits.specs.TextEnds.{ends_from, ends_with_digit}
 use Rattle.digits.proofs.ends.last_is_digit.Given as goal
 
 abbrev pub invariant-loop-k : goal.invariant-loop-k
-invariant-loop-k l = (1 ≤ l.k) × (l.k ≤ 5) × (ends_from (5 - l.k) l.k l.txt ≡ ends_with_digit l.txt)
-
-abbrev pub decreases-loop-k : goal.decreases-loop-k
-decreases-loop-k l = 5 - l.k
+invariant-loop-k l = ends_from (5 - l.k) l.k l.txt ≡ ends_with_digit l.txt

@@ -29,7 +29,7 @@ shape_of-work-then-found-kind c = refl
 pub returns-then-found-kind : goal.returns-then-found-kind
 returns-then-found-kind c =
     let stored_edge : StoredEdge = stored_at (drop END c.args.work.now) (c.args.i * SIZE) in
-    let kind : c.kind_number-found.result ≡ kind_number (stored_edge).kind = c.kind_number-found.ensures ∙ ap kind_number (c.kind_at.ensures ∙ kind_behind c.args.work.now (c.args.i * SIZE)) in
+    let kind : c.from-found.result ≡ kind_number (stored_edge).kind = c.from-found.ensures ∙ ap kind_number (c.kind_at.ensures ∙ kind_behind c.args.work.now (c.args.i * SIZE)) in
     let a = c.args in
     (refl, λ es h. subst (Holds _ _) (passes_over (chars a.line.now) a.table.now a.kind es stored_edge (λ e. c.if-found-kind.true (kind ∙ e))) h)
 
@@ -40,7 +40,7 @@ pub add_joined-requires : goal.add_joined-requires
 add_joined-requires c =
     let stored_edge : StoredEdge = stored_at (drop END c.args.work.now) (c.args.i * SIZE) in
     let is : StoredIs c.args.line.now c.args.table.now c.read_edge-x.result (stored_edge) = let a = c.args in stored_edge_behind a.line.now a.table.now a.work.now (a.i * SIZE) c.read_edge-x.result c.requires.3.0 c.requires.3.1 c.read_edge-x.ensures in
-    let kind : c.kind_number-found.result ≡ kind_number (stored_edge).kind = c.kind_number-found.ensures ∙ ap kind_number (c.kind_at.ensures ∙ kind_behind c.args.work.now (c.args.i * SIZE)) in
+    let kind : c.from-found.result ≡ kind_number (stored_edge).kind = c.from-found.ensures ∙ ap kind_number (c.kind_at.ensures ∙ kind_behind c.args.work.now (c.args.i * SIZE)) in
     let of-kind : kind_number c.read_edge-x.result.kind ≡ c.args.kind = ap (λ (e : PassEdge). kind_number e.kind) is.is.is ∙ sym kind ∙ c.if-found-kind.false in
     (record { holds = c.requires.0; offsets = c.requires.1; stored_edge = (stored_edge, is); few = c.requires.2 }, λ z. c.requires.5 (sym of-kind ∙ z))
 
@@ -51,6 +51,6 @@ pub returns : goal.returns
 returns c =
     let stored_edge : StoredEdge = stored_at (drop END c.args.work.now) (c.args.i * SIZE) in
     let is : StoredIs c.args.line.now c.args.table.now c.read_edge-x.result (stored_edge) = let a = c.args in stored_edge_behind a.line.now a.table.now a.work.now (a.i * SIZE) c.read_edge-x.result c.requires.3.0 c.requires.3.1 c.read_edge-x.ensures in
-    let kind : c.kind_number-found.result ≡ kind_number (stored_edge).kind = c.kind_number-found.ensures ∙ ap kind_number (c.kind_at.ensures ∙ kind_behind c.args.work.now (c.args.i * SIZE)) in
+    let kind : c.from-found.result ≡ kind_number (stored_edge).kind = c.from-found.ensures ∙ ap kind_number (c.kind_at.ensures ∙ kind_behind c.args.work.now (c.args.i * SIZE)) in
     let a = c.args in
     (c.add_joined.ensures.frame, added_if a.line.now a.table.now a.kind c.read_edge-x.result stored_edge is (sym kind ∙ c.if-found-kind.false) c.add_joined.ensures)

@@ -19,9 +19,6 @@ loop-i-preserved c =
     let (es, h) = c.requires.0 in
     adding_more (chars a.line.now) a.table.now a.kind a.stored a.work.now a.lattice _ _ c.loop-i.i c.loop-i.invariant c.add_if-done.new.work c.add_if-done.result es h c.loop-i-test.true c.add_if-done.ensures.0 c.add_if-done.ensures.1
 
-pub shape_of-work : goal.shape_of-work
-shape_of-work c = c.loop-i.invariant.long
-
 pub returns : goal.returns
 returns c =
     let a = c.args in

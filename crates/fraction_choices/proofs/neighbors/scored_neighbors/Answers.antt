@@ -3,7 +3,7 @@ use mathlib.Core.Bool.{false}
 use native.Mathlib.Omega.{arith}
 use Rattle.paths.specs.Best.{score}
 use Rattle.fraction_choices.specs.Around.{place_of}
-use Rattle.fraction_choices.proofs.decision.NeighborLaws.{Table, table_start, table_turn, table_ends, keeps_count, keeps_few, keeps_edge, keeps_next, keeps_head, keeps_ten, keeps_place}
+use Rattle.fraction_choices.proofs.decision.NeighborLaws.{Table, table_start, table_turn, table_ends, keeps_count, keeps_edge, keeps_next, keeps_head, keeps_ten, keeps_place}
 use Rattle.fraction_choices.proofs.neighbors.scored_neighbors.Goals as goal
 
 pub loop-i-init : goal.loop-i-init
@@ -19,9 +19,6 @@ score_at-score-requires c =
     let so_far : Table c.args.right c.requires.0.0 c.loop-i.at c.loop-i.i c.loop-i.tops c.loop-i.table = c.loop-i.invariant _ c.requires.0.1 in
     keeps_head c.requires.0.1 c.loop-i-test.true so_far.stands
 
-pub overflow_add-i : goal.overflow_add-i
-overflow_add-i c = let m = c.loop-i-test.true in let f = keeps_few c.requires.0.1 in omega arith
-
 pub keep-requires : goal.keep-requires
 keep-requires c =
     let so_far : Table c.args.right c.requires.0.0 c.loop-i.at c.loop-i.i c.loop-i.tops c.loop-i.table = c.loop-i.invariant _ c.requires.0.1 in
@@ -34,12 +31,6 @@ next_at-at-requires c =
     let so_far : Table c.args.right c.requires.0.0 c.loop-i.at c.loop-i.i c.loop-i.tops c.loop-i.table = c.loop-i.invariant _ c.requires.0.1 in
     let h = keeps_ten c.requires.0.1 c.loop-i-test.true so_far.stands in
     omega arith
-
-pub overflow_add-i-in-loop-i : goal.overflow_add-i-in-loop-i
-overflow_add-i-in-loop-i c = let m = c.loop-i-test.true in let f = keeps_few c.requires.0.1 in omega arith
-
-pub loop-i-smaller : goal.loop-i-smaller
-loop-i-smaller c = let m = c.loop-i-test.true in omega arith
 
 pub loop-i-preserved : goal.loop-i-preserved
 loop-i-preserved c =

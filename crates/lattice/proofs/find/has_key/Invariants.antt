@@ -1,7 +1,7 @@
 -- `lattice::find::has_key` meets its contract. The loop's invariant: `edge` is the last of the bucket among the edges that are left, and those passed are others.
 -- The measure is `edge`. Assumes nothing.
 use Prim.Native.Nat.{◌≤◌}
-use Rattle.lattice.specs.Kept.{Search, bucket}
+use Rattle.lattice.specs.Kept.{Search}
 use Rattle.lattice.proofs.find.BucketLaws.{Searching}
 use Rattle.lattice.proofs.find.has_key.Given as goal
 

@@ -1,4 +1,8 @@
+use mathlib.Core.Path.{◌≡◌, subst}
+use Prim.Native.Nat.{ℕ}
 use native.Mathlib.Omega.{arith}
+use lib.ListN.{length}
+use Rattle.lines.specs.Lines.{LineAt}
 use Rattle.lines.proofs.LineLaws.{walk_skipped, walk_newline, walk_on, walk_end}
 use Rattle.lines.proofs.next_line.line_at.Goals as goal
 
@@ -17,14 +21,10 @@ overflow_add-result c = omega arith
 pub returns-then-lines-i-eq-NEWLINE : goal.returns-then-lines-i-eq-NEWLINE
 returns-then-lines-i-eq-NEWLINE c = walk_newline _ _ c.loop-i.i c.loop-i.invariant c.loop-i-test.true c.if-lines-i-eq-NEWLINE.true
 
-pub overflow_add-i : goal.overflow_add-i
-overflow_add-i c = omega arith
-
-pub loop-i-smaller : goal.loop-i-smaller
-loop-i-smaller c = omega arith
-
 pub loop-i-preserved : goal.loop-i-preserved
 loop-i-preserved c = walk_on _ _ c.loop-i.i c.loop-i.invariant c.loop-i-test.true c.if-lines-i-eq-NEWLINE.false
 
 pub returns : goal.returns
-returns c = walk_end _ _ c.loop-i.i c.loop-i.invariant c.requires c.loop-i-test.false
+returns c =
+    let all : c.loop-i.i ≡ length c.args.lines.now = omega (arith, c.loop-i.invariant.inside, c.loop-i-test.false) in
+    subst (λ (i : ℕ). LineAt c.args.lines.now c.args.at (record { end = i; next = i })) all (walk_end _ _ c.loop-i.i c.loop-i.invariant c.requires c.loop-i-test.false)

@@ -4,8 +4,8 @@ use Rattle.answers.specs.declared.CStatus.{CStatus}
 use Rattle.lines.specs.Told.{c_page, answer_told}
 use Rattle.lines.proofs.told.page_told.Goals as goal
 
-pub returns-in-Page : goal.returns-in-Page
-returns-in-Page c = ap answer_told (sym c.in-Page.is)
+pub returns-in-Ok : goal.returns-in-Ok
+returns-in-Ok c = ap answer_told (sym c.in-Ok.is)
 
-pub returns-in-Refused : goal.returns-in-Refused
-returns-in-Refused c = ap (λ (t : CStatus). c_page t.status t.at 0) c.refusal_told-told.ensures ∙ ap answer_told (sym c.in-Refused.is)
+pub returns-in-Err : goal.returns-in-Err
+returns-in-Err c = ap (λ (t : CStatus). c_page t.status t.at 0) c.refusal_told-told.ensures ∙ ap answer_told (sym c.in-Err.is)

@@ -12,12 +12,6 @@ use Rattle.markers.proofs.any.stands_somewhere.Goals as goal
 pub loop-p-init : goal.loop-p-init
 loop-p-init c = none_start _ _ _
 
-pub offset_bounds-offs-p : goal.offset_bounds-offs-p
-offset_bounds-offs-p c = let f = c.requires.2 in omega (arith, c.loop-p-test.true)
-
-pub bounds-offs-p : goal.bounds-offs-p
-bounds-offs-p c = let f = c.requires.2 in omega (arith, c.loop-p-test.true)
-
 pub stands-requires : goal.stands-requires
 stands-requires c =
     let inside : c.loop-p.p ≤ length (chars c.args.line.now) = let k = c.requires.1 in omega (arith, c.loop-p-test.true) in
@@ -30,12 +24,6 @@ returns-then-stands c =
     let is_offset : get_or c.args.offs.now c.loop-p.p 0 ≡ offset_of c.args.line.now c.loop-p.p = c.requires.0.at c.loop-p.p (inside) in
     let it_stands : c.stands.result ≡ stands_at (chars c.args.line.now) c.loop-p.p c.args.marker.now = stands_told _ c.requires.0.formed _ _ c.requires.3 (is_offset) c.stands.ensures in
     found_here _ _ _ _ c.loop-p.invariant c.loop-p-test.true it_stands c.if-stands.true
-
-pub overflow_add-p : goal.overflow_add-p
-overflow_add-p c = let f = c.requires.2 in omega (arith, c.loop-p-test.true)
-
-pub loop-p-smaller : goal.loop-p-smaller
-loop-p-smaller c = omega (arith, c.loop-p-test.true)
 
 pub loop-p-preserved : goal.loop-p-preserved
 loop-p-preserved c =

@@ -1,9 +1,10 @@
 -- `markers::find::size_at` meets its contract. Assumes nothing.
-use Rattle.markers.proofs.MarkLaws.{cut_is, size_stands, size_none}
+use mathlib.Core.Path.{refl}
+use Rattle.markers.proofs.MarkLaws.{size_stands, size_none}
 use Rattle.markers.proofs.find.size_at.Goals as goal
 
 pub returns-then-stands : goal.returns-then-stands
-returns-then-stands c = let a = c.args in size_stands _ _ _ (cut_is a.table.now a.marker.at.0 a.marker.len) c.stands.ensures c.if-stands.true c.walk-w.ensures
+returns-then-stands c = size_stands _ _ _ refl c.stands.ensures c.if-stands.true c.walk.ensures
 
-pub returns : goal.returns
-returns c = let a = c.args in size_none _ _ _ (cut_is a.table.now a.marker.at.0 a.marker.len) c.stands.ensures c.if-stands.false
+pub returns-else-stands : goal.returns-else-stands
+returns-else-stands c = size_none _ _ _ refl c.stands.ensures c.if-stands.false

@@ -13,4 +13,4 @@ num_fields-requires c = (listed_not_nan c.requires c.listed_value.ensures, c.req
 
 pub returns : goal.returns
 unfolding stored_fields fields_of
-returns c = c.num_fields.ensures ∙ rw (c.map_of.ensures, c.listed_value.ensures, c.part_or-script.ensures, c.part_or-value_s.ensures, c.is_row.ensures)
+returns c = c.num_fields.ensures ∙ rw (c.map_of.ensures, c.is_some.ensures, c.parts-numerator.ensures, c.listed_value.ensures, c.part_or-script.ensures, c.part_or-value_s.ensures, c.is_row.ensures)

@@ -24,5 +24,5 @@ returns c x y =
     let a = c.args in
     let n : NumIs a.e.num x = record { is = ap (λ (e : PassEdge). e.num) y.is; fits = y.fits } in
     put_head _ a.at _ x (rw y.is at c.put_u16.ensures) (rw y.is at c.put_u16-2.ensures)
-    (rw (c.kind_number.ensures, y.is) at c.put_u16-3.ensures) (rw (c.map_of.ensures, y.is) at c.put_u16-4.ensures)
+    (rw (c.from.ensures, y.is) at c.put_u16-3.ensures) (rw (c.map_of.ensures, y.is) at c.put_u16-4.ensures)
     (c.put_num.ensures x n (ap (λ (e : PassEdge). e.record_at.0) y.is))

@@ -26,7 +26,7 @@ pub returns-in-G1 : goal.returns-in-G1
 returns-in-G1 c x e j = let a = c.args in rw (e, c.u16_at-start.ensures) (take_may a.list.now a.at G1 x (rw c.in-G1.is at j))
 
 pub returns-in-G2 : goal.returns-in-G2
-returns-in-G2 c x e j = let a = c.args in rw (e, c.u16_at-start.ensures, c.u16_at-r.ensures, c.u64_at-next.ensures) (take_may a.list.now a.at G2 x (rw c.in-G2.is at j))
+returns-in-G2 c x e j = let a = c.args in rw (e, c.u16_at-start.ensures, c.u16_at-r.ensures, c.is_below.ensures x (rw e), c.u64_at-next.ensures) (take_may a.list.now a.at G2 x (rw c.in-G2.is at j))
 
 pub returns-in-G3 : goal.returns-in-G3
 returns-in-G3 c x e j = let a = c.args in rw (e, c.u16_at-start.ensures) (take_may a.list.now a.at G3 x (rw c.in-G3.is at j))

@@ -1,10 +1,7 @@
--- `paths::best::best_of` meets its contract. The loop's invariant: what is kept and the edges that are left have the best of all (`Walk`). The measure is
--- how many are left. Assumes nothing.
-use Rattle.paths.proofs.BestLaws.{Walk}
+-- `paths::best::best_of` meets its contract. The loop's invariant: what is held and the edges that are left have the best of all (`Held`). Assumes nothing.
+use Prim.Native.Nat.{◌-◌}
+use Rattle.paths.proofs.BestLaws.{Held}
 use Rattle.paths.proofs.best.best_of.Given as goal
 
-abbrev pub invariant-loop-left : goal.invariant-loop-left
-invariant-loop-left l = Walk l.skip l.q l.s l.first l.count l.at l.left l.top l.top_at
-
-abbrev pub decreases-loop-left : goal.decreases-loop-left
-decreases-loop-left l = l.left
+abbrev pub invariant-loop : goal.invariant-loop
+invariant-loop l = Held l.skip l.q l.s l.first l.count l.at (l.count - l.counter) l.top l.held

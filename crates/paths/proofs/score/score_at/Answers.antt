@@ -6,7 +6,7 @@ use native.Mathlib.Omega.{arith}
 use borrow.Author.Tests.{not-true, not-false}
 use Rattle.edge.specs.Layout.{string_end, edge_at}
 use Rattle.paths.specs.Best.{asked}
-use Rattle.paths.proofs.BestLaws.{class_le, score_not_asked, score_never, score_no_place, score_asked, asked_at, no_place_at, places_at}
+use Rattle.paths.proofs.BestLaws.{class_le, score_not_asked, score_never, score_asked, asked_at, places_at}
 use Rattle.paths.proofs.score.score_at.Goals as goal
 
 pub overflow_add-at : goal.overflow_add-at
@@ -33,15 +33,10 @@ returns-then-class-eq0 c =
     let is_asked_for : let a = c.args in let e = edge_at a.s.now a.at in asked a.q e.start e.end ≡ true = sym (asked_at _ _ c.u16_at-start.ensures c.u16_at-end.ensures _ c.is_asked.ensures) ∙ not-false _ (ap not c.if-not-is_asked.false) in
     score_never _ _ _ is_asked_for c.class_at-class.ensures c.if-class-eq0.true
 
-pub returns-then-end-start : goal.returns-then-end-start
-returns-then-end-start c =
-    let is_asked_for : let a = c.args in let e = edge_at a.s.now a.at in asked a.q e.start e.end ≡ true = sym (asked_at _ _ c.u16_at-start.ensures c.u16_at-end.ensures _ c.is_asked.ensures) ∙ not-false _ (ap not c.if-not-is_asked.false) in
-    score_no_place _ _ _ is_asked_for c.class_at-class.ensures c.if-class-eq0.false (no_place_at _ _ c.u16_at-start.ensures c.u16_at-end.ensures c.if-end-start.true)
-
 pub overflow_add-result : goal.overflow_add-result
 overflow_add-result c = omega (arith, class_le _ _ c.class_at-class.ensures)
 
 pub returns : goal.returns
 returns c =
     let is_asked_for : let a = c.args in let e = edge_at a.s.now a.at in asked a.q e.start e.end ≡ true = sym (asked_at _ _ c.u16_at-start.ensures c.u16_at-end.ensures _ c.is_asked.ensures) ∙ not-false _ (ap not c.if-not-is_asked.false) in
-    score_asked _ _ _ is_asked_for c.class_at-class.ensures c.if-class-eq0.false (places_at _ _ c.u16_at-start.ensures c.u16_at-end.ensures)
+    score_asked _ _ _ is_asked_for c.class_at-class.ensures c.if-class-eq0.false (c.saturating_sub.ensures ∙ places_at _ _ c.u16_at-start.ensures c.u16_at-end.ensures)

@@ -7,7 +7,7 @@ use Rattle.paths.proofs.PathLaws.{Sized}
 use Rattle.paths.proofs.walk.path_size.Given as goal
 
 abbrev pub invariant-loop-p : goal.invariant-loop-p
-invariant-loop-p l = Sized l.s (by_table l.s l.tops l.ats) (path (by_table l.s l.tops l.ats) l.initial.p l.last) l.room l.last l.p l.n l.len
+invariant-loop-p l = Sized l.s (by_table l.s l.right.tops l.right.ats) (path (by_table l.s l.right.tops l.right.ats) l.initial.p l.last) l.room l.last l.p l.n l.len
 
 abbrev pub decreases-loop-p : goal.decreases-loop-p
 decreases-loop-p l = l.last - l.p

@@ -7,7 +7,7 @@ use Rattle.paths.proofs.PathLaws.{Copied}
 use Rattle.paths.proofs.walk.write_path.Given as goal
 
 abbrev pub invariant-loop-p : goal.invariant-loop-p
-invariant-loop-p l = Copied l.s (by_table l.s l.tops l.ats) (path (by_table l.s l.tops l.ats) l.initial.p l.last) l.last l.initial.out l.out l.p l.at
+invariant-loop-p l = Copied l.s (by_table l.s l.right.tops l.right.ats) (path (by_table l.s l.right.tops l.right.ats) l.initial.p l.last) l.last l.initial.out l.out l.p l.at
 
 abbrev pub decreases-loop-p : goal.decreases-loop-p
 decreases-loop-p l = l.last - l.p

@@ -4,11 +4,11 @@ use Rattle.print_line.proofs.read.LineLaws.{step_ends, step_goes}
 use Rattle.print_line.proofs.read.read_more.Goals as goal
 
 pub returns-then-end-to : goal.returns-then-end-to
-returns-then-end-to g c = step_ends _ (rw c.read_behind.ensures.kept c.requires.1) (omega arith) c.in-Ok.ensures.within c.end_within-end.ensures.0 c.if-end-to.true
+returns-then-end-to g c = step_ends _ (rw c.read_behind.ensures.kept c.requires.1) (omega arith) c.in_ok-more.ensures.within c.end_within-end.ensures.0 c.if-end-to.true
 
 pub returns : goal.returns
 returns g c = (
   omega arith,
-  c.in-Ok.ensures.within,
-  step_goes _ (rw c.read_behind.ensures.kept c.requires.1) (omega arith) c.in-Ok.ensures.within c.end_within-end.ensures.0 c.if-end-to.false,
+  c.in_ok-more.ensures.within,
+  step_goes _ (rw c.read_behind.ensures.kept c.requires.1) (omega arith) c.in_ok-more.ensures.within c.end_within-end.ensures.0 c.if-end-to.false,
 )

@@ -5,9 +5,6 @@ use Rattle.text.proofs.RowLaws.{and-true}
 use Rattle.record_check.proofs.ascii.MaskLaws.{three_low}
 use Rattle.record_check.proofs.ascii.ascii.Goals as goal
 
-pub overflow_sub-more : goal.overflow_sub-more
-overflow_sub-more c = omega arith
-
 pub low_eight-requires : goal.low_eight-requires
 low_eight-requires c =
     record {
@@ -15,18 +12,12 @@ low_eight-requires c =
       bytes = c.requires.bytes;
     }
 
-pub overflow_add-at : goal.overflow_add-at
-overflow_add-at c = omega arith
-
 pub low_eight-requires-2 : goal.low_eight-requires-2
 low_eight-requires-2 c =
     record {
       at_in_bounds = omega arith;
       bytes = c.requires.bytes;
     }
-
-pub overflow_add-at-2 : goal.overflow_add-at-2
-overflow_add-at-2 c = omega arith
 
 pub low_eight-requires-3 : goal.low_eight-requires-3
 low_eight-requires-3 c =

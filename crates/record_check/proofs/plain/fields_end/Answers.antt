@@ -8,35 +8,8 @@ use borrow.Author.Tests.{not-false}
 use Rattle.record_check.proofs.plain.PlainLaws.{fields_is}
 use Rattle.record_check.proofs.plain.fields_end.Goals as goal
 
-pub overflow_add-at : goal.overflow_add-at
-overflow_add-at c = omega arith
-
-pub bounds-s-at : goal.bounds-s-at
-bounds-s-at c = omega arith
-
-pub returns-then-s-at-ge128 : goal.returns-then-s-at-ge128
-returns-then-s-at-ge128 c = tt
-
-pub bounds-s-at-2 : goal.bounds-s-at-2
-bounds-s-at-2 c = omega arith
-
 pub overflow_cast-n : goal.overflow_cast-n
 overflow_cast-n c = omega (arith, c.type_inv.s c.args.at)
-
-pub returns-then-n-gt8 : goal.returns-then-n-gt8
-returns-then-n-gt8 c = tt
-
-pub overflow_add-rom_at : goal.overflow_add-rom_at
-overflow_add-rom_at c = omega arith
-
-pub overflow_add-rom_at-2 : goal.overflow_add-rom_at-2
-overflow_add-rom_at-2 c = omega arith
-
-pub overflow_add-both : goal.overflow_add-both
-overflow_add-both c = omega arith
-
-pub bounds-s-rom_at : goal.bounds-s-rom_at
-bounds-s-rom_at c = omega arith
 
 pub overflow_cast-both : goal.overflow_cast-both
 overflow_cast-both c = let a = c.args in omega (arith, c.type_inv.s (a.at + 1 + get_or a.s.now a.at 0))
@@ -44,30 +17,12 @@ overflow_cast-both c = let a = c.args in omega (arith, c.type_inv.s (a.at + 1 + 
 pub overflow_add-both-2 : goal.overflow_add-both-2
 overflow_add-both-2 c = let a = c.args in omega (arith, c.type_inv.s (a.at + 1 + get_or a.s.now a.at 0))
 
-pub returns-then-both-lt8 : goal.returns-then-both-lt8
-returns-then-both-lt8 c = tt
-
-pub returns-then-both-gt24 : goal.returns-then-both-gt24
-returns-then-both-gt24 c = tt
-
 pub ascii-requires : goal.ascii-requires
 ascii-requires c =
     record {
       le_n = (omega arith, omega arith, omega arith);
       bytes = λ j. (c.type_inv.s j).fits;
     }
-
-pub returns-then-not-ascii : goal.returns-then-not-ascii
-returns-then-not-ascii c = tt
-
-pub overflow_add-at-2 : goal.overflow_add-at-2
-overflow_add-at-2 c = omega arith
-
-pub bounds-s-at-3 : goal.bounds-s-at-3
-bounds-s-at-3 c = omega arith
-
-pub overflow_add-at-3 : goal.overflow_add-at-3
-overflow_add-at-3 c = omega arith
 
 pub tail_end-requires : goal.tail_end-requires
 tail_end-requires c = (omega arith, omega arith)

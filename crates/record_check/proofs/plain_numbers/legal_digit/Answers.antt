@@ -8,14 +8,5 @@ use Rattle.record_check.proofs.plain_numbers.legal_digit.Goals as goal
 pub returns-then-first-ne100 : goal.returns-then-first-ne100
 returns-then-first-ne100 c = λ e t h. absurd (omega arith)
 
-pub u16_at-requires : goal.u16_at-requires
-u16_at-requires c = omega arith
-
-pub overflow_mul-result : goal.overflow_mul-result
-overflow_mul-result c = omega arith
-
-pub overflow_add-result : goal.overflow_add-result
-overflow_add-result c = omega arith
-
 pub returns : goal.returns
 returns c = λ e t h. sym c.u16_at.ensures ∙ eqb-true _ _ e

@@ -7,24 +7,18 @@ use Rattle.record_check.proofs.texts.any_formed.Goals as goal
 pub loop-at-init : goal.loop-at-init
 loop-at-init c = rest_start _ _ _ c.requires.0
 
-pub sequence_len-n-requires : goal.sequence_len-n-requires
-sequence_len-n-requires c = (c.loop-at-test.true, c.requires.1)
+pub sequence_end-requires : goal.sequence_end-requires
+sequence_end-requires c = (c.loop-at-test.true, c.requires.1)
 
-pub slice_bounds-well_formed-count : goal.slice_bounds-well_formed-count
-slice_bounds-well_formed-count c = omega arith
-
-pub returns-then-n-eq0 : goal.returns-then-n-eq0
+pub returns-in_default : goal.returns-in_default
 unfolding part
-returns-then-n-eq0 c = c.well_formed-then-n-eq0.ensures ∙ sym c.loop-at.invariant.same
-
-pub overflow_add-at : goal.overflow_add-at
-overflow_add-at c = omega (arith, c.sequence_len-n.ensures.before)
+returns-in_default c = c.well_formed-in_default.ensures ∙ sym c.loop-at.invariant.same
 
 pub loop-at-smaller : goal.loop-at-smaller
-loop-at-smaller c = omega (arith, c.sequence_len-n.ensures.before)
+loop-at-smaller c = omega (arith, c.in-Some.ensures.0, c.in-Some.ensures.1.before)
 
 pub loop-at-preserved : goal.loop-at-preserved
-loop-at-preserved c = rest_more _ _ _ _ c.loop-at.invariant c.sequence_len-n.ensures
+loop-at-preserved c = rest_more _ _ _ _ c.loop-at.invariant c.in-Some.ensures.1
 
 pub returns : goal.returns
 returns c = sym (rest_all _ _ _ _ c.loop-at.invariant c.loop-at-test.false)

@@ -9,18 +9,6 @@ returns-then-most-eq0 t c = word_none _ _ _ c.if-most-eq0.true
 pub returns-then-number-eq0 : goal.returns-then-number-eq0
 returns-then-number-eq0 t c = word_empty _ _ _ c.if-number-eq0.true
 
-pub overflow_sub-most : goal.overflow_sub-most
-overflow_sub-most t c = omega arith
-
-pub overflow_sub-number : goal.overflow_sub-number
-overflow_sub-number t c = omega arith
-
-pub put_word-at-requires : goal.put_word-at-requires
-put_word-at-requires t c = (omega arith, omega arith)
-
-pub overflow_sub-number-2 : goal.overflow_sub-number-2
-overflow_sub-number-2 t c = omega arith
-
 pub put_char-requires : goal.put_char-requires
 put_char-requires t c =
     let a = c.args in

@@ -1,6 +1,5 @@
 -- `sheet::first::first_candidate` meets its contract. The loop's invariant: the candidates before this one are passed, with their rows, none of them behind the position.
--- The measure is how many candidates are left. Assumes nothing.
-use Prim.Native.Nat.{◌-◌}
+-- Assumes nothing.
 use mathlib.Core.Path.{◌≡◌}
 use lib.ListN.{length}
 use Rattle.sheet.specs.Walk.{PassedIs}
@@ -8,6 +7,3 @@ use Rattle.sheet.proofs.first.first_candidate.Given as goal
 
 abbrev pub invariant-loop-index : goal.invariant-loop-index
 invariant-loop-index l = PassedIs l.position l.index l.rows × (length l.buf ≡ 12)
-
-abbrev pub decreases-loop-index : goal.decreases-loop-index
-decreases-loop-index l = 69904 - l.index

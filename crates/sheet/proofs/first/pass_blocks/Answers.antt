@@ -10,31 +10,10 @@ pub returns-then-position-lt-SHORT_ROWS : goal.returns-then-position-lt-SHORT_RO
 returns-then-position-lt-SHORT_ROWS c = record { inside = omega arith; before = omega arith; few = omega arith; there = at_front }
 
 pub loop-block-init : goal.loop-block-init
-loop-block-init c = (omega arith, refl, omega arith, omega arith, at_three)
-
-pub rows_in-n-requires : goal.rows_in-n-requires
-rows_in-n-requires c = omega arith
-
-pub overflow_sub-position : goal.overflow_sub-position
-overflow_sub-position c = c.loop-block.invariant.2
-
-pub returns-then-position-rows : goal.returns-then-position-rows
-returns-then-position-rows c = let i = c.loop-block.invariant in record { inside = omega arith; before = i.2; few = i.3; there = i.4 }
-
-pub overflow_add-index : goal.overflow_add-index
-overflow_add-index c = omega arith
+loop-block-init c = (refl, omega arith, omega arith, at_three)
 
 pub overflow_add-rows : goal.overflow_add-rows
 overflow_add-rows c = omega (arith, c.rows_in-n.ensures, rows_in_le 1024 (272 + 1024 * c.loop-block.block))
 
-pub overflow_add-block : goal.overflow_add-block
-overflow_add-block c = omega arith
-
-pub loop-block-smaller : goal.loop-block-smaller
-loop-block-smaller c = omega arith
-
 pub loop-block-preserved : goal.loop-block-preserved
-loop-block-preserved c = (omega arith, omega arith, omega arith, omega (arith, rows_in_le 1024 (272 + 1024 * c.loop-block.block)), at_block c.loop-block.block c.loop-block.index c.loop-block.rows _ (omega arith) c.loop-block.invariant.1 c.rows_in-n.ensures c.loop-block.invariant.4)
-
-pub returns : goal.returns
-returns c = let i = c.loop-block.invariant in record { inside = omega arith; before = i.2; few = i.3; there = i.4 }
+loop-block-preserved c = (omega arith, omega arith, omega (arith, rows_in_le 1024 (272 + 1024 * c.loop-block.block)), at_block c.loop-block.block c.loop-block.index c.loop-block.rows _ (omega arith) c.loop-block.invariant.0 c.rows_in-n.ensures c.loop-block.invariant.3)

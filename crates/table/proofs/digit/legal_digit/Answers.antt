@@ -51,4 +51,4 @@ returns c =
     let is_digit_lem : let a = c.args in is_digit_type (part_of a.s.now a.kind) ≡ true = sym c.is_digit_type.ensures ∙ not-false _ (ap not c.if-not-is_digit_type.false) in
     let value_read : let a = c.args in digit_fine a.map c.u64_at-value.result (part_of a.s.now a.kind) (part_of a.s.now a.rom) ≡ digit_fine a.map (le_at a.s.now a.at 8) (part_of a.s.now a.kind) (part_of a.s.now a.rom) = let a = c.args in ap (λ (v : ℕ). digit_fine a.map v (part_of a.s.now a.kind) (part_of a.s.now a.rom)) c.u64_at-value.ensures in
     let a = c.args in
-    rw c.wide.ensures (digit_rom a.s.now a.map c.u64_at-value.result a.kind a.rom is_digit_lem (eq-eqb _ _ c.if-map-ne1.false) c.if-value-gt9.false (eq-eqb _ _ c.if-map-ne1-2.false) c.requires.within.1 c.if-rom-ne1.false ∙ value_read)
+    digit_rom a.s.now a.map c.u64_at-value.result a.kind a.rom is_digit_lem (eq-eqb _ _ c.if-map-ne1.false) c.if-value-gt9.false (eq-eqb _ _ c.if-map-ne1-2.false) c.requires.within.1 c.if-rom-ne1.false ∙ value_read

@@ -14,24 +14,21 @@ returns-then-here-index c =
       marks = λ k. refl;
     }
 
-pub returns-then-here-gt4294967295 : goal.returns-then-here-gt4294967295
-returns-then-here-gt4294967295 c =
+pub returns-in_default : goal.returns-in_default
+returns-in_default c =
     record {
       next = c.requires.0;
       grows = λ t rs e g. g;
       marks = λ k. refl;
     }
 
-pub overflow_cast-offs : goal.overflow_cast-offs
-overflow_cast-offs c = omega (arith, c.if-here-gt4294967295.false)
-
-pub offset_bounds-offs-n : goal.offset_bounds-offs-n
-offset_bounds-offs-n c =
+pub offset_bounds-offs-index : goal.offset_bounds-offs-index
+offset_bounds-offs-index c =
     let room : c.args.index.n < 256 = due_room c.args.all c.args.index c.requires.0 (omega (arith, c.requires.1, c.if-here-index.false)) in
     omega (arith, room)
 
-pub bounds-offs-n : goal.bounds-offs-n
-bounds-offs-n c =
+pub bounds-offs-index : goal.bounds-offs-index
+bounds-offs-index c =
     let room : c.args.index.n < 256 = due_room c.args.all c.args.index c.requires.0 (omega (arith, c.requires.1, c.if-here-index.false)) in
     omega (arith, room, c.requires.2)
 
@@ -44,9 +41,9 @@ pub returns : goal.returns
 returns c =
     let room : c.args.index.n < 256 = due_room c.args.all c.args.index c.requires.0 (omega (arith, c.requires.1, c.if-here-index.false)) in
     let here = c.if-here-index.false in
-    let l = rw c.stride_of.ensures at c.less.ensures in
+    let l = rw c.stride_of.ensures at c.saturating_sub.ensures in
     record {
       next = l ∙ rw here (due_next c.args.all c.args.index c.requires.0);
-      grows = λ t rs e g. rw l (index_more t rs _ _ _ g _ here c.requires.1 _ e);
+      grows = λ t rs e g. rw (c.in-Ok.ensures.1, l) (index_more t rs _ _ _ g _ here c.requires.1 _ e);
       marks = λ k. marks_behind _ _ _ k room;
     }

@@ -1,3 +1,4 @@
+use mathlib.Core.Path.{refl}
 use native.Mathlib.Omega.{arith}
 use Prim.Native.Nat.{◌+◌, ◌-◌, ◌/◌}
 use Rattle.table.proofs.index.IndexLaws.{ahead_all, index_ahead}
@@ -14,7 +15,7 @@ pub bounds-offs-mid : goal.bounds-offs-mid
 bounds-offs-mid c = omega (arith, c.requires.1.few)
 
 pub u32_at-requires : goal.u32_at-requires
-u32_at-requires c = rw c.wide-at.ensures (c.requires.1.entries (c.loop-lo.lo + (c.loop-lo.hi - c.loop-lo.lo) / 2) (omega arith)).there
+u32_at-requires c = (c.requires.1.entries (c.loop-lo.lo + (c.loop-lo.hi - c.loop-lo.lo) / 2) (omega arith)).there
 
 pub overflow_mul-from : goal.overflow_mul-from
 overflow_mul-from c =
@@ -28,7 +29,7 @@ overflow_sub-from c =
 
 pub loop-lo-preserved-then-u32_at-c : goal.loop-lo-preserved-then-u32_at-c
 loop-lo-preserved-then-u32_at-c c =
-    let ahead = index_ahead _ _ _ _ _ c.requires.1 (c.loop-lo.lo + (c.loop-lo.hi - c.loop-lo.lo) / 2) c.args.c _ (omega arith) c.wide-at.ensures (omega (arith, c.u32_at.ensures, c.if-u32_at-c.true)) in
+    let ahead = index_ahead _ _ _ _ _ c.requires.1 (c.loop-lo.lo + (c.loop-lo.hi - c.loop-lo.lo) / 2) c.args.c _ (omega arith) refl (omega (arith, c.u32_at.ensures, c.if-u32_at-c.true)) in
     (rw c.stride_of-stride.ensures ahead, omega arith, omega arith)
 
 pub loop-lo-preserved : goal.loop-lo-preserved

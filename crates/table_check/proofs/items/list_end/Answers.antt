@@ -5,7 +5,7 @@ use Rattle.table.proofs.CheckLaws.{list_missing, list_is}
 use Rattle.table_check.proofs.items.list_end.Goals as goal
 
 pub returns-then-s-at : goal.returns-then-s-at
-returns-then-s-at c = list_missing _ _ c.if-s-at.true
+returns-then-s-at c = rw c.refusal_at.ensures (list_missing _ _ c.if-s-at.true)
 
 pub overflow_cast-n : goal.overflow_cast-n
 overflow_cast-n c = omega (arith, c.type_inv.s c.args.at)

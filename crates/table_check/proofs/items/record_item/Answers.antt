@@ -4,8 +4,8 @@ use Rattle.record_check.specs.Plain.{PlainIs}
 use Rattle.table_check.proofs.items.StepLaws.{plain_passed}
 use Rattle.table_check.proofs.items.record_item.Goals as goal
 
-pub returns-in-Legal : goal.returns-in-Legal
-returns-in-Legal c = plain_passed _ _ _ (subst (PlainIs _ _ _) c.in-Legal.is c.plain_at.ensures)
+pub returns-in-Some : goal.returns-in-Some
+returns-in-Some c = plain_passed _ _ _ (subst (PlainIs _ _ _) c.in-Some.is c.plain_at.ensures)
 
-pub returns-in-Other : goal.returns-in-Other
-returns-in-Other c = c.check_record.ensures
+pub returns-in-None : goal.returns-in-None
+returns-in-None c = c.check_record.ensures

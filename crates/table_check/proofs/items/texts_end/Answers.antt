@@ -1,22 +1,16 @@
-use mathlib.Core.Path.{refl, sym, ◌∙◌}
+use mathlib.Core.Path.{sym, ◌∙◌}
 use native.Mathlib.Omega.{arith}
+use Rattle.std.proofs.lemmas.Result.{err_from_is_err_and}
 use Rattle.table.proofs.CheckLaws.{texts_none, texts_turn, texts_stop}
 use Rattle.table_check.proofs.items.texts_end.Goals as goal
 
-pub loop-left-init : goal.loop-left-init
-loop-left-init c = refl
+pub loop-preserved : goal.loop-preserved
+loop-preserved c = sym (texts_turn _ _ c.args.n c.loop.counter (omega arith) c.in_ok-at.ensures) ∙ c.loop.invariant
 
-pub overflow_sub-left : goal.overflow_sub-left
-overflow_sub-left c = omega arith
-
-pub loop-left-smaller : goal.loop-left-smaller
-loop-left-smaller c = omega arith
-
-pub loop-left-preserved : goal.loop-left-preserved
-loop-left-preserved c = sym (texts_turn _ _ _ c.loop-left-test.true (sym c.mark_item.ensures ∙ c.in-End.is)) ∙ c.loop-left.invariant
-
-pub returns-in-Refused : goal.returns-in-Refused
-returns-in-Refused c = texts_stop _ _ _ c.loop-left-test.true (sym c.mark_item.ensures ∙ c.in-Refused.is) ∙ c.loop-left.invariant
+pub returns-in_err-at : goal.returns-in_err-at
+returns-in_err-at c =
+    let p = err_from_is_err_and c.from_residual.result c.from_residual.ensures.1 in
+    rw (p.1, p.2) (texts_stop _ _ _ (omega arith) c.in_err-at.ensures ∙ c.loop.invariant)
 
 pub returns : goal.returns
-returns c = texts_none _ _ _ c.loop-left-test.false ∙ c.loop-left.invariant
+returns c = texts_none _ _ _ (omega arith) ∙ c.loop.invariant

@@ -1,52 +1,40 @@
-use mathlib.Core.Path.{◌≡◌, sym, ◌∙◌}
+use mathlib.Core.Path.{◌≡◌, refl, sym, ◌∙◌}
+use mathlib.Core.List.{List, []}
+use Prim.Native.Nat.{ℕ}
 use native.Mathlib.Omega.{arith}
 use lib.ListN.{drop}
-use Rattle.text.specs.declared.Seq.TheVariants.{Char}
-use Rattle.text.specs.Sequence.{seq, HasLength}
+use Rattle.text.specs.declared.Seq.TheVariants.{Char, Ill, End}
+use Rattle.text.specs.declared.Seq.{Seq}
+use Rattle.text.specs.Sequence.{seq}
+use Rattle.text.specs.Text.{chars}
 use Rattle.text.proofs.TextLaws.{chars_ill, chars_end}
-use Rattle.text.proofs.PlaceLaws.{reached_start, reached_char, char_fits, walk_enough, walk_stops}
+use Rattle.text.proofs.PlaceLaws.{reached_start, reached_char, char_fits, walk_stops}
 use Rattle.text.proofs.line.walk.Goals as goal
+use Rattle.text.proofs.line.walk.Goals.{in-Some, in_default+in-Char}
 
 pub loop-count-init : goal.loop-count-init
-loop-count-init c = (reached_start _, omega arith)
-
-pub overflow_add-count : goal.overflow_add-count
-overflow_add-count c = omega arith
+loop-count-init c = reached_start _
 
 pub overflow_add-at : goal.overflow_add-at
-overflow_add-at c =
-    let common : HasLength c.args.s.now c.loop-count.at c.common_len-common.result = c.common_len-common.ensures c.if-common-gt0.true in
-    omega (arith, char_fits _ _ _ c.loop-count.invariant.0 _ _ common.1)
-
-pub loop-count-smaller-then-common-gt0 : goal.loop-count-smaller-then-common-gt0
-loop-count-smaller-then-common-gt0 c = omega arith
-
-pub loop-count-preserved-then-common-gt0 : goal.loop-count-preserved-then-common-gt0
-loop-count-preserved-then-common-gt0 c =
-    let common : HasLength c.args.s.now c.loop-count.at c.common_len-common.result = c.common_len-common.ensures c.if-common-gt0.true in
-    (reached_char _ _ _ c.loop-count.invariant.0 _ _ common.1, omega arith)
-
-pub overflow_add-count-in-Char : goal.overflow_add-count-in-Char
-overflow_add-count-in-Char c = omega arith
+overflow_add-at c = omega (arith, char_fits _ _ _ c.loop-count.invariant _ _ c.in-Some.ensures.1)
 
 pub overflow_add-at-in-Char : goal.overflow_add-at-in-Char
 overflow_add-at-in-Char c =
     let told : seq (drop c.loop-count.at c.args.s.now) ≡ Char c.in-Char.field-0 c.in-Char.len = sym c.seq_at.ensures ∙ c.in-Char.is in
-    omega (arith, char_fits _ _ _ c.loop-count.invariant.0 _ _ told)
+    omega (arith, char_fits _ _ _ c.loop-count.invariant _ _ told)
 
-pub loop-count-smaller : goal.loop-count-smaller
-loop-count-smaller c = omega arith
+-- no character stands there
+none_here : (s : List ℕ) (r : Seq) → r ≡ seq s → ((c l : ℕ) → r ≡ Char c l → ⊥) → chars s ≡ []
+none_here s (Char c l) e n = absurd (n c l refl)
+none_here s Ill e n = chars_ill s (sym e)
+none_here s End e n = chars_end s (sym e)
+
+pub returns-in_default-seq_at : goal.returns-in_default-seq_at
+returns-in_default-seq_at c = walk_stops _ _ _ c.loop-count.invariant _ (omega arith) (none_here _ _ c.seq_at.ensures c.in_default-seq_at.not-Char)
 
 pub loop-count-preserved : goal.loop-count-preserved
 loop-count-preserved c =
-    let told : seq (drop c.loop-count.at c.args.s.now) ≡ Char c.in-Char.field-0 c.in-Char.len = sym c.seq_at.ensures ∙ c.in-Char.is in
-    (reached_char _ _ _ c.loop-count.invariant.0 _ _ told, omega arith)
-
-pub returns-in-Ill : goal.returns-in-Ill
-returns-in-Ill c = walk_stops _ _ _ c.loop-count.invariant.0 _ c.loop-count.invariant.1 (chars_ill _ (sym c.seq_at.ensures ∙ c.in-Ill.is))
-
-pub returns-in-End : goal.returns-in-End
-returns-in-End c = walk_stops _ _ _ c.loop-count.invariant.0 _ c.loop-count.invariant.1 (chars_end _ (sym c.seq_at.ensures ∙ c.in-End.is))
-
-pub returns : goal.returns
-returns c = walk_enough _ _ _ c.loop-count.invariant.0 _ c.loop-count.invariant.1 c.loop-count-test.false
+    elim c.match-common_len.branch [
+      | in-Some w ↦ rw w.at-is (reached_char _ _ _ c.loop-count.invariant _ _ w.in-Some.ensures.1)
+      | in_default+in-Char w ↦ rw w.at-is (reached_char _ _ _ c.loop-count.invariant _ _ (sym w.seq_at.ensures ∙ w.in-Char.is))
+    ]

@@ -1,22 +1,19 @@
-use mathlib.Core.Path.{refl}
+use Prim.Native.Nat.{◌+◌, ◌-◌}
+use mathlib.Core.Path.{◌≡◌}
 use native.Mathlib.Omega.{arith}
 use Rattle.walker.proofs.steps.WalkLaws.{onward_none, onward_step, onward_stuck}
 use Rattle.walker.proofs.steps.onward.Goals as goal
 
-pub loop-left-init : goal.loop-left-init
-loop-left-init c = refl
+pub loop-init : goal.loop-init
+loop-init c = let all : c.args.i - 0 ≡ c.args.i = omega arith in rw all
 
 pub returns-then-next-at : goal.returns-then-next-at
-returns-then-next-at c = onward_stuck _ _ _ c.behind-next.ensures c.if-next-at.true c.loop-left.invariant
+returns-then-next-at c = onward_stuck _ _ _ c.behind-next.ensures c.if-next-at.true c.loop.invariant
 
-pub overflow_sub-left : goal.overflow_sub-left
-overflow_sub-left c = omega arith
-
-pub loop-left-smaller : goal.loop-left-smaller
-loop-left-smaller c = omega arith
-
-pub loop-left-preserved : goal.loop-left-preserved
-loop-left-preserved c = onward_step _ _ _ c.loop-left-test.true c.behind-next.ensures c.loop-left.invariant
+pub loop-preserved : goal.loop-preserved
+loop-preserved c =
+    let one : c.args.i - (c.loop.counter + 1) ≡ c.args.i - c.loop.counter - 1 = omega arith in
+    rw one (onward_step _ _ _ (omega arith) c.behind-next.ensures c.loop.invariant)
 
 pub returns : goal.returns
-returns c = onward_none _ _ _ c.loop-left-test.false c.loop-left.invariant
+returns c = onward_none _ _ _ (omega arith) c.loop.invariant

@@ -1,12 +1,9 @@
 -- `walker::whole_edge::whole_edge_at` meets its contract, by what the walk says of the offset. Assumes nothing.
-use Rattle.walker.proofs.whole_edge.EdgeLaws.{fields_end_within, edge_stands, nothing_stands}
+use Rattle.walker.proofs.whole_edge.EdgeLaws.{fields_end_within, edge_stands}
 use Rattle.walker.proofs.whole_edge.whole_edge_at.Goals as goal
 
 pub fields_behind-fields-requires : goal.fields_behind-fields-requires
-fields_behind-fields-requires c = fields_end_within _ _ c.here_at.ensures c.in-Edge.is
+fields_behind-fields-requires c = fields_end_within _ _ c.here_at.ensures c.in_ok-head.was
 
-pub returns-in-Edge : goal.returns-in-Edge
-returns-in-Edge c = edge_stands _ _ c.here_at.ensures c.in-Edge.is c.fields_behind-fields.ensures c.behind.ensures
-
-pub returns-in-End : goal.returns-in-End
-returns-in-End c = nothing_stands _ _ c.here_at.ensures c.in-End.is
+pub returns : goal.returns
+returns c = edge_stands _ _ c.here_at.ensures c.in_ok-head.was c.fields_behind-fields.ensures c.behind.ensures

@@ -12,8 +12,8 @@ use Rattle.worn.proofs.rows.put_rows.Goals as goal
 pub loop-rank-init : goal.loop-rank-init
 loop-rank-init c = (λ x y s. rowing_start x y _ _ _ _ s, refl, refl)
 
-pub try_char-found-requires : goal.try_char-found-requires
-try_char-found-requires c =
+pub try_char-requires : goal.try_char-requires
+try_char-requires c =
     let fits : let a = c.args in (a.at + 3 ≤ a.len) × (a.len ≤ length c.loop-rank.copy) = stands_fits _ _ _ _ _ (c.loop-rank.invariant.0 c.requires.1.0 c.requires.1.1 c.requires.1.2).stands in
     let f = fits in
     (f.0, f.1, omega (arith, c.loop-rank-test.true))
@@ -21,31 +21,31 @@ try_char-found-requires c =
 pub slice_bounds-put_row-end : goal.slice_bounds-put_row-end
 slice_bounds-put_row-end c =
     let fits : let a = c.args in (a.at + 3 ≤ a.len) × (a.len ≤ length c.loop-rank.copy) = stands_fits _ _ _ _ _ (c.loop-rank.invariant.0 c.requires.1.0 c.requires.1.1 c.requires.1.2).stands in
-    omega (arith, fits, put_length c.try_char-found.ensures.put)
+    omega (arith, fits, put_length c.try_char.ensures.put)
 
 pub put_row-end-requires : goal.put_row-end-requires
 put_row-end-requires c =
     let so = c.loop-rank.invariant.0 c.requires.1.0 c.requires.1.1 c.requires.1.2 in
     let test : c.loop-rank.rank < 16 = omega (arith, c.loop-rank-test.true) in
-    let digits = row_small _ _ _ _ _ _ _ _ _ so test c.try_char-found.ensures.put c.try_char-found.ensures.answer _ c.in-Value.is in
-    let three = ap length (tried_char _ _ _ _ _ so.stands (char_at c.loop-rank.rank) c.try_char-found.ensures.put (c.args.at + 3 - c.args.at) (omega arith)) in
+    let digits = row_small _ _ _ _ _ _ _ _ _ so test c.try_char.ensures.put c.try_char.ensures.answer _ c.in-Some.is in
+    let three = ap length (tried_char _ _ _ _ _ so.stands (char_at c.loop-rank.rank) c.try_char.ensures.put (c.args.at + 3 - c.args.at) (omega arith)) in
     omega (arith, digits, three, utf8_length (char_at c.loop-rank.rank ∷ []), so.room, test, c.loop-rank.invariant.1, c.requires.0)
-
-pub loop-rank-preserved-in-Value : goal.loop-rank-preserved-in-Value
-loop-rank-preserved-in-Value c = (
-  λ x y s.
-      let so = c.loop-rank.invariant.0 x y s in
-      rowing_row x y _ _ _ _ _ _ _ so (omega (arith, c.loop-rank-test.true)) c.try_char-found.ensures.put c.try_char-found.ensures.answer _ c.in-Value.is
-      (tried_char _ _ _ _ _ so.stands (char_at c.loop-rank.rank) c.try_char-found.ensures.put (c.args.at + 3 - c.args.at) (omega arith)) c.put_row-end.ensures,
-  put_length c.put_row-end.ensures ∙ c.loop-rank.invariant.1,
-  put_length c.try_char-found.ensures.put ∙ c.loop-rank.invariant.2,
-)
 
 pub loop-rank-preserved : goal.loop-rank-preserved
 loop-rank-preserved c = (
-  λ x y s. rowing_none x y _ _ _ _ _ _ _ (c.loop-rank.invariant.0 x y s) (omega (arith, c.loop-rank-test.true)) c.try_char-found.ensures.put c.try_char-found.ensures.answer c.in-Nothing.is,
+  λ x y s.
+      let so = c.loop-rank.invariant.0 x y s in
+      rowing_row x y _ _ _ _ _ _ _ so (omega (arith, c.loop-rank-test.true)) c.try_char.ensures.put c.try_char.ensures.answer _ c.in-Some.is
+      (tried_char _ _ _ _ _ so.stands (char_at c.loop-rank.rank) c.try_char.ensures.put (c.args.at + 3 - c.args.at) (omega arith)) c.put_row-end.ensures,
+  put_length c.put_row-end.ensures ∙ c.loop-rank.invariant.1,
+  put_length c.try_char.ensures.put ∙ c.loop-rank.invariant.2,
+)
+
+pub loop-rank-preserved-in_default : goal.loop-rank-preserved-in_default
+loop-rank-preserved-in_default c = (
+  λ x y s. rowing_none x y _ _ _ _ _ _ _ (c.loop-rank.invariant.0 x y s) (omega (arith, c.loop-rank-test.true)) c.try_char.ensures.put c.try_char.ensures.answer c.in_default.is,
   c.loop-rank.invariant.1,
-  put_length c.try_char-found.ensures.put ∙ c.loop-rank.invariant.2,
+  put_length c.try_char.ensures.put ∙ c.loop-rank.invariant.2,
 )
 
 pub returns : goal.returns

@@ -9,6 +9,6 @@ pub returns-then-e : goal.returns-then-e
 unfolding begin
 returns-then-e c y p = let g : y.gap ≡ true = sym (ap (λ (e : PassEdge). e.num.gap) p) ∙ c.if-e.true in rw (p, g)
 
-pub returns : goal.returns
+pub returns-else-e : goal.returns-else-e
 unfolding begin
-returns c y p = let g : y.gap ≡ false = sym (ap (λ (e : PassEdge). e.num.gap) p) ∙ c.if-e.false in rw (p, g)
+returns-else-e c y p = let g : y.gap ≡ false = sym (ap (λ (e : PassEdge). e.num.gap) p) ∙ c.if-e.false in rw (p, g)

@@ -1,8 +1,0 @@
-use native.Mathlib.Omega.{arith}
-use Rattle.vectors.proofs.index_rows.Goals as goal
-
-pub loop-at-init : goal.loop-at-init
-loop-at-init c = omega arith
-
-pub loop-at-preserved : goal.loop-at-preserved
-loop-at-preserved c = omega arith
