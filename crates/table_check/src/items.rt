@@ -74,6 +74,7 @@ pub fn records_end(
     let mut least: u64 = 0;
     let mut index = Index { n: 0, due: n };
     for i in 0..n {
+        *entries = index.n;
         let (code, next) = record_item(s, at, least).map_err(|cause| cause.refusal_at(at))?;
         mark_char(offs, code);
         let here = RecordRun {
