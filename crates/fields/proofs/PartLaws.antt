@@ -1,5 +1,5 @@
 -- Laws of `part` (`specs/Part.antt`), and of parts after a row of stores, for this crate's proofs and its callers'. No contract cites this file.
--- In order: length and elements; parts of parts; parts of `++`; a part where bytes were stored, and elsewhere; bytes copied, by a loop and at once.
+-- In order: length and elements; parts of parts; parts of `++`; a part where bytes were stored, and elsewhere; a loop that copies.
 -- Assumes nothing.
 use mathlib.Core.Path.{◌≡◌, refl, sym, ◌∙◌}
 use mathlib.Core.Logic.{◌⊎◌, inl, inr}
@@ -10,7 +10,6 @@ use native.Mathlib.Numerals.{add-one}
 use native.Mathlib.Omega.{arith}
 use lib.ListN.{length, take, drop, get_or, set, length-drop}
 use lib.Seq.{sets, sets-eq, length-take-le, take_at, drop_at, take-add, take-take, take_all, take-suc, take-length, take-nil, drop-drop, drop-append-add, drop-set-lt, drop-set-add, take-set-le, get_or-take, get_or-drop}
-use borrow.Rule.Slice.PartMut.{put_mid}
 use Rattle.whole.proofs.SetsLaws.{sets_append}
 use Rattle.fields.specs.Part.{part}
 
@@ -108,7 +107,3 @@ copy_turn out s at i h e =
 
 pub copy_ends : (out s : List ℕ) {now : List ℕ} (at i : ℕ) → length s ≤ i → now ≡ sets out at (take i s) → now ≡ sets out at s
 copy_ends out s at i h e = e ∙ rw (take_all i s h)
-
--- the same at once
-pub copied : (out s : List ℕ) (at k : ℕ) → k ≡ length s → at + length s ≤ length out → put_mid at k out s ≡ sets out at s
-copied out s at k e h = rw (e, sets-eq s out at h, append_assoc, drop-drop (length s) at out)

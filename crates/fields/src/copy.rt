@@ -7,5 +7,8 @@ pub fn copy_in(out: &mut [u8], at: usize, s: &[u8])
     requires { at + length s.now ≤ length out.old }
     ensures { out.new ≡ sets out.old at s.now }
 {
-    out[at..at + s.len()].copy_from_slice(s);
+    // not `copy_from_slice`, which asks C for memmove
+    for i in 0..s.len() {
+        out[at + i] = s[i];
+    }
 }

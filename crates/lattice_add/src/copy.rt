@@ -17,7 +17,7 @@ fn copy_inside(work: &mut [u8], from: usize, to: usize, size: usize)
     ensures { work.new ≡ sets work.old to (part work.old from size) }
 {
     let (before, behind) = work.split_at_mut(to);
-    behind[..size].copy_from_slice(&before[from..from + size]);
+    fields::copy::copy_in(behind, 0, &before[from..from + size]);
 }
 
 // Composes from len on the bytes from at to the offset to, with sep before the string of so many bytes at txt. The string's length stands before it.

@@ -2,10 +2,10 @@
 -- In order: a copy inside a list; the copy's bytes in four steps; where the fields of an edge stand; the copy's bytes; the copy in the lattice. Assumes nothing.
 use mathlib.Core.Path.{◌≡◌, refl, sym, ap, ◌∙◌}
 use mathlib.Core.Logic.{inl, inr}
-use mathlib.Core.List.{List, ◌++◌, append_assoc}
+use mathlib.Core.List.{List, [], ◌∷◌, ◌++◌, append_assoc}
 use Prim.Native.Nat.{ℕ, ◌+◌, ◌-◌, ◌≤◌, ◌<◌}
 use native.Mathlib.Omega.{arith}
-use lib.ListN.{length, take, drop, length-append}
+use lib.ListN.{length, take, drop, length-append, length-drop}
 use lib.Seq.{sets, sets-eq, drop-drop, length-sets, take_at}
 use Rattle.fields.specs.Fields.{le_at, bytes_of}
 use Rattle.fields.specs.Part.{part}
@@ -25,16 +25,24 @@ use Rattle.lattice.proofs.KeptLaws.{fields_bytes, length_edge, begins}
 use Rattle.lattice.proofs.HoldsLaws.{holds_beside}
 use Rattle.lattice_add.specs.Copy.{prefixed, prefixed_bytes, Source}
 
+none : (l : List ℕ) → take 0 l ≡ []
+none [] = refl
+none (x ∷ l) = refl
+
 -- ---- a copy inside a list: its front ends where the copy begins, and its back begins there
-pub inside_copied : (w : List ℕ) (from to n : ℕ) → from + n ≤ to → to + n ≤ length w → {front back c : List ℕ} → front ≡ take to w → back ≡ drop to w
-    → c ≡ take (from + n - from) (drop from front) → front ++ (c ++ drop n back) ≡ sets w to (part w from n)
+pub inside_copied : (w : List ℕ) (from to n : ℕ) → from + n ≤ to → to + n ≤ length w → {front back u : List ℕ} → front ≡ take to w → back ≡ drop to w
+    → u ≡ sets back 0 (take (from + n - from) (drop from front)) → front ++ u ≡ sets w to (part w from n)
 unfolding part
-inside_copied w from to n apart room {front} {back} {c} f b copied =
+inside_copied w from to n apart room {front} {back} {u} f b copied =
     let size : from + n - from ≡ n = omega arith in
-    let l = length_part w from n (omega arith) in
-    let p : c ≡ part w from n = copied ∙ rw (size, f) (part_of_take w to from n apart) in
-    let long : length (part w from n) ≡ n = l in
-    rw (f, b, p, drop-drop n to w) (sym (sets-eq (part w from n) w to (omega arith) ∙ rw (long, append_assoc)))
+    let x = part w from n in
+    let long : length x ≡ n = length_part w from n (omega arith) in
+    let p : take (from + n - from) (drop from front) ≡ x = rw (size, f) (part_of_take w to from n apart) in
+    let h : 0 + length x ≤ length (drop to w) = rw (length-drop to w) (omega (arith, long)) in
+    let d : drop (0 + length x) (drop to w) ≡ drop (to + length x) w = drop-drop (0 + length x) to w ∙ ap (λ k. drop k w) (omega arith) in
+    let e : sets (drop to w) 0 x ≡ x ++ drop (to + length x) w =
+    sets-eq x (drop to w) 0 h ∙ ap (λ (y : List ℕ). y ++ x ++ drop (0 + length x) (drop to w)) (none (drop to w)) ∙ ap (λ (y : List ℕ). x ++ y) d in
+    rw (copied, p, f, b) (ap (λ (y : List ℕ). take to w ++ y) e ∙ sym (sets-eq x w to (omega (arith, long)) ∙ rw append_assoc))
 
 -- ---- the copy's bytes in four steps
 module _ (s x : List ℕ) (len at txt n to head behind : ℕ) (a : at + 2 ≤ txt) (b : txt ≤ to) (d : to ≤ len) (room : len + (to - at) + length x ≤ length s) (is-head : head ≡ txt - 2 - at) (is-behind : behind ≡ len + head + 2) {t u v z : List ℕ} (first : t ≡ sets s len (part s at head)) (second : u ≡ sets t (len + head) (bytes_of 2 (length x + n))) (third : v ≡ sets u behind x) (fourth : z ≡ sets v (behind + length x) (part v txt (to - txt))) where

@@ -1,7 +1,6 @@
--- `fields::copy::copy_in` meets its contract: the part that is copied over is a row of stores. Assumes nothing.
-use native.Mathlib.Omega.{arith}
-use Rattle.fields.proofs.PartLaws.{copied}
+use lib.ListN.{length-set}
+use Rattle.fields.proofs.PartLaws.{copy_turn}
 use Rattle.fields.proofs.copy.copy_in.Goals as goal
 
-pub returns : goal.returns
-returns c = rw c.copy_from_slice.ensures.after (copied _ _ _ _ (omega arith) c.requires)
+pub loop-i-preserved : goal.loop-i-preserved
+loop-i-preserved c = (simp length-set c.loop-i.invariant.0, copy_turn _ _ _ _ c.loop-i-test.true c.loop-i.invariant.1)

@@ -3,4 +3,4 @@ use Rattle.lattice_add.proofs.copy.CopyLaws.{inside_copied}
 use Rattle.lattice_add.proofs.copy.copy_inside.Goals as goal
 
 pub returns : goal.returns
-returns c = inside_copied _ _ _ _ c.requires.0 c.requires.1 c.split_at_mut-before.ensures.front c.split_at_mut-before.ensures.back c.copy_from_slice.ensures.after
+returns c = inside_copied _ _ _ _ c.requires.0 c.requires.1 c.split_at_mut-before.ensures.front c.split_at_mut-before.ensures.back c.copy_in.ensures
