@@ -13,6 +13,7 @@ ghost use Rattle.numbers.specs.Fallback.{fallback};
 ghost use Rattle.fallback.specs.Marks.{digit_edge, unmarked, any_digit};
 
 use lattice::Lattice;
+use marks::Asked;
 use text::Place;
 use text::check::PLACES;
 
@@ -85,6 +86,6 @@ pub fn fallback(
         return lattice;
     }
     let mut marks = [false; PLACES];
-    marks::mark_places(work, lattice, |at| marks::one_place(work, at), &mut marks);
+    marks::mark_places(work, lattice, Asked::OnePlace, &mut marks);
     add_unmarked(work, lattice, line, offs, places, &marks)
 }

@@ -9,11 +9,18 @@ ghost use Rattle.lattice.specs.Kept.{Holds};
 ghost use Rattle.paths.specs.Reading.{Spanned};
 ghost use Rattle.numbers.specs.CallEdge.{Legals};
 ghost use Rattle.numbers.specs.Marks.{any_at};
-ghost use Rattle.marks.specs.Marked.{digit_ends, ending, one_place, starting, mark_of, Asks};
+ghost use Rattle.marks.specs.Marked.{digit_ends, ending, one_place, starting, mark_of, Asks, asks, place_by};
 
 use edge::bits;
 use lattice::Lattice;
 use text::check::PLACES;
+
+// Which edges set a mark: those whose txt ends with a digit, at their end; numeric ones of one place, at their start.
+#[derive(Clone, Copy)]
+pub enum Asked {
+    DigitEnds,
+    OnePlace,
+}
 
 // The place where an edge ends whose txt ends with a digit.
 pub fn digit_end(work: &[u8], at: usize) -> Option<usize>
@@ -40,7 +47,7 @@ pub fn one_place(work: &[u8], at: usize) -> Option<usize>
 }
 
 // The marks of all edges, each of them at the place that is asked of it. One walk over the lattice.
-pub fn mark_places<F: Fn(usize) -> Option<usize>>(
+fn mark_all<F: Fn(usize) -> Option<usize>>(
     work: &[u8],
     lattice: Lattice,
     place_of: F,
@@ -60,5 +67,18 @@ pub fn mark_places<F: Fn(usize) -> Option<usize>>(
                 marks[place] = true;
             }
         }
+    }
+}
+
+// The marks of all edges that are asked for.
+pub fn mark_places(work: &[u8], lattice: Lattice, asked: Asked, marks: &mut [bool; PLACES])
+    requires { (lattice.len ≡ 0 → ⊥) × ((n : ℕ) × (n ≤ 256)
+        × ((es : List Edge) × Holds work.now lattice es × Legals n es)) × (marks.old ≡ replicate 257 false) }
+    ensures { (n : ℕ) (es : List Edge) → n ≤ 256 → Holds work.now lattice es → Legals n es → (p : ℕ)
+        → p < 257 → get_or marks.new p false ≡ any_at (asks asked) (place_by asked) es p }
+{
+    match asked {
+        Asked::DigitEnds => mark_all(work, lattice, |at| digit_end(work, at), marks),
+        Asked::OnePlace => mark_all(work, lattice, |at| one_place(work, at), marks),
     }
 }

@@ -16,6 +16,7 @@ ghost use Rattle.text.specs.Line.{max_chars};
 
 use edge::bits;
 use lattice::Lattice;
+use marks::Asked;
 use text::check::PLACES;
 
 // Whether an edge is numeric, starts at a place that has a mark, and begins with a digit: few of them have to be asked for the last.
@@ -110,6 +111,6 @@ pub fn separate(work: &mut [u8], lattice: Lattice) -> Lattice
         return lattice;
     }
     let mut marks = [false; PLACES];
-    marks::mark_places(work, lattice, |at| marks::digit_end(work, at), &mut marks);
+    marks::mark_places(work, lattice, Asked::DigitEnds, &mut marks);
     set_all_apart(work, lattice, &marks)
 }
