@@ -1,14 +1,15 @@
 -- What the checks 2 to 6 of the call find. Definitions only.
---     table_refusal r                 the refusal of a table, by its cause
+--     table_refusal n at              the refusal of a table, by its number
+--     of_table r                      the refusal of a table, by its cause
 --     Accepted line table given ..   line, table and given edges passed their checks: so many characters, the table's shape, so many edges
 --     CallCheckIs line table given r      the checks 2 to 6 found r: the definition's answer is that refusal, whatever the stages, or they are passed
 --     RestIs n table given r         the same of the checks 4 to 6, after a line of n characters
 --     CallCheckIndexed table os k r       where the checks are passed, the index over the table's records has k entries, their offsets os
 --     Assumes nothing.
-use Rattle.std.specs.Prelude.{◌≡◌, true, List, ℕ, length, Result, Ok, Err}
+use Rattle.std.specs.Prelude.{◌≡◌, true, cond, List, ℕ, length, eqb, Result, Ok, Err}
 use Rattle.text.specs.Line.{line_check}
 use Rattle.text.specs.declared.Offset.{Offset}
-use Rattle.table.specs.Check.{Fine, read_table}
+use Rattle.table.specs.Check.{Fine, bad_layout, cause_number, read_table}
 use Rattle.table.specs.declared.shape.Cause.{Cause}
 use Rattle.table.specs.declared.shape.TableRefusal.{TableRefusal}
 use Rattle.table.specs.Answers.{table_of}
@@ -21,8 +22,11 @@ use Rattle.answers.specs.declared.Refusal.{Refusal}
 use Rattle.answers.specs.declared.Refusal.TheVariants.{BadTable, BadContent}
 use Rattle.answers.specs.Answers.{number, place}
 
-abbrev pub table_refusal : TableRefusal → Refusal
-table_refusal r = by_cause r.cause r.at
+unfoldable pub table_refusal : ℕ → Offset → Refusal
+table_refusal n at = cond (eqb n (cause_number bad_layout)) (BadTable at) (BadContent at)
+
+abbrev pub of_table : TableRefusal → Refusal
+of_table r = by_cause r.cause r.at
   where
     by_cause : Cause → Offset → Refusal
     by_cause Cause.Layout at = BadTable at

@@ -19,5 +19,6 @@ pub fn finish_call(
         → AnswerIs out.old out.new result a }
 {
     let lattice = stages.map_err(Refusal::AboveTop)?;
-    lattice::ends::finish(work, lattice, out).ok_or(Refusal::TooLong)
+    let len = lattice::ends::finish(work, lattice, out).ok_or(Refusal::TooLong)?;
+    Ok(len)
 }

@@ -40,6 +40,7 @@ fn silences_singles(kind: CallKind) -> bool
 
 // The stages of a call, for a line, a table and given edges that passed their checks. A line without given edges that no stage adds an edge to is
 // answered before its offsets are made.
+#[tactic(auto, unfolding(crate::specs::Stages::StagesAre, first_stages::specs::Stages::CallPassed))]
 pub fn run_stages(
     work: &mut [u8],
     line: &[u8],
@@ -64,9 +65,10 @@ pub fn run_stages(
     let mut offs = [0usize; PLACES];
     pass_edge::places::place_offsets(line, &mut offs);
     let decimals = has_decimals(kind);
-    let (lattice, stored) = first_stages::run_first_stages(
+    let passed = first_stages::run_first_stages(
         work, line, &offs, table, shape, edges, count, index, entries, decimals,
-    )?;
+    );
+    let (lattice, stored) = passed?;
     let silencing = silences_singles(kind);
     Ok(crate::last_stages::run_last_stages(
         work, lattice, line, &offs, table, shape, places, stored, silencing,

@@ -18,7 +18,7 @@ use Rattle.answers.specs.declared.Refusal.{Refusal}
 use Rattle.answers.specs.declared.Refusal.TheVariants.{ShortWork}
 use Rattle.answers.specs.Answers.{answer_of, told}
 use Rattle.call.specs.Answers.{brief}
-use Rattle.call.specs.Checks.{table_refusal}
+use Rattle.call.specs.Checks.{of_table}
 use Rattle.call.proofs.checks.CheckLaws.{table_told}
 use Rattle.lines.specs.declared.next_line.LineEnd.{LineEnd}
 use Rattle.lines.specs.declared.Page.{Page}
@@ -155,7 +155,7 @@ module _ (lines table out : List ℕ) (work : ℕ) where
   answer_short h = rw (lt-ltb work 65536 h) (refl, refl)
 
   module _ (h : 65536 ≤ work) {c : Result Shape TableRefusal} (e : table_answer table c ≡ read_table table) where
-    pub answer_refused : {t : TableRefusal} {r : Refusal} → c ≡ Err t → r ≡ table_refusal t → Answers (Err r) lines table out out work
+    pub answer_refused : {t : TableRefusal} {r : Refusal} → c ≡ Err t → r ≡ of_table t → Answers (Err r) lines table out out work
     unfolding add_numbers_to_lines
     answer_refused {t} {r} f g =
         let x : read_table table ≡ Refused t.cause t.at.0 = sym e ∙ ap (table_answer table) f in

@@ -72,6 +72,6 @@ pub fn answer_line(
     requires { (work_size ≤ length work.old) × TableReady table.now shape index.now entries }
     ensures { Left work.new result (answer_for table.now line.now) }
 {
-    let places = text::check::check_line(line)?;
+    let places = text::check::check_line(line).map_err(Refusal::from)?;
     stages_answer(work, line, places, table, shape, index, entries)
 }

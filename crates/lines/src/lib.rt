@@ -16,7 +16,7 @@ use crate::entry::add_entry;
 use crate::next_line::line_at;
 use answers::Refusal;
 use call::WORK_SIZE;
-use call::checks::table_refusal;
+use call::checks::of_table;
 use table::index::INDEX_SIZE;
 use table::shape::Shape;
 
@@ -74,6 +74,6 @@ pub fn add_numbers_to_lines(
     }
     let mut index = [0u32; INDEX_SIZE];
     let mut entries: usize = 0;
-    let shape = table_check::check_table(table, &mut index, &mut entries).map_err(table_refusal)?;
+    let shape = table_check::check_table(table, &mut index, &mut entries).map_err(of_table)?;
     Ok(fill(out, work, lines, table, shape, &index, entries))
 }

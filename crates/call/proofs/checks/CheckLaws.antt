@@ -20,7 +20,7 @@ use Rattle.answers.specs.declared.Refusal.{Refusal}
 use Rattle.answers.specs.declared.Refusal.TheVariants.{BadEdges}
 use Rattle.answers.specs.Answers as Answers
 use Rattle.answers.specs.Answers.{of_line}
-use Rattle.call.specs.Checks.{table_refusal, Accepted, CallCheckIs, RestIs}
+use Rattle.call.specs.Checks.{table_refusal, of_table, Accepted, CallCheckIs, RestIs}
 use Rattle.std.specs.Prelude.{Result, Ok, Err}
 use Rattle.text.specs.declared.LineRefusal.{LineRefusal}
 use Rattle.table.specs.declared.shape.TableRefusal.{TableRefusal}
@@ -29,7 +29,7 @@ use Rattle.table.specs.declared.shape.Cause.{Cause}
 -- ---- the checks 4 to 6
 -- the refusal says the number and the offset
 abbrev Told : TableRefusal → Type 0
-Told r = (cause_number r.cause ≡ Answers.number (table_refusal r)) × (r.at.0 ≡ Answers.place (table_refusal r))
+Told r = (cause_number r.cause ≡ Answers.number (of_table r)) × (r.at.0 ≡ Answers.place (of_table r))
 
 pub table_told : (r : TableRefusal) → Told r
 table_told r = by_cause r.cause r.at
@@ -38,11 +38,20 @@ table_told r = by_cause r.cause r.at
     by_cause Cause.Layout at = (refl, refl)
     by_cause Cause.Content at = (refl, refl)
 
+-- the refusal by a cause is that by its number
+number_told : (cause : Cause) (at : Offset) → table_refusal (cause_number cause) at ≡ of_table (record { cause = cause; at = at })
+unfolding table_refusal
+number_told Cause.Layout at = refl
+number_told Cause.Content at = refl
+
+pub by_number : (r : TableRefusal) → table_refusal (cause_number r.cause) r.at ≡ of_table r
+by_number r = number_told r.cause r.at
+
 refused_same : {a b c d : ℕ} → a ≡ c → b ≡ d → refused a b ≡ refused c d
 refused_same e f = rw (e, f) refl
 
 module _ (n : ℕ) (table given : List ℕ) where
-  pub rest_table : {t : TableRefusal} {c : Result Shape TableRefusal} {r : Refusal} → table_answer table c ≡ read_table table → c ≡ Err t → r ≡ table_refusal t → RestIs n table given (Err r)
+  pub rest_table : {t : TableRefusal} {c : Result Shape TableRefusal} {r : Refusal} → table_answer table c ≡ read_table table → c ≡ Err t → r ≡ of_table t → RestIs n table given (Err r)
   unfolding RestIs
   rest_table {t} e f g =
       let read : read_table table ≡ Refused t.cause t.at.0 = sym e ∙ ap (table_answer table) f in

@@ -2,7 +2,7 @@
 use mathlib.Core.Path.{◌≡◌}
 use Rattle.std.proofs.lemmas.Result.{err_from_is_err_and}
 use Rattle.table.specs.declared.shape.TableRefusal.{TableRefusal}
-use Rattle.call.specs.Checks.{table_refusal}
+use Rattle.call.specs.Checks.{of_table}
 use Rattle.call.proofs.MapLaws.{mapped_err, mapped_ok}
 use Rattle.lines.proofs.FillLaws.{table_ready, answer_short, answer_refused, answer_page}
 use Rattle.lines.proofs.add_numbers_to_lines.Goals as goal
@@ -16,7 +16,7 @@ fill-requires c = (c.if-work-lt-WORK_SIZE.false, table_ready _ _ _ c.check_table
 pub returns-in_err-shape : goal.returns-in_err-shape
 returns-in_err-shape c =
     let p = err_from_is_err_and c.from_residual.result c.from_residual.ensures.1 in
-    let (e, is, made) = mapped_err c.check_table.result _ (λ (e : TableRefusal). c.in_err-shape.field-0.0 ≡ table_refusal e) c.in_err-shape.ensures.cases in
+    let (e, is, made) = mapped_err c.check_table.result _ (λ (e : TableRefusal). c.in_err-shape.field-0.0 ≡ of_table e) c.in_err-shape.ensures.cases in
     let a = answer_refused _ _ _ _ c.if-work-lt-WORK_SIZE.false c.check_table.ensures.table_is.table is made in
     rw (p.1, p.2) (record { answer = a.0; output = a.1 })
 

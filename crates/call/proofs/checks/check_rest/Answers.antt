@@ -5,7 +5,7 @@ use Rattle.text.specs.declared.Offset.{Offset}
 use Rattle.table.specs.declared.shape.TableRefusal.{TableRefusal}
 use Rattle.table_check.specs.Indexed.{TableIndexed}
 use Rattle.answers.specs.declared.Refusal.TheVariants.{BadEdges}
-use Rattle.call.specs.Checks.{table_refusal, CallCheckIndexed}
+use Rattle.call.specs.Checks.{of_table, CallCheckIndexed}
 use Rattle.call.proofs.MapLaws.{mapped_err, mapped_ok}
 use Rattle.call.proofs.checks.CheckLaws.{rest_table, rest_edges, rest_sound}
 use Rattle.call.proofs.checks.check_rest.Goals as goal
@@ -14,7 +14,7 @@ pub returns-in_err-shape : goal.returns-in_err-shape
 unfolding CallCheckIndexed
 returns-in_err-shape c =
     let p = err_from_is_err_and c.from_residual.result c.from_residual.ensures.1 in
-    let (e, is, made) = mapped_err c.check_table.result _ (λ (e : TableRefusal). c.in_err-shape.field-0.0 ≡ table_refusal e) c.in_err-shape.ensures.cases in
+    let (e, is, made) = mapped_err c.check_table.result _ (λ (e : TableRefusal). c.in_err-shape.field-0.0 ≡ of_table e) c.in_err-shape.ensures.cases in
     rw (p.1, p.2) (record { rest_is = rest_table _ _ _ c.check_table.ensures.table_is.table is made; indexed = tt })
 
 pub returns-in_err-count : goal.returns-in_err-count

@@ -50,17 +50,17 @@ place_offsets-requires c =
     let few : length (chars c.args.line.now) ≤ 256 = let r = c.requires.1.ready in omega (arith, r.few, r.count) in
     (c.requires.1.ready.formed, few, length-replicate {A = ℕ} 257 0)
 
-pub run_first_stages-requires : goal.run_first_stages-requires
-run_first_stages-requires c = (c.place_offsets.ensures, c.requires.0, (c.args.places, c.requires.1.ready, c.requires.1.edges), c.requires.2)
+pub run_first_stages-passed-requires : goal.run_first_stages-passed-requires
+run_first_stages-passed-requires c = (c.place_offsets.ensures, c.requires.0, (c.args.places, c.requires.1.ready, c.requires.1.edges), c.requires.2)
 
 pub run_last_stages-requires : goal.run_last_stages-requires
 unfolding CallPassed
 run_last_stages-requires c =
     let s = c.args in
-    let d : CallDone (has_decimals s.kind) s.line.now s.table.now s.shape s.edges.now c.run_first_stages.new.work c.in_ok-lattice.lattice c.in_ok-lattice.stored = subst (λ (d : Bool). CallDone d s.line.now s.table.now s.shape s.edges.now c.run_first_stages.new.work c.in_ok-lattice.lattice c.in_ok-lattice.stored) c.has_decimals-decimals.ensures c.in_ok-lattice.ensures in
+    let d : CallDone (has_decimals s.kind) s.line.now s.table.now s.shape s.edges.now c.run_first_stages-passed.new.work c.in_ok-lattice.lattice c.in_ok-lattice.stored = subst (λ (d : Bool). CallDone d s.line.now s.table.now s.shape s.edges.now c.run_first_stages-passed.new.work c.in_ok-lattice.lattice c.in_ok-lattice.stored) c.has_decimals-decimals.ensures c.in_ok-lattice.ensures in
     let in_line : (es : List Edge) → CallEdges (length (chars s.line.now)) es → CallEdges s.places es = λ es q. subst (λ (n : ℕ). CallEdges n es) c.requires.1.ready.count q in
     let few : length (chars s.line.now) ≤ 256 = let r = c.requires.1.ready in omega (arith, r.few, r.count) in
-    (c.requires.1.ready, (_, d.holds, in_line _ d.call), c.place_offsets.ensures, d.sounds, in_line _ (stored_edges_call _ _ (chars_scalars _) few _ d.sounds), omega (arith, d.few, c.run_first_stages.auto.work, c.requires.0))
+    (c.requires.1.ready, (_, d.holds, in_line _ d.call), c.place_offsets.ensures, d.sounds, in_line _ (stored_edges_call _ _ (chars_scalars _) few _ d.sounds), omega (arith, d.few, c.run_first_stages-passed.auto.work, c.requires.0))
 
 pub returns-in_err-lattice : goal.returns-in_err-lattice
 unfolding StagesAre CallPassed
@@ -77,7 +77,7 @@ returns c =
     let w = chars s.line.now in
     let T : Table = table_of s.table.now s.shape in
     let es = with_edges (call_passes k T w) (listed s.edges.now) in
-    let d : CallDone (has_decimals s.kind) s.line.now s.table.now s.shape s.edges.now c.run_first_stages.new.work c.in_ok-lattice.lattice c.in_ok-lattice.stored = subst (λ (d : Bool). CallDone d s.line.now s.table.now s.shape s.edges.now c.run_first_stages.new.work c.in_ok-lattice.lattice c.in_ok-lattice.stored) c.has_decimals-decimals.ensures c.in_ok-lattice.ensures in
+    let d : CallDone (has_decimals s.kind) s.line.now s.table.now s.shape s.edges.now c.run_first_stages-passed.new.work c.in_ok-lattice.lattice c.in_ok-lattice.stored = subst (λ (d : Bool). CallDone d s.line.now s.table.now s.shape s.edges.now c.run_first_stages-passed.new.work c.in_ok-lattice.lattice c.in_ok-lattice.stored) c.has_decimals-decimals.ensures c.in_ok-lattice.ensures in
     let in_line : CallEdges (length w) es → CallEdges s.places es = λ q. subst (λ (n : ℕ). CallEdges n es) c.requires.1.ready.count q in (
       d.above,
       subst (Holds c.run_last_stages.new.work c.run_last_stages.result)
