@@ -94,11 +94,13 @@ fn weigh_numeral(line: &[u8], out: &mut [u8]) -> Result<usize, WeighRefusal>
 }
 
 // Writes the weights of a line's 一 to 九 at the front of the output, eight bytes each.
+#[tactic(auto, unfolding(crate::specs::Weighed::weigh))]
 pub fn weigh_digits(line: &[u8], out: &mut [u8]) -> Result<usize, WeighRefusal>
     ensures answer { result ≡ weigh line.now (length out.old) }
     ensures after { out.new ≡ output line.now out.old }
 {
-    match numeral::read::one_number(line)? {
+    let field = numeral::read::one_number(line)?;
+    match field {
         Some(_) => weigh_numeral(line, out),
         None => Ok(0),
     }

@@ -18,7 +18,7 @@ returns-then-d-eq0 c =
     }
 
 pub put-b-requires : goal.put-b-requires
-put-b-requires c = (omega arith, omega arith, c.put-a.ensures.begins.2, (digit (digit_of c.args.d) ∷ [], c.digit_code.ensures))
+put-b-requires c = (omega arith, omega arith, c.put-a.ensures.begins.2, (digit (digit_of c.args.d) ∷ [], search rules))
 
 pub put-requires : goal.put-requires
 put-requires c = (omega arith, omega arith, c.put-b.ensures.begins.2, (zero_if (ltb 0 c.args.h && eqb (c.args.h % 10) 0), c.zero_if.ensures))
@@ -28,6 +28,6 @@ returns c =
     record {
       begins = (omega arith, omega arith, c.put.ensures.begins.2);
       stored = λ m h. digit_some c.args.h c.args.d m (λ e. omega (arith, c.if-d-eq0.false))
-          (c.put-a.ensures.stored m h) (c.put-b.ensures.stored (digit (digit_of c.args.d) ∷ []) c.digit_code.ensures)
+          (c.put-a.ensures.stored m h) (c.put-b.ensures.stored (digit (digit_of c.args.d) ∷ []) (search rules))
           (c.put.ensures.stored (zero_if (ltb 0 c.args.h && eqb (c.args.h % 10) 0)) c.zero_if.ensures);
     }

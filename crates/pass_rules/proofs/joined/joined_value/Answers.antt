@@ -8,9 +8,6 @@ use Rattle.pass_rules.proofs.joined.joined_value.Goals as goal
 by_one : (n : ℕ) → n / 1 ≡ n
 by_one n = omega arith
 
-pub returns-in-D1 : goal.returns-in-D1
-returns-in-D1 c m n h k p q = rw c.in-D1.is (c.with_digit.ensures m n h k p q)
-
 pub returns-in-G1 : goal.returns-in-G1
 returns-in-G1 c m n h k p q = rw (c.in-G1.is, by_one (m * n)) (c.product.ensures m n h k p q)
 
